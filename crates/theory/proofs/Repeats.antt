@@ -1,0 +1,295 @@
+-- Repeats within a rule change nothing: programs that are alike have the same runs, marks, stable sets, proofs and searches.
+use Prim.Native.Nat.{ℕ, suc, _≤_, _<_}
+use native.Mathlib.Omega.{arith}
+use native.Mathlib.Decide.{decLt}
+use mathlib.Core.Path.{_≡_, refl, sym, _∙_, ap, subst}
+use mathlib.Core.Bool.{Bool, true, false, not, cond, _&&_, _||_, Bool·beq}
+use mathlib.Core.List.{List, [], _∷_, _++_, map}
+use mathlib.Core.Logic.{_⊎_, inl, inr, ⊎-elim, _↔_}
+use mathlib.Core.Option.{Option, none, some}
+use borrow.Author.Tests.{eqb-true}
+use lib.ListN.{take, length-map, List·getD-map, List·getD-eq-default}
+use lib.Dec.{eqb, ltb}
+use Rattle.theory.specs.Lists.{all, any, clear, mem, keep, seek, upTo, downFrom, howMany}
+use Rattle.theory.specs.Rule.{Rule, Program, Mask, FactSet, nothing, count, rule, blank, null, plain, exception, constraintFact}
+use Rattle.theory.specs.Walk.{picks, after}
+use Rattle.theory.specs.Derive.{Step, lowest, conclude, fired, derive, stepBy, steps, Closed, Least, plainRules, closure}
+use Rattle.theory.specs.Run.{Stand, rejected, spares, trial, eligible, stage, start, run, setAside, factMark, ruleMark, factMarks, ruleMarks}
+use Rattle.theory.specs.Stable.{reduct, Stable, leastOf, isStable}
+use Rattle.theory.specs.Proof.{stepAt, factsOf, Proof, Admits}
+use Rattle.theory.specs.Search.{guessed, fits, hunt, search, upheld, orderFor}
+use Rattle.theory.specs.Repeats.{Alike, once, withoutRepeats}
+use Rattle.theory.proofs.Bools.{either, never, both-ways}
+use Rattle.theory.proofs.Lists.{all-elem, all-of, mem-cases, mem-here, mem-there, howMany-none}
+
+-- lists with the same elements pass the same tests
+pub all-elements : (p : ℕ → Bool) (xs ys : List ℕ) → ((x : ℕ) → mem x xs ≡ mem x ys) → all p xs ≡ all p ys
+all-elements p xs ys e =
+    both-ways _ _
+    (λ a. all-of p ys (λ x m. all-elem p xs a x (e x ∙ m)))
+    (λ a. all-of p xs (λ x m. all-elem p ys a x (sym (e x) ∙ m)))
+
+null-elements : (xs ys : List ℕ) → ((x : ℕ) → mem x xs ≡ mem x ys) → null xs ≡ null ys
+null-elements [] [] e = refl
+null-elements [] (y ∷ ys) e = never (e y ∙ mem-here y ys) refl
+null-elements (x ∷ xs) [] e = never (sym (e x) ∙ mem-here x xs) refl
+null-elements (x ∷ xs) (y ∷ ys) e = refl
+
+pub alike-sym : {P Q : Program} → Alike P Q → Alike Q P
+alike-sym a =
+    record {
+      same-facts = sym (a .same-facts);
+      same-count = sym (a .same-count);
+      same-conclusion = λ i l. sym (a .same-conclusion i (rw (a .same-count) l));
+      same-premises = λ i l f. sym (a .same-premises i (rw (a .same-count) l) f);
+      same-constraints = λ i l f. sym (a .same-constraints i (rw (a .same-count) l) f);
+    }
+
+-- Each equation below is the definition itself, with the parts of the rules on their way from P to Q.
+module _ {P Q : Program} (a : Alike P Q) where
+  -- what is read past the last rule is the blank rule in both
+  past-same : {A : Type 0} (part : Rule → A) (i : ℕ) → (i < count P → part (rule P i) ≡ part (rule Q i)) → part (rule P i) ≡ part (rule Q i)
+  past-same part i h = go (decLt i (count P))
+    where
+      go : Dec (i < count P) → part (rule P i) ≡ part (rule Q i)
+      go (yes l) = h l
+      go (no n) =
+          let past : count P ≤ i = omega arith in
+          ap part (List·getD-eq-default (P .rules) blank past ∙ sym (List·getD-eq-default (Q .rules) blank (rw (a .same-count) at past)))
+
+  conclusion-same : (i : ℕ) → rule P i .conclusion ≡ rule Q i .conclusion
+  conclusion-same i = past-same (λ r. r .conclusion) i (a .same-conclusion i)
+
+  premises-same : (i f : ℕ) → mem f (rule P i .premises) ≡ mem f (rule Q i .premises)
+  premises-same i f = past-same (λ r. mem f (r .premises)) i (λ l. a .same-premises i l f)
+
+  constraints-same : (i f : ℕ) → mem f (rule P i .constraints) ≡ mem f (rule Q i .constraints)
+  constraints-same i f = past-same (λ r. mem f (r .constraints)) i (λ l. a .same-constraints i l f)
+
+  -- each rule has the same conclusion, and the same sets hold its premises and are clear of its constraints
+  premises-alike : (S : FactSet) (i : ℕ) → all S (rule P i .premises) ≡ all S (rule Q i .premises)
+  premises-alike S i = all-elements S (rule P i .premises) (rule Q i .premises) (premises-same i)
+
+  constraints-alike : (S : FactSet) (i : ℕ) → clear S (rule P i .constraints) ≡ clear S (rule Q i .constraints)
+  constraints-alike S i = all-elements (λ f. not (S f)) (rule P i .constraints) (rule Q i .constraints) (constraints-same i)
+
+  plain-alike : (i : ℕ) → plain P i ≡ plain Q i
+  unfolding plain
+  plain-alike i t = ltb i (a .same-count t) && null-elements (rule P i .constraints) (rule Q i .constraints) (constraints-same i) t
+
+  pub alike-exception : (i : ℕ) → exception P i ≡ exception Q i
+  unfolding exception
+  alike-exception i t = ltb i (a .same-count t) && not (null-elements (rule P i .constraints) (rule Q i .constraints) (constraints-same i) t)
+
+  -- what is derived, and its steps
+  conclude-alike : (S : FactSet) (i : ℕ) → conclude P S i ≡ conclude Q S i
+  conclude-alike S i t f = eqb f (conclusion-same i t) || S f
+
+  lowest-alike : (on : Mask) (S : FactSet) → lowest P on S ≡ lowest Q on S
+  lowest-alike on S t =
+      seek (λ i. on i && (premises-alike S i t && not (S (conclusion-same i t)))) (upTo (a .same-count t))
+
+  fired-alike : (on : Mask) (S : FactSet) → fired P on S ≡ fired Q on S
+  unfolding fired
+  fired-alike on S t = picks (λ T. lowest-alike on T t) (λ T i. conclude-alike T i t) (a .same-count t) S
+
+  pub alike-derive : (on : Mask) (S : FactSet) → derive P on S ≡ derive Q on S
+  unfolding derive
+  alike-derive on S t = after (λ T i. conclude-alike T i t) S (fired-alike on S t)
+
+  step-alike : (i : ℕ) → stepBy P i ≡ stepBy Q i
+  step-alike i t = record { fact = conclusion-same i t; by = i }
+
+  pub alike-steps : (on : Mask) (S : FactSet) → steps P on S ≡ steps Q on S
+  unfolding steps
+  alike-steps on S t = map (λ i. step-alike i t) (fired-alike on S t)
+
+  plainRules-alike : (on : Mask) → plainRules P on ≡ plainRules Q on
+  unfolding plainRules
+  plainRules-alike on t i = on i && plain-alike i t
+
+  closure-alike : (on : Mask) (S : FactSet) → closure P on S ≡ closure Q on S
+  closure-alike on S t = alike-derive (plainRules-alike on t) S t
+
+  trial-alike : (on : Mask) (D : FactSet) (i : ℕ) → trial P on D i ≡ trial Q on D i
+  trial-alike on D i t = closure-alike on (conclude-alike D i t) t
+
+  -- the stages of a run
+  spares-alike : (T : FactSet) (is : List ℕ) → spares P T is ≡ spares Q T is
+  unfolding spares
+  spares-alike T is t = all (λ i. constraints-alike T i t) is
+
+  pub alike-eligible : (on : Mask) (s : Stand) (i : ℕ) → eligible P on s i ≡ eligible Q on s i
+  unfolding eligible
+  alike-eligible on s i t =
+      alike-exception i t && on i
+      && not (s .derived (conclusion-same i t))
+      && premises-alike (s .derived) i t
+      && constraints-alike (trial-alike on (s .derived) i t) i t
+      && spares-alike (trial-alike on (s .derived) i t) (s .applied) t
+
+  stage-alike : (on : Mask) (s : Stand) (i : ℕ) → stage P on s i ≡ stage Q on s i
+  stage-alike on s i t =
+      record {
+        derived = trial-alike on (s .derived) i t;
+        trace = s .trace ++ (step-alike i t ∷ alike-steps (plainRules-alike on t) (conclude-alike (s .derived) i t) t);
+        applied = s .applied ++ (i ∷ []);
+      }
+
+  start-alike : (on : Mask) → start P on ≡ start Q on
+  start-alike on t =
+      record { derived = closure-alike on nothing t; trace = alike-steps (plainRules-alike on t) nothing t; applied = [] }
+
+  -- The whole run is the same, for every mask and every order.
+  pub alike-run : (on : Mask) (order : List ℕ) → run P on order ≡ run Q on order
+  unfolding run
+  alike-run on order t =
+      after (λ s i. stage-alike on s i t) (start-alike on t)
+      (picks (λ s. seek (λ i. alike-eligible on s i t) order) (λ s i. stage-alike on s i t) (a .same-count t) (start-alike on t))
+
+  pub alike-aside : (on : Mask) (D : FactSet) (i : ℕ) → setAside P on D i ≡ setAside Q on D i
+  unfolding setAside
+  alike-aside on D i t =
+      ltb i (a .same-count t) && on i
+      && premises-alike D i t
+      && constraints-alike D i t
+      && not (D (conclusion-same i t))
+
+  rejected-alike : (applied : List ℕ) (f : ℕ) → rejected P applied f ≡ rejected Q applied f
+  unfolding rejected
+  rejected-alike applied f t = any (λ i. constraints-same i f t) applied
+
+  -- So are the marks that it writes.
+  pub alike-factMarks : (s : Stand) → factMarks P s ≡ factMarks Q s
+  unfolding factMark
+  alike-factMarks s t =
+      map (λ f. cond (s .derived f) 1 (cond (rejected-alike (s .applied) f t) 2 0)) (upTo (a .same-facts t))
+
+  pub alike-ruleMarks : (on : Mask) (s : Stand) → ruleMarks P on s ≡ ruleMarks Q on s
+  unfolding ruleMark
+  alike-ruleMarks on s t =
+      map
+      (λ i. cond (plain-alike i t) 0 (cond (mem i (s .applied)) 1 (cond (alike-aside on (s .derived) i t) 2 3)))
+      (upTo (a .same-count t))
+
+  pub alike-marks : (on : Mask) (order : List ℕ) → (factMarks P (run P on order) ≡ factMarks Q (run Q on order)) × (ruleMarks P on (run P on order) ≡ ruleMarks Q on (run Q on order))
+  alike-marks on order =
+      (λ t. alike-factMarks (alike-run on order t) t, λ t. alike-ruleMarks on (alike-run on order t) t)
+
+  -- The constraint facts are the same.
+  pub alike-constraint : (on : Mask) (k : ℕ) → constraintFact P on k ≡ constraintFact Q on k
+  unfolding constraintFact
+  alike-constraint on k t = any (λ i. on i && constraints-same i k t) (upTo (a .same-count t))
+
+  reduct-alike : (on : Mask) (M : FactSet) → reduct P on M ≡ reduct Q on M
+  unfolding reduct
+  reduct-alike on M t i = on i && constraints-alike M i t
+
+  leastOf-alike : (on : Mask) (G : FactSet) → leastOf P on G ≡ leastOf Q on G
+  unfolding leastOf
+  leastOf-alike on G t = alike-derive (reduct-alike on G t) nothing t
+
+  -- The test of stability and the search answer the same, and the search's order is the same.
+  pub alike-isStable : (on : Mask) (M : FactSet) → isStable P on M ≡ isStable Q on M
+  unfolding isStable
+  alike-isStable on M t = all (λ f. Bool·beq (leastOf-alike on M t f) (M f)) (upTo (a .same-facts t))
+
+  guessed-alike : (on : Mask) → guessed P on ≡ guessed Q on
+  unfolding guessed
+  guessed-alike on t = keep (λ k. alike-constraint on k t) (downFrom (a .same-facts t))
+
+  fits-alike : (on : Mask) (G : FactSet) → fits P on G ≡ fits Q on G
+  unfolding fits
+  fits-alike on G t = all (λ k. Bool·beq (leastOf-alike on G t k) (G k)) (guessed-alike on t)
+
+  pub alike-search : (on : Mask) → search P on ≡ search Q on
+  unfolding search
+  alike-search on t =
+      elim (hunt (λ G. fits-alike on G t) (guessed-alike on t) nothing) as (λ _. Option FactSet) [ none ↦ none | some G ↦ some (leastOf-alike on G t) ]
+
+  pub alike-orderFor : (on : Mask) (M : FactSet) → orderFor P on M ≡ orderFor Q on M
+  unfolding orderFor
+  alike-orderFor on M t =
+      keep (λ i. alike-exception i t && upheld-alike i t) (upTo (a .same-count t))
+      ++ keep (λ i. alike-exception i t && not (upheld-alike i t)) (upTo (a .same-count t))
+    where
+      upheld-alike : (i : ℕ) → upheld P on M i ≡ upheld Q on M i
+      upheld-alike i t = on i && (premises-alike M i t && constraints-alike M i t)
+
+  closed-alike : (on : Mask) (N : FactSet) → Closed P on N → Closed Q on N
+  closed-alike on N c i l o p =
+      sym (ap N (conclusion-same i)) ∙ c i (rw (a .same-count) l) o (premises-alike N i ∙ p)
+
+module _ {P Q : Program} (a : Alike P Q) where
+  stable-alike : (on : Mask) (M : FactSet) → Stable P on M → Stable Q on M
+  stable-alike on M s =
+      subst (λ r. Least Q r nothing M) (reduct-alike a on M)
+      (record {
+        above = s .above;
+        closed = closed-alike a (reduct P on M) M (s .closed);
+        below = λ N u c. s .below N u (closed-alike (alike-sym a) (reduct P on M) N c);
+      })
+
+  proof-alike : (on : Mask) (row : List Step) (f : ℕ) → Proof P on row f → Proof Q on row f
+  proof-alike on row f p =
+      record {
+        not-empty = p .not-empty;
+        last = p .last;
+        known = λ k l. rw (← a .same-count) (p .known k l);
+        in-force = p .in-force;
+        concludes = λ k l. sym (conclusion-same a (stepAt row k .by)) ∙ p .concludes k l;
+        founded = λ k l. sym (premises-alike a (factsOf (take k row)) (stepAt row k .by)) ∙ p .founded k l;
+        consistent = λ k l. sym (constraints-alike a (factsOf row) (stepAt row k .by)) ∙ p .consistent k l;
+      }
+
+  admits-alike : (M : FactSet) (row : List Step) → Admits P M row → Admits Q M row
+  admits-alike M row d k l = sym (constraints-alike a M (stepAt row k .by)) ∙ d k l
+
+-- The same sets are stable.
+pub alike-stable : {P Q : Program} → Alike P Q → (on : Mask) (M : FactSet) → Stable P on M ↔ Stable Q on M
+alike-stable a on M = (stable-alike a on M, stable-alike (alike-sym a) on M)
+
+-- The same rows are proofs, and the same sets admit them.
+pub alike-proof : {P Q : Program} → Alike P Q → (on : Mask) (row : List Step) (f : ℕ) → Proof P on row f ↔ Proof Q on row f
+alike-proof a on row f = (proof-alike a on row f, proof-alike (alike-sym a) on row f)
+
+pub alike-admits : {P Q : Program} → Alike P Q → (M : FactSet) (row : List Step) → Admits P M row ↔ Admits Q M row
+alike-admits a M row = (admits-alike a M row, admits-alike (alike-sym a) M row)
+
+-- the list without repeats has the same elements, each once
+mem-once : (x : ℕ) (xs : List ℕ) → mem x (once xs) ≡ mem x xs
+mem-once x [] = refl
+mem-once x (y ∷ ys) = go (mem y ys) refl (mem-once x ys)
+  where
+    go : (b : Bool) → mem y ys ≡ b → mem x (once ys) ≡ mem x ys → mem x (cond b (once ys) (y ∷ once ys)) ≡ mem x (y ∷ ys)
+    go true e r =
+        r ∙ both-ways (mem x ys) (mem x (y ∷ ys)) (mem-there x y ys) (λ h. ⊎-elim (λ q. rw q e) (λ q. q) (mem-cases x y ys h))
+    go false e r = ap (λ c. eqb x y || c) r
+
+pub once-each : (x : ℕ) (xs : List ℕ) → mem x xs ≡ true → howMany (eqb x) (once xs) ≡ 1
+once-each x [] m = never m refl
+once-each x (y ∷ ys) m = go (mem y ys) refl (once-each x ys) (either (eqb x y))
+  where
+    go : (b : Bool) → mem y ys ≡ b → (mem x ys ≡ true → howMany (eqb x) (once ys) ≡ 1) → (eqb x y ≡ true) ⊎ (eqb x y ≡ false) → howMany (eqb x) (cond b (once ys) (y ∷ once ys)) ≡ 1
+    go true e r c = r (⊎-elim (λ q. rw q e) (λ q. q) (mem-cases x y ys m))
+    go false e r (inl q) =
+        let z : mem x (once ys) ≡ false = mem-once x ys ∙ rw (eqb-true x y q) e in
+        rw q (ap suc (howMany-none (eqb x) (once ys) z))
+    go false e r (inr q) = rw q (r (rw q at m))
+
+-- A program without repeats within its rules is alike to it: repeats within a rule change nothing.
+pub once-alike : (P : Program) → Alike (withoutRepeats P) P
+once-alike P =
+    record {
+      same-facts = refl;
+      same-count = length-map (P .rules) bare;
+      same-conclusion = λ i _. ap (λ r. r .conclusion) (at i);
+      same-premises = λ i _ f. ap (λ r. mem f (r .premises)) (at i) ∙ mem-once f (rule P i .premises);
+      same-constraints = λ i _ f. ap (λ r. mem f (r .constraints)) (at i) ∙ mem-once f (rule P i .constraints);
+    }
+  where
+    bare : Rule → Rule
+    bare r = record { conclusion = r .conclusion; premises = once (r .premises); constraints = once (r .constraints) }
+
+    at : (i : ℕ) → rule (withoutRepeats P) i ≡ bare (rule P i)
+    at i = List·getD-map bare (P .rules) i blank

@@ -1,0 +1,374 @@
+-- The search: the set that it takes is the earliest stable set, where it takes none there is none, and its order names each exception rule once.
+use Prim.Native.Nat.{ℕ, zero, suc, _<_}
+use native.Mathlib.Omega.{arith}
+use mathlib.Core.Path.{_≡_, refl, sym, _∙_, ap, fun-ext, subst}
+use mathlib.Core.Bool.{Bool, true, false, cond, _&&_, Bool·beq}
+use mathlib.Core.List.{List, [], _∷_}
+use mathlib.Core.Logic.{_⊎_, inl, inr, ⊎-elim, _↔_}
+use mathlib.Core.Option.{Option, none, some}
+use borrow.Author.Tests.{eqb-true, ltb-true}
+use lib.ListN.{length}
+use lib.Dec.{eqb, ltb}
+use Rattle.theory.specs.Lists.{mem, keep, upTo, downFrom, howMany}
+use Rattle.theory.specs.Rule.{Program, Mask, FactSet, Same, nothing, adjoin, count, rule, exception, constraintFact, Bounded}
+use Rattle.theory.specs.Stable.{reduct, Stable, leastOf}
+use Rattle.theory.specs.Search.{Earlier, Earliest, guessed, fits, hunt, search, upheld, orderFor}
+use Rattle.theory.specs.Chaining.{Names}
+use Rattle.theory.proofs.Bools.{either, never, and-left, and-right, and-both, and-true, and-false, or-left, or-false, or-false-left, or-false-right, false-of, beq-true, beq-refl}
+use Rattle.theory.proofs.Lists.{all-elem, all-of, mem-cases, mem-here, mem-there, mem-keep, mem-downFrom, downFrom-mem, howMany-ext, howMany-split, howMany-keep, howMany-every, howMany-none, howMany-upTo}
+use Rattle.theory.proofs.Derive.{adjoin-has}
+use Rattle.theory.proofs.Stable.{Agree, constraint-from, least-mask, reduct-agrees, leastOf-least, leastOf-same, leastOf-agrees, stable-agree}
+
+-- each number of the list is below those before it
+abbrev pub Descending : List ℕ → Type 0
+Descending [] = Unit {0}
+Descending (k ∷ ks) = ((j : ℕ) → mem j ks ≡ true → j < k) × Descending ks
+
+-- K differs from G at numbers of the list only
+abbrev pub Extends : List ℕ → FactSet → FactSet → Type 0
+Extends ks G K = (j : ℕ) → mem j ks ≡ false → K j ≡ G j
+
+-- no number of the list is in G
+abbrev Open : List ℕ → FactSet → Type 0
+Open ks G = (j : ℕ) → mem j ks ≡ true → G j ≡ false
+
+-- H lacks the highest number of the list on which they differ
+record EarlierOver (ks : List ℕ) (H K : FactSet) : Type 0 where
+  highest : ℕ
+  element : mem highest ks ≡ true
+  lacks : H highest ≡ false
+  has : K highest ≡ true
+  agree-above : (j : ℕ) → highest < j → mem j ks ≡ true → H j ≡ K j
+
+-- they differ on the first number of a descending list, or not there
+differ-first : (k : ℕ) (ks : List ℕ) (H K : FactSet) → Descending (k ∷ ks) → H k ≡ false → K k ≡ true → EarlierOver (k ∷ ks) H K
+differ-first k ks H K d o i =
+    record { highest = k; element = mem-here k ks; lacks = o; has = i; agree-above = above }
+  where
+    above : (j : ℕ) → k < j → mem j (k ∷ ks) ≡ true → H j ≡ K j
+    above j l m =
+        ⊎-elim (λ w. absurd (omega arith)) (λ w. let u : j < k = d .0 j w in absurd (omega arith)) (mem-cases j k ks m)
+
+differ-rest : (k : ℕ) (ks : List ℕ) (H K : FactSet) → H k ≡ K k → EarlierOver ks H K → EarlierOver (k ∷ ks) H K
+differ-rest k ks H K e q =
+    record {
+      highest = q .highest;
+      element = mem-there (q .highest) k ks (q .element);
+      lacks = q .lacks;
+      has = q .has;
+      agree-above = λ j l m. ⊎-elim (λ w. rw w e) (λ w. q .agree-above j l w) (mem-cases j k ks m);
+    }
+
+-- two sets agree on the list, or one of them is earlier
+compare-over : (ks : List ℕ) (H K : FactSet) → Descending ks → ((j : ℕ) → mem j ks ≡ true → H j ≡ K j) ⊎ (EarlierOver ks H K ⊎ EarlierOver ks K H)
+compare-over [] H K d = inl (λ j m. never m refl)
+compare-over (k ∷ ks) H K d = go (H k) (K k) refl refl (compare-over ks H K (d .1))
+  where
+    Compared : List ℕ → Type 0
+    Compared js = ((j : ℕ) → mem j js ≡ true → H j ≡ K j) ⊎ (EarlierOver js H K ⊎ EarlierOver js K H)
+
+    same : H k ≡ K k → Compared ks → Compared (k ∷ ks)
+    same e (inl q) = inl (λ j m. ⊎-elim (λ w. rw w e) (λ w. q j w) (mem-cases j k ks m))
+    same e (inr (inl q)) = inr (inl (differ-rest k ks H K e q))
+    same e (inr (inr q)) = inr (inr (differ-rest k ks K H (sym e) q))
+
+    go : (x y : Bool) → H k ≡ x → K k ≡ y → Compared ks → Compared (k ∷ ks)
+    go true true u v r = same (u ∙ sym v) r
+    go true false u v r = inr (inr (differ-first k ks K H d v u))
+    go false true u v r = inr (inl (differ-first k ks H K d u v))
+    go false false u v r = same (u ∙ sym v) r
+
+-- they are the same, or H is earlier
+abbrev NotLater : List ℕ → FactSet → FactSet → Type 0
+NotLater ks H K = (H ≡ K) ⊎ EarlierOver ks H K
+
+widen : (k : ℕ) (ks : List ℕ) (H K : FactSet) → H k ≡ K k → NotLater ks H K → NotLater (k ∷ ks) H K
+widen k ks H K e (inl q) = inl q
+widen k ks H K e (inr q) = inr (differ-rest k ks H K e q)
+
+module _ (ok : FactSet → Bool) where
+  hunt-some : (k : ℕ) (ks : List ℕ) (G H : FactSet) → hunt ok ks G ≡ some H → hunt ok (k ∷ ks) G ≡ some H
+  hunt-some k ks G H e = rw (e, hunt)
+
+  hunt-else : (k : ℕ) (ks : List ℕ) (G : FactSet) → _≡_ {A = Option FactSet} (hunt ok ks G) none → hunt ok (k ∷ ks) G ≡ hunt ok ks (adjoin G k)
+  hunt-else k ks G e = rw (e, hunt)
+
+  -- what is found passes the test and extends G
+  hunt-sound : (ks : List ℕ) (G H : FactSet) → hunt ok ks G ≡ some H → (ok H ≡ true) × Extends ks G H
+  hunt-sound [] G H e = go (ok G) refl
+    where
+      go : (b : Bool) → ok G ≡ b → (ok H ≡ true) × Extends [] G H
+      go true q =
+          let s : some G ≡ some H = rw q at e in
+          let h : G ≡ H = cc in
+          (rw (← h) q, λ j m. ap (λ X. X j) (sym h))
+      go false q =
+          let s : _≡_ {A = Option FactSet} none (some H) = rw q at e in
+          let z : _≡_ {A = ℕ} 0 1 = cc in
+          absurd (omega arith)
+  hunt-sound (k ∷ ks) G H e = go (hunt ok ks G) refl (hunt-sound ks)
+    where
+      go : (found : Option FactSet) → hunt ok ks G ≡ found → ((G′ H′ : FactSet) → hunt ok ks G′ ≡ some H′ → (ok H′ ≡ true) × Extends ks G′ H′) → (ok H ≡ true) × Extends (k ∷ ks) G H
+      go (some H′) q r =
+          let t : (ok H ≡ true) × Extends ks G H = r G H (q ∙ sym (hunt-some k ks G H′ q) ∙ e) in
+          (t .0, λ j m. t .1 j (or-false-right (eqb j k) _ m))
+      go none q r =
+          let t : (ok H ≡ true) × Extends ks (adjoin G k) H = r (adjoin G k) H (sym (hunt-else k ks G q) ∙ e) in
+          (t .0, λ j m. t .1 j (or-false-right (eqb j k) _ m) ∙ rw (or-false-left (eqb j k) _ m) refl)
+
+  -- if some extension of G passes the test, then one is found, and it is not later
+  hunt-finds : (ks : List ℕ) (G K : FactSet) → Descending ks → Open ks G → Extends ks G K → ok K ≡ true → (H : FactSet) × (hunt ok ks G ≡ some H) × NotLater ks H K
+  hunt-finds [] G K d o x t =
+      let e : G ≡ K = fun-ext (λ j. sym (x j refl)) in
+      (K, rw (e, t) refl, inl refl)
+  hunt-finds (k ∷ ks) G K d o x t = go (K k) refl (hunt-finds ks)
+    where
+      Finds : Type 0
+      Finds = (G K : FactSet) → Descending ks → Open ks G → Extends ks G K → ok K ≡ true → (H : FactSet) × (hunt ok ks G ≡ some H) × NotLater ks H K
+
+      not-again : mem k ks ≡ false
+      not-again = false-of (mem k ks) (λ m. let l : k < k = d .0 k m in absurd (omega arith))
+
+      out : G k ≡ false
+      out = o k (mem-here k ks)
+
+      -- the extensions without k, and those with k
+      without : K k ≡ false → Extends ks G K
+      without e j m = ⊎-elim (λ q. rw (eqb-true j k q) (e ∙ sym out)) (λ q. x j (or-false (eqb j k) _ q m)) (either (eqb j k))
+
+      with-it : K k ≡ true → Extends ks (adjoin G k) K
+      with-it e j m =
+          ⊎-elim
+          (λ q. ap K (eqb-true j k q) ∙ e ∙ sym (or-left (eqb j k) (G j) q))
+          (λ q. x j (or-false (eqb j k) _ q m) ∙ rw q refl)
+          (either (eqb j k))
+
+      later : K k ≡ true → Finds → (found : Option FactSet) → hunt ok ks G ≡ found → (H : FactSet) × (hunt ok (k ∷ ks) G ≡ some H) × NotLater (k ∷ ks) H K
+      later e r (some H) q =
+          (H, hunt-some k ks G H q, inr (differ-first k ks H K d (hunt-sound ks G H q .1 k not-again ∙ out) e))
+      later e r none q =
+          let (H, h, n) = r (adjoin G k) K (d .1) open-still (with-it e) t in
+          (H, hunt-else k ks G q ∙ h, widen k ks H K (hunt-sound ks (adjoin G k) H h .1 k not-again ∙ adjoin-has G k ∙ sym e) n)
+        where
+          open-still : Open ks (adjoin G k)
+          open-still j m =
+              or-false (eqb j k) (G j)
+              (false-of (eqb j k) (λ w. let u : j < k = d .0 j m in let z : j ≡ k = eqb-true j k w in absurd (omega arith)))
+              (o j (mem-there j k ks m))
+
+      go : (b : Bool) → K k ≡ b → Finds → (H : FactSet) × (hunt ok (k ∷ ks) G ≡ some H) × NotLater (k ∷ ks) H K
+      go false e r =
+          let (H, q, n) = r G K (d .1) (λ j m. o j (mem-there j k ks m)) (without e) t in
+          (H, hunt-some k ks G H q, widen k ks H K (hunt-sound ks G H q .1 k not-again ∙ out ∙ sym e) n)
+      go true e r = later e r (hunt ok ks G) refl
+
+keep-descending : (p : ℕ → Bool) (ks : List ℕ) → Descending ks → Descending (keep p ks)
+keep-descending p [] d = tt
+keep-descending p (k ∷ ks) d = go (p k) (keep-descending p ks (d .1))
+  where
+    go : (b : Bool) → Descending (keep p ks) → Descending (cond b (k ∷ keep p ks) (keep p ks))
+    go true r = (λ j m. d .0 j (and-left _ _ (sym (mem-keep p ks j) ∙ m)), r)
+    go false r = r
+
+downFrom-descending : (n : ℕ) → Descending (downFrom n)
+downFrom-descending zero = tt
+downFrom-descending (suc n) = (mem-downFrom n, downFrom-descending n)
+
+module _ (P : Program) (on : Mask) where
+  -- The guessed facts stand from the highest-numbered down, ..
+  guessed-descending : Descending (guessed P on)
+  unfolding guessed
+  guessed-descending = keep-descending (constraintFact P on) (downFrom (P .facts)) (downFrom-descending (P .facts))
+
+  -- .. and are the constraint facts.
+  pub guessed-constraint : (k : ℕ) → mem k (guessed P on) ≡ true → constraintFact P on k ≡ true
+  unfolding guessed
+  guessed-constraint k m = and-right (mem k (downFrom (P .facts))) _ (sym (mem-keep (constraintFact P on) (downFrom (P .facts)) k) ∙ m)
+
+  pub constraint-guessed : Bounded P → (k : ℕ) → constraintFact P on k ≡ true → mem k (guessed P on) ≡ true
+  unfolding guessed
+  constraint-guessed b k h =
+      let (i, l, _, m) = constraint-from P on k h in
+      mem-keep (constraintFact P on) (downFrom (P .facts)) k
+      ∙ and-both (downFrom-mem (P .facts) k (ltb-true k (P .facts) (all-elem (λ f. ltb f (P .facts)) (rule P i .constraints) (b .constraints-below i l) k m))) h
+
+  -- what a guess says of the guessed facts, its least set says too
+  fits-agree : Bounded P → (G : FactSet) → fits P on G ≡ true → Agree P on (leastOf P on G) G
+  unfolding fits
+  fits-agree b G f k h =
+      beq-true (leastOf P on G k) (G k) (all-elem (λ j. Bool·beq (leastOf P on G j) (G j)) (guessed P on) f k (constraint-guessed b k h))
+
+  -- The least set of a guess that fits is stable.
+  pub fits-stable : Bounded P → (G : FactSet) → fits P on G ≡ true → Stable P on (leastOf P on G)
+  fits-stable b G f =
+      least-mask P (reduct P on G) (reduct P on (leastOf P on G)) nothing (leastOf P on G)
+      (λ i l. sym (reduct-agrees P on (leastOf P on G) G (fits-agree b G f) i l)) (leastOf-least P on G)
+
+  -- the guessed facts of N
+  abbrev guessOf : FactSet → FactSet
+  guessOf N k = mem k (guessed P on) && N k
+
+  guess-agrees : Bounded P → (N : FactSet) → Agree P on (guessOf N) N
+  guess-agrees b N k h = rw (constraint-guessed b k h) refl
+
+  guess-least : Bounded P → (N : FactSet) → Stable P on N → leastOf P on (guessOf N) ≡ N
+  guess-least b N s = leastOf-agrees P on (guessOf N) N (guess-agrees b N) ∙ leastOf-same P on N N s
+
+  -- No stable set is lost: its guessed facts fit.
+  pub guess-fits : Bounded P → (N : FactSet) → Stable P on N → fits P on (guessOf N) ≡ true
+  unfolding fits
+  guess-fits b N s =
+      all-of (λ j. Bool·beq (leastOf P on (guessOf N) j) (guessOf N j)) (guessed P on)
+      (λ k m. beq-refl _ _ (ap (λ X. X k) (guess-least b N s) ∙ sym (guess-agrees b N k (guessed-constraint k m))))
+
+  -- some guess is found for every stable set, and it is not later
+  found : Bounded P → (N : FactSet) → Stable P on N → (G : FactSet) × (hunt (fits P on) (guessed P on) nothing ≡ some G) × NotLater (guessed P on) G (guessOf N)
+  found b N s =
+      hunt-finds (fits P on) (guessed P on) nothing (guessOf N) guessed-descending (λ j m. refl) (λ j m. rw m refl) (guess-fits b N s)
+
+  -- the search takes the least set of the first guess that fits
+  search-of : (G : FactSet) → hunt (fits P on) (guessed P on) nothing ≡ some G → search P on ≡ some (leastOf P on G)
+  unfolding search
+  search-of G e = rw (e, search) refl
+
+  search-from : (M : FactSet) → search P on ≡ some M → (G : FactSet) × (hunt (fits P on) (guessed P on) nothing ≡ some G) × (leastOf P on G ≡ M)
+  unfolding search
+  search-from M e = go (hunt (fits P on) (guessed P on) nothing) refl
+    where
+      go : (o : Option FactSet) → hunt (fits P on) (guessed P on) nothing ≡ o → (G : FactSet) × (hunt (fits P on) (guessed P on) nothing ≡ some G) × (leastOf P on G ≡ M)
+      go (some G) q = let s : search P on ≡ some (leastOf P on G) = search-of G q in (G, q, (cc))
+      go none q =
+          let s : _≡_ {A = Option FactSet} none (some M) = rw (q, search) at e in
+          let z : _≡_ {A = ℕ} 0 1 = cc in
+          absurd (omega arith)
+
+  -- earlier over the guessed facts is earlier
+  earlier-from : Bounded P → (M H K N : FactSet) → Agree P on M H → Agree P on K N → EarlierOver (guessed P on) H K → Earlier P on M N
+  earlier-from b M H K N u v q =
+      let c : constraintFact P on (q .highest) ≡ true = guessed-constraint (q .highest) (q .element) in
+      record {
+        highest = q .highest;
+        is-constraint = c;
+        lacks = u (q .highest) c ∙ q .lacks;
+        has = sym (v (q .highest) c) ∙ q .has;
+        agree-above = λ k l h. u k h ∙ q .agree-above k l (constraint-guessed b k h) ∙ v k h;
+      }
+
+  -- Of two different stable sets one is earlier.
+  pub earlier-total : Bounded P → (M N : FactSet) → Stable P on M → Stable P on N → Same M N ⊎ (Earlier P on M N ⊎ Earlier P on N M)
+  earlier-total b M N s t = go (compare-over (guessed P on) M N guessed-descending)
+    where
+      go : ((k : ℕ) → mem k (guessed P on) ≡ true → M k ≡ N k) ⊎ (EarlierOver (guessed P on) M N ⊎ EarlierOver (guessed P on) N M) → Same M N ⊎ (Earlier P on M N ⊎ Earlier P on N M)
+      go (inl q) = inl (stable-agree P on M N s t (λ k h. q k (constraint-guessed b k h)))
+      go (inr (inl q)) = inr (inl (earlier-from b M M N N (λ k h. refl) (λ k h. refl) q))
+      go (inr (inr q)) = inr (inr (earlier-from b N N M M (λ k h. refl) (λ k h. refl) q))
+
+  -- the first guess that fits gives the earliest stable set
+  first-earliest : Bounded P → (G : FactSet) → hunt (fits P on) (guessed P on) nothing ≡ some G → Earliest P on (leastOf P on G)
+  first-earliest b G e = record { stable = fits-stable b G fit; before-others = others }
+    where
+      fit : fits P on G ≡ true
+      fit = hunt-sound (fits P on) (guessed P on) nothing G e .0
+
+      meets : Agree P on (leastOf P on G) G
+      meets = fits-agree b G fit
+
+      join : (N : FactSet) → Stable P on N → NotLater (guessed P on) G (guessOf N) → Same (leastOf P on G) N ⊎ Earlier P on (leastOf P on G) N
+      join N s (inl q) = inl (λ f. ap (λ X. X f) (ap (leastOf P on) q ∙ guess-least b N s))
+      join N s (inr q) = inr (earlier-from b (leastOf P on G) G (guessOf N) N meets (guess-agrees b N) q)
+
+      others : (N : FactSet) → Stable P on N → Same (leastOf P on G) N ⊎ Earlier P on (leastOf P on G) N
+      others N s =
+          let (H, h, n) = found b N s in
+          let g : H ≡ G = cc in
+          join N s (rw g at n)
+
+  -- The set that the search takes is the earliest stable set.
+  pub search-earliest : Bounded P → (M : FactSet) → search P on ≡ some M → Earliest P on M
+  search-earliest b M e =
+      let (G, h, q) = search-from M e in
+      subst (Earliest P on) q (first-earliest b G h)
+
+  -- Where it takes none, no set is stable.
+  pub search-none : Bounded P → _≡_ {A = Option FactSet} (search P on) none → (M : FactSet) → Stable P on M → ⊥
+  search-none b e M s =
+      let (G, h, n) = found b M s in
+      let q : search P on ≡ some (leastOf P on G) = search-of G h in
+      let z : _≡_ {A = ℕ} 0 1 = cc in
+      omega arith
+
+  -- Of two sets at most one is earlier.
+  pub earlier-once : (M N : FactSet) → Earlier P on M N → Earlier P on N M → ⊥
+  earlier-once M N u v =
+      let a : ¬ (u .highest < v .highest) = not-above M N u v in
+      let b : ¬ (v .highest < u .highest) = not-above N M v u in
+      let e : u .highest ≡ v .highest = omega arith in
+      never (ap M e ∙ v .has) (u .lacks)
+    where
+      not-above : (M N : FactSet) (u : Earlier P on M N) (v : Earlier P on N M) → ¬ (u .highest < v .highest)
+      not-above M N u v l = never (v .has) (u .agree-above (v .highest) l (v .is-constraint) ∙ v .lacks)
+
+  -- There is at most one earliest stable set, ..
+  pub earliest-unique : (M N : FactSet) → Earliest P on M → Earliest P on N → Same M N
+  earliest-unique M N u v =
+      ⊎-elim (λ e. e)
+      (λ e. ⊎-elim (λ g f. sym (g f)) (λ g. absurd (earlier-once M N e g)) (v .before-others M (u .stable)))
+      (u .before-others N (v .stable))
+
+  -- .. and there is one exactly when some set is stable.
+  pub earliest-exists : Bounded P → ((M : FactSet) × Stable P on M) ↔ ((M : FactSet) × Earliest P on M)
+  earliest-exists b = (λ t. into t (search P on) refl, λ t. (t .0, t .1 .stable))
+    where
+      into : (M : FactSet) × Stable P on M → (o : Option FactSet) → search P on ≡ o → (M : FactSet) × Earliest P on M
+      into t (some M) e = (M, search-earliest b M e)
+      into t none e = absurd (search-none b e (t .0) (t .1))
+
+  -- The search takes exactly the earliest stable set.
+  pub search-exactly : Bounded P → (M : FactSet) → (search P on ≡ some M) ↔ Earliest P on M
+  search-exactly b M = (search-earliest b M, λ e. go e (search P on) refl)
+    where
+      go : Earliest P on M → (o : Option FactSet) → search P on ≡ o → search P on ≡ some M
+      go e (some N) q = let n : N ≡ M = fun-ext (earliest-unique N M (search-earliest b N q) e) in rw n at q
+      go e none q = absurd (search-none b q M (e .stable))
+
+  exception-known : (r : ℕ) → exception P r ≡ true → r < count P
+  unfolding exception
+  exception-known r e = ltb-true r (count P) (and-left _ _ e)
+
+  -- The search's order has, of each number, what the ascending row of the exception rules has.
+  order-counts : (p : ℕ → Bool) (M : FactSet) → howMany p (orderFor P on M) ≡ howMany p (keep (exception P) (upTo (count P)))
+  unfolding orderFor
+  order-counts p M = sym (howMany-split p (exception P) (upheld P on M) (upTo (count P)))
+
+  -- It names each exception rule once, and no other.
+  pub order-once : (M : FactSet) (r : ℕ) → exception P r ≡ true → howMany (eqb r) (orderFor P on M) ≡ 1
+  order-once M r e =
+      order-counts (eqb r) M
+      ∙ howMany-keep (eqb r) (exception P) (upTo (count P))
+      ∙ howMany-ext (λ i. exception P i && eqb r i) (eqb r) (upTo (count P)) (λ i m. same i (either (eqb r i)))
+      ∙ howMany-upTo (count P) r (exception-known r e)
+    where
+      same : (i : ℕ) → (eqb r i ≡ true) ⊎ (eqb r i ≡ false) → exception P i && eqb r i ≡ eqb r i
+      same i (inl q) = rw (← eqb-true r i q, e) refl
+      same i (inr q) = rw q (and-false (exception P i))
+
+  pub order-only : (M : FactSet) (r : ℕ) → exception P r ≡ false → howMany (eqb r) (orderFor P on M) ≡ 0
+  order-only M r e =
+      order-counts (eqb r) M
+      ∙ howMany-none (eqb r) (keep (exception P) (upTo (count P)))
+      (false-of (mem r (keep (exception P) (upTo (count P)))) (λ m. never (and-right (mem r (upTo (count P))) _ (sym (mem-keep (exception P) (upTo (count P)) r) ∙ m)) e))
+
+  -- It is as long as there are exception rules.
+  pub order-length : (M : FactSet) → length (orderFor P on M) ≡ howMany (exception P) (upTo (count P))
+  order-length M =
+      sym (howMany-every (orderFor P on M))
+      ∙ order-counts (λ _. true) M
+      ∙ howMany-keep (λ _. true) (exception P) (upTo (count P))
+      ∙ howMany-ext (λ i. exception P i && true) (exception P) (upTo (count P)) (λ i m. and-true (exception P i))
+
+  -- It names every exception rule in force.
+  pub order-names : (M : FactSet) → Names P on (orderFor P on M)
+  order-names M c e o =
+      ⊎-elim (λ t. t)
+      (λ t. let z : howMany (eqb c) (orderFor P on M) ≡ 0 = howMany-none (eqb c) (orderFor P on M) t in let w : howMany (eqb c) (orderFor P on M) ≡ 1 = order-once M c e in absurd (omega arith))
+      (either (mem c (orderFor P on M)))

@@ -1,0 +1,13 @@
+pub mod Lists
+pub mod Rule
+pub mod Walk
+pub mod Derive
+pub mod Run
+pub mod Chaining
+pub mod Stable
+pub mod Proof
+pub mod Check
+pub mod Search
+pub mod Bounds
+pub mod Repeats
+pub mod Examples
