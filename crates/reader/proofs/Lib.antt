@@ -1,0 +1,13 @@
+pub mod Bodies
+pub mod EachKind
+pub mod Reading
+pub mod Items
+pub mod Written
+pub mod Marks
+pub mod Judging
+pub mod Tags
+pub mod Opening
+pub mod Walks
+pub mod Accepted
+pub mod Answered
+pub mod Examples

@@ -1,0 +1,9 @@
+pub mod Refusal
+pub mod Item
+pub mod Cursor
+pub mod Program
+pub mod Questions
+pub mod Rules
+pub mod Accept
+pub mod Verdict
+pub mod Write

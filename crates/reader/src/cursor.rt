@@ -1,0 +1,122 @@
+ghost use mathlib.Core.Path.{_≡_};
+ghost use Rattle.reader.specs.Cursor.{refusalOf, ofRow, rowAfter, nextAt};
+use crate::item::CONSTRAINT_KIND;
+use crate::item::FACTS_KIND;
+use crate::item::Item;
+use crate::item::NAMES_KIND;
+use crate::item::OPENS_KIND;
+use crate::item::PREMISE_KIND;
+use crate::item::RULES_KIND;
+use crate::item::STEP_KIND;
+use crate::refusal::Refusal;
+
+// Which row of items is read: it decides the kinds that may stand there, and the refusal where none does.
+pub enum Row {
+    // The first item of a file, and the items after it.
+    Opening,
+    Body,
+    // An order, or a list of rules.
+    Order,
+    // A proof row.
+    Steps,
+}
+
+// What can be wrong where an item is read, in the order in which it is asked.
+pub enum Fault {
+    NoByte,
+    OtherKind,
+    ShortBody,
+}
+
+// A place between two items of a row.
+pub struct Cursor {
+    pub at: usize,
+    pub row: Row,
+}
+
+// A read gives the item and the cursor past it, or the refusal and the cursor as it was.
+pub enum Read {
+    Found(Item, Cursor),
+    Refused(Refusal, Cursor),
+}
+
+// The refusal for a fault in a row.
+fn refusal_of(row: Row, fault: Fault) -> Refusal
+    ensures { λ r. ⌜ r ≡ refusalOf row fault ⌝ }
+{
+    match row {
+        Row::Opening => Refusal::NoFactCount,
+        Row::Body => match fault {
+            Fault::NoByte => Refusal::FileCutOff,
+            Fault::OtherKind => Refusal::UnknownKind,
+            Fault::ShortBody => Refusal::BodyCutOff,
+        },
+        Row::Order => Refusal::NotRuleItems,
+        Row::Steps => Refusal::NotStepItems,
+    }
+}
+
+// Whether a row has items of this kind.
+fn of_row(row: Row, kind: u8) -> bool
+    ensures { λ r. ⌜ r ≡ ofRow row kind ⌝ }
+{
+    match row {
+        Row::Opening => kind == FACTS_KIND,
+        Row::Body => {
+            if kind == OPENS_KIND {
+                return true;
+            }
+            if kind == PREMISE_KIND {
+                return true;
+            }
+            if kind == CONSTRAINT_KIND {
+                return true;
+            }
+            kind == RULES_KIND
+        }
+        Row::Order => kind == NAMES_KIND,
+        Row::Steps => kind == STEP_KIND,
+    }
+}
+
+// The row of the next item: the body of a file follows its opening.
+fn row_after(row: Row) -> Row
+    ensures { λ r. ⌜ r ≡ rowAfter row ⌝ }
+{
+    match row {
+        Row::Opening => Row::Body,
+        Row::Body => Row::Body,
+        Row::Order => Row::Order,
+        Row::Steps => Row::Steps,
+    }
+}
+
+impl Cursor {
+    // Moves past one whole item, or says why there is none.
+    pub fn next(self, bytes: &[u8]) -> Read
+        ensures { λ r. ⌜ r ≡ nextAt (now (bytes .entry)) self ⌝ }
+    {
+        let at = self.at;
+        let row = self.row;
+        if bytes.len() <= at {
+            return Read::Refused(refusal_of(row, Fault::NoByte), self);
+        }
+        let kind = bytes[at];
+        if !of_row(row, kind) {
+            return Read::Refused(refusal_of(row, Fault::OtherKind), self);
+        }
+        let length = crate::item::body_length(kind);
+        let body = at + 1;
+        if bytes.len() - body < length {
+            return Read::Refused(refusal_of(row, Fault::ShortBody), self);
+        }
+        let item = crate::item::item_of(kind, bytes, body);
+        Read::Found(
+            item,
+            Cursor {
+                at: body + length,
+                row: row_after(row),
+            },
+        )
+    }
+}
