@@ -1,0 +1,96 @@
+-- `ask_names`: what is to come gives what the whole gives.
+use borrow.Author.Needs.{needs}
+use Prim.Native.Nat.{_-_}
+use mathlib.Core.Path.{_≡_, refl, sym, ap, _∙_}
+use lib.ListN.{length}
+use Rattle.rules.specs.Sets.{has}
+use Rattle.rules.specs.Questions.{namesOf, namedIn}
+use Rattle.reader.specs.Questions.{maxRules}
+use denote.Ref.{now}
+use Rattle.reader.specs.declared.cursor.Read.the-variants.{Found}
+use Rattle.reader.specs.Cursor.{nextAt}
+use Rattle.reader.proofs.Items.{found, closer}
+use Rattle.rules.proofs.Walks.{headed, none-read, past-names}
+use Rattle.rules.proofs.Naming.{Naming, said-yes, said-no, all-asked, not-asked, a-no, a-yes}
+use Rattle.rules.proofs.names.ask_names.Statement.{statement}
+use Rattle.rules.proofs.names.ask_names.Tie as tie
+use Rattle.rules.proofs.names.ask_names.Reads as reads
+use Rattle.rules.proofs.names.ask_names.Lts as lts
+use Rattle.reader.proofs.cursor.Cursor.next.Reads as next-reads
+use Rattle.rules.proofs.names.ask_name.Reads as ask-name-reads
+
+abbrev Inv-loop : tie.InvT-loop
+Inv-loop bytes kinds named₀ cursor₀ named cursor = (length named ≡ maxRules) × Naming (has kinds) named₀ (namedIn bytes) named bytes cursor
+
+abbrev μ-loop : tie.MeasureT-loop
+μ-loop bytes kinds named₀ cursor₀ named cursor = length bytes - cursor .at
+
+-- once an item is read
+item-read : (c : tie.After-known-told Inv-loop μ-loop) → nextAt (now (c .before .before .before .before .before .before .args .bytes)) (c .before .before .before .before .loop .cursor) ≡ Found (c .before .item .given .0 .0) (c .before .item .given .0 .1 .0)
+item-read c = sym (c .before .before .before .next .ensures) ∙ c .before .item .given .1
+
+loop-holds : tie.Need-loop-holds Inv-loop μ-loop
+loop-holds c = (c .before .pre .1, record { same = refl; marked = λ i. refl })
+
+next-requires : tie.Need-next-requires Inv-loop μ-loop
+next-requires c κs = search needs
+
+enum-told : tie.Need-enum-told Inv-loop μ-loop
+enum-told c = search needs
+
+returns : tie.Need-returns Inv-loop μ-loop
+returns c = all-asked _ _ _ _ _ _ (c .before .before .before .loop .inv .1) (none-read _ _ _ namesOf _ (sym (c .before .before .next .ensures) ∙ c .enum-told .given .1) refl)
+
+enum-known-item : tie.Need-enum-known-item Inv-loop μ-loop
+enum-known-item c = search needs
+
+enum-known-item-2 : tie.Need-enum-known-item-2 Inv-loop μ-loop
+enum-known-item-2 c = search needs
+
+ask-name-requires : tie.Need-ask-name-requires Inv-loop μ-loop
+ask-name-requires c κs = (c .before .before .before .before .before .before .before .before .before .before .pre .0, c .before .before .before .before .before .before .before .before .loop .inv .0)
+
+enum-known-answer : tie.Need-enum-known-answer Inv-loop μ-loop
+enum-known-answer c = search needs
+
+returns-2 : tie.Need-returns-2 Inv-loop μ-loop
+returns-2 c = (a-no _ _ _ _ _ _ (c .before .before .before .before .before .before .before .before .before .before .before .before .loop .inv .1) _ _ (ap namesOf (headed _ _ _ _ _ (item-read (c .before .before .before .before .before .before .before .before)) (c .before .before .before .before .before .before .item2 .given .1))) _ (said-no _ _ (sym (c .before .answer .given .1) ∙ c .before .before .before .ask-name .ensures .0)), tt)
+
+enum-told-2 : tie.Need-enum-told-2 Inv-loop μ-loop
+enum-told-2 c = search needs
+
+loop-less : tie.Need-loop-less Inv-loop μ-loop
+loop-less c = closer (found _ _ _ _ (item-read (c .before .before .before .before .before .before .before)))
+
+loop-again : tie.Need-loop-again Inv-loop μ-loop
+loop-again c = (
+  c .before .before .ask-name .ensures .1 .1,
+  a-yes _ _ _ _ _ _ (c .before .before .before .before .before .before .before .before .before .before .before .loop .inv .1) _ _ (ap namesOf (headed _ _ _ _ _ (item-read (c .before .before .before .before .before .before .before)) (c .before .before .before .before .before .item2 .given .1))) _ (said-yes _ (sym (c .enum-told2 .given .1) ∙ c .before .before .ask-name .ensures .0)) (rw (c .enum-told2 .given .1) at (c .before .before .ask-name .ensures .1 .0)),
+)
+
+loop-less-2 : tie.Need-loop-less-2 Inv-loop μ-loop
+loop-less-2 c = closer (found _ _ _ _ (item-read (c .before)))
+
+loop-again-2 : tie.Need-loop-again-2 Inv-loop μ-loop
+loop-again-2 c = (c .before .before .before .before .before .loop .inv .0, not-asked _ _ _ _ _ _ (c .before .before .before .before .before .loop .inv .1) _ (past-names _ _ _ _ (item-read (c .before)) (c .match2 .keys2)))
+
+pub ask-names-spec : {M : Type 1} → statement M
+ask-names-spec =
+    tie.close
+    (tie.spec
+    Inv-loop
+    μ-loop
+    loop-holds
+    next-requires
+    enum-told
+    returns
+    enum-known-item
+    enum-known-item-2
+    ask-name-requires
+    enum-known-answer
+    returns-2
+    enum-told-2
+    loop-less
+    loop-again
+    loop-less-2
+    loop-again-2)

@@ -1,0 +1,99 @@
+-- `constraints_clear`: what is to come decides.
+use borrow.Author.Needs.{needs}
+use Prim.Native.Nat.{_-_}
+use lib.ListN.{length}
+use Rattle.reader.specs.Cursor.{nextAt, itemsAt}
+use Rattle.reader.specs.Program.{constraintsOf}
+use Rattle.rules.specs.Sets.{has}
+use Rattle.rules.specs.RuleAt.{ruleAt}
+use mathlib.Core.Path.{_≡_, refl, sym, ap, _∙_}
+use mathlib.Core.Bool.{not}
+use Rattle.reader.proofs.Walks.{past-rule}
+use denote.Ref.{now}
+use Rattle.reader.specs.declared.cursor.Read.the-variants.{Found}
+use Rattle.reader.proofs.Items.{found, closer}
+use Rattle.rules.proofs.Walks.{Decides, whole-decides, not-tested, all-pass, one-fails, one-passes, headed, none-read}
+use Rattle.rules.proofs.rule.constraints_clear.Statement.{statement}
+use Rattle.rules.proofs.rule.constraints_clear.Tie as tie
+use Rattle.rules.proofs.rule.constraints_clear.Reads as reads
+use Rattle.rules.proofs.rule.constraints_clear.Lts as lts
+use Rattle.reader.proofs.cursor.Cursor.next.Reads as next-reads
+use Rattle.rules.proofs.fact_set.in_set.Reads as in-set-reads
+use Rattle.rules.proofs.rule.own_items.Reads as own-items-reads
+
+abbrev Inv-loop : tie.InvT-loop
+Inv-loop file at set cursor₀ cursor = Decides (λ x. not (has set x)) (ruleAt file at .constraints) (constraintsOf (itemsAt file cursor))
+
+abbrev μ-loop : tie.MeasureT-loop
+μ-loop file at set cursor₀ cursor = length file - cursor .at
+
+-- once an item is read
+item-read : (c : tie.After-known-told Inv-loop μ-loop) → nextAt (now (c .before .before .before .before .before .before .before .before .args .file)) (c .before .before .before .before .loop .cursor) ≡ Found (c .before .item .given .0 .0) (c .before .item .given .0 .1 .0)
+item-read c = sym (c .before .before .before .next .ensures) ∙ c .before .item .given .1
+
+own-items-requires : tie.Need-own-items-requires Inv-loop μ-loop
+own-items-requires c κs = search needs
+
+loop-holds : tie.Need-loop-holds Inv-loop μ-loop
+loop-holds c = not-tested (whole-decides _ _) _ (sym (c .own-items .ensures .constraints))
+
+next-requires : tie.Need-next-requires Inv-loop μ-loop
+next-requires c κs = search needs
+
+enum-told : tie.Need-enum-told Inv-loop μ-loop
+enum-told c = search needs
+
+returns : tie.Need-returns Inv-loop μ-loop
+returns c = all-pass (c .before .before .before .loop .inv) (none-read _ _ _ constraintsOf _ (sym (c .before .before .next .ensures) ∙ c .enum-told .given .1) refl)
+
+enum-known-item : tie.Need-enum-known-item Inv-loop μ-loop
+enum-known-item c = search needs
+
+enum-known-item-2 : tie.Need-enum-known-item-2 Inv-loop μ-loop
+enum-known-item-2 c = search needs
+
+in-set-requires : tie.Need-in-set-requires Inv-loop μ-loop
+in-set-requires c κs = search needs
+
+returns-2 : tie.Need-returns-2 Inv-loop μ-loop
+returns-2 c = one-fails (c .before .before .before .before .before .before .before .before .before .loop .inv) _ _ (ap constraintsOf (headed _ _ _ _ _ (item-read (c .before .before .before .before .before)) (c .before .before .before .item2 .given .1))) (ap not (sym (c .before .in-set .ensures) ∙ c .if1 .taken))
+
+loop-less : tie.Need-loop-less Inv-loop μ-loop
+loop-less c = closer (found _ _ _ _ (item-read (c .before .before .before .before .before)))
+
+loop-again : tie.Need-loop-again Inv-loop μ-loop
+loop-again c = one-passes (c .before .before .before .before .before .before .before .before .before .loop .inv) _ _ (ap constraintsOf (headed _ _ _ _ _ (item-read (c .before .before .before .before .before)) (c .before .before .before .item2 .given .1))) (ap not (sym (c .before .in-set .ensures) ∙ c .if1 .left))
+
+enum-told-2 : tie.Need-enum-told-2 Inv-loop μ-loop
+enum-told-2 c = search needs
+
+loop-less-2 : tie.Need-loop-less-2 Inv-loop μ-loop
+loop-less-2 c = closer (found _ _ _ _ (item-read (c .before .before)))
+
+loop-again-2 : tie.Need-loop-again-2 Inv-loop μ-loop
+loop-again-2 c = not-tested (c .before .before .before .before .before .before .loop .inv) _ (ap constraintsOf (headed _ _ _ _ _ (item-read (c .before .before)) (c .enum-told2 .given .1)))
+
+returns-3 : tie.Need-returns-3 Inv-loop μ-loop
+returns-3 c = all-pass (c .before .before .before .before .before .loop .inv) (past-rule _ _ _ _ (item-read (c .before)) (c .match2 .keys3))
+
+pub constraints-clear-spec : {M : Type 1} → statement M
+constraints-clear-spec =
+    tie.close
+    (tie.spec
+    Inv-loop
+    μ-loop
+    own-items-requires
+    loop-holds
+    next-requires
+    enum-told
+    returns
+    enum-known-item
+    enum-known-item-2
+    in-set-requires
+    returns-2
+    loop-less
+    loop-again
+    enum-told-2
+    loop-less-2
+    loop-again-2
+    returns-3)

@@ -1,0 +1,35 @@
+-- `own_items`: a rule starts at the place, or none does.
+use mathlib.Core.Path.{sym, _∙_}
+use Rattle.rules.proofs.Starts.{no-start, other-start, own-after, own-none}
+use borrow.Author.Needs.{needs}
+use Rattle.rules.proofs.rule.own_items.Statement.{statement}
+use Rattle.rules.proofs.rule.own_items.Tie as tie
+use Rattle.rules.proofs.rule.own_items.Reads as reads
+use Rattle.rules.proofs.rule.own_items.Lts as lts
+use Rattle.reader.proofs.cursor.Cursor.next.Reads as next-reads
+
+next-requires : tie.Need-next-requires
+next-requires c κs = search needs
+
+enum-told : tie.Need-enum-told
+enum-told c = search needs
+
+enum-known-item : tie.Need-enum-known-item
+enum-known-item c = search needs
+
+enum-told-2 : tie.Need-enum-told-2
+enum-told-2 c = search needs
+
+returns : tie.Need-returns
+returns c = own-none _ _ (no-start _ _ _ _ (sym (c .before .before .next .ensures) ∙ c .enum-told .given .1))
+
+returns-2 : tie.Need-returns-2
+returns-2 c = own-after _ _ _ _ _ (sym (c .before .before .before .before .before .next .ensures) ∙ c .before .before .before .item .given .1) (c .enum-told2 .given .1)
+
+returns-3 : tie.Need-returns-3
+returns-3 c = own-none _ _ (other-start _ _ _ _ (sym (c .before .before .before .before .next .ensures) ∙ c .before .before .item .given .1) (c .match2 .keys2))
+
+pub own-items-spec : {M : Type 1} → statement M
+own-items-spec =
+    tie.close
+    (tie.spec next-requires enum-told enum-known-item enum-told-2 returns returns-2 returns-3)

@@ -1,0 +1,17 @@
+-- An answer and its number.
+use Prim.Native.Nat.{ℕ}
+use mathlib.Core.Option.{Option, none, some}
+use Rattle.reader.specs.declared.refusal.Refusal.{Refusal}
+use Rattle.reader.specs.Refusal as refusal
+use Rattle.rules.specs.declared.answer.Answer.{Answer}
+use Rattle.rules.specs.declared.answer.Answer.the-variants.{Yes, No}
+
+-- The answer for the first no, where there is one.
+abbrev pub answerOf : Option Refusal → Answer
+answerOf none = Yes
+answerOf (some r) = No r
+
+-- 0 where all questions got yes, else the number of the first no.
+abbrev pub number : Answer → ℕ
+number Yes = 0
+number (No r) = refusal.number r

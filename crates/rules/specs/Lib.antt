@@ -1,0 +1,7 @@
+pub mod Sets
+pub mod Answer
+pub mod RuleAt
+pub mod Questions
+pub mod Named
+pub mod Orders
+pub mod Rows

@@ -1,0 +1,20 @@
+-- The marks of the rules named so far.
+use Prim.Native.Nat.{ℕ}
+use mathlib.Core.Path.{_≡_}
+use mathlib.Core.Bool.{_||_}
+use mathlib.Core.List.{List}
+use Rattle.theory.specs.Rule.{adjoin}
+use Rattle.theory.specs.Lists.{mem}
+use Rattle.rules.specs.declared.answer.Answer.{Answer}
+use Rattle.rules.specs.declared.answer.Answer.the-variants.{Yes, No}
+use Rattle.rules.specs.Sets.{has}
+
+-- where the answer is yes, the rule is marked too
+abbrev pub Named : ℕ → List ℕ → List ℕ → Answer → Type 0
+Named r before now Yes = has now ≡ adjoin (has before) r
+Named r before now (No x) = Unit {0}
+
+-- where all answers are yes, all the rules are marked too
+abbrev pub AllNamed : List ℕ → List ℕ → List ℕ → Answer → Type 0
+AllNamed rs before now Yes = (i : ℕ) → has now i ≡ has before i || mem i rs
+AllNamed rs before now (No x) = Unit {0}
