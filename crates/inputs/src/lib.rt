@@ -1,0 +1,82 @@
+// Large inputs for the test programs. Each is written as far as the room goes.
+ghost use Prim.Native.Nat.{_<_, _≤_};
+
+// The room for the longest file and the longest order.
+pub const FILE_ROOM: usize = 4096;
+
+pub const ORDER_ROOM: usize = 2048;
+
+// A byte at a place, where there is room.
+fn put(out: &mut [u8], at: usize, byte: u8) {
+    if at < out.len() {
+        out[at] = byte;
+    }
+}
+
+// A kind, and a number of two bytes, high byte first.
+fn put_wide(out: &mut [u8], at: usize, kind: u8, number: u16)
+    requires { ⌜ at < 65536 ⌝ }
+{
+    put(out, at, kind);
+    put(out, at + 1, (number / 256) as u8);
+    put(out, at + 2, (number % 256) as u8);
+}
+
+// An exception rule with the conclusion 0.
+fn put_rule(out: &mut [u8], at: usize, constraint: u8)
+    requires { ⌜ at < 65536 ⌝ }
+{
+    put(out, at, 0x01);
+    put(out, at + 1, 0);
+    put(out, at + 2, 0x03);
+    put(out, at + 3, constraint);
+}
+
+// A file of 255 facts and so many exception rules, whose constraints are by turns so many facts. Answers its length.
+pub fn exceptions(out: &mut [u8], rules: u16, constraints: u16) -> usize
+    requires { ⌜ (rules ≤ 600) × ((0 < constraints) × (constraints ≤ 255)) ⌝ }
+{
+    put(out, 0, 0x10);
+    put(out, 1, 255);
+    let mut i: u16 = 0;
+    while i < rules {
+        put_rule(out, 2 + 4 * (i as usize), (i % constraints % 256) as u8);
+        i += 1;
+    }
+    put_wide(out, 2 + 4 * (rules as usize), 0x1F, rules);
+    5 + 4 * (rules as usize)
+}
+
+// An order that names so many rules, from a first one on, ascending. Answers its length.
+pub fn ascending(out: &mut [u8], first: u16, count: u16) -> usize
+    requires { ⌜ count ≤ 600 ⌝ }
+{
+    let mut i: u16 = 0;
+    while i < count {
+        put_wide(
+            out,
+            3 * (i as usize),
+            0x05,
+            std::num::wrapping_add_u16(first, i),
+        );
+        i += 1;
+    }
+    3 * (count as usize)
+}
+
+// An order that names so many rules below a number, descending. Answers its length.
+pub fn descending(out: &mut [u8], count: u16) -> usize
+    requires { ⌜ count ≤ 600 ⌝ }
+{
+    let mut i: u16 = 0;
+    while i < count {
+        put_wide(out, 3 * (i as usize), 0x05, count - 1 - i);
+        i += 1;
+    }
+    3 * (count as usize)
+}
+
+// The first bytes.
+pub fn part(bytes: &[u8], n: usize) -> &[u8] {
+    if n <= bytes.len() { &bytes[..n] } else { bytes }
+}
