@@ -1,0 +1,7 @@
+use reader::item::RuleId;
+
+// The rule that a search stops at, if there is one.
+pub enum Found {
+    At(RuleId),
+    Nothing,
+}
