@@ -1,0 +1,3 @@
+pub mod Apart
+pub mod Trials
+pub mod Looking
