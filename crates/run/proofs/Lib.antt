@@ -1,0 +1,9 @@
+pub mod Knowing
+pub mod Written
+pub mod Paced
+pub mod Shown
+pub mod Standing
+pub mod Marking
+pub mod Plain
+pub mod Asking
+pub mod Answered
