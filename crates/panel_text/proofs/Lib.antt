@@ -1,0 +1,9 @@
+pub mod Decimal
+pub mod Putting
+pub mod Passing
+pub mod Stepping
+pub mod Showing
+pub mod Ascending
+pub mod Lengths
+pub mod Ended
+pub mod Examples

@@ -1,0 +1,31 @@
+-- The text by the bytes that a run leaves.
+use Prim.Native.Nat.{ℕ, _≤_}
+use mathlib.Core.List.{List, _++_}
+use lib.ListN.{length, getD}
+use lib.Dec.{eqb}
+use Rattle.theory.specs.Lists.{keep, upTo}
+use Rattle.theory.specs.Rule.{null}
+use Rattle.reader.specs.Questions.{maxRules}
+use Rattle.rules.specs.Rows.{rowOf}
+use Rattle.rules.specs.Orders.{each}
+use Rattle.panel_text.specs.Text.{headLine, stepLine, line, lastLine}
+
+-- the numbers below n at whose place the marks have m, ascending
+unfoldable pub marked : ℕ → List ℕ → ℕ → List ℕ
+marked m marks n = keep (λ i. eqb (getD marks i 0) m) (upTo n)
+
+-- The lines by the counts, the marks and the row of steps.
+unfoldable pub leftText : ℕ → ℕ → ℕ → List ℕ → List ℕ → List ℕ → List ℕ
+leftText facts rules stages fact-marks rule-marks row =
+    headLine facts rules stages
+    ++ (each stepLine (rowOf row)
+    ++ (each (line 0x58) (marked 2 fact-marks facts)
+    ++ (each (line 0x41) (marked 2 rule-marks rules)
+    ++ lastLine (null (marked 2 rule-marks rules)))))
+
+-- The marks have a place for each fact and each rule, and there are no more of these than numbers.
+pub record Tables (facts rules : ℕ) (fact-marks rule-marks : List ℕ) : Type 0 where
+  pub fact-places : facts ≤ length fact-marks
+  pub rule-places : rules ≤ length rule-marks
+  pub few-facts : facts ≤ maxRules
+  pub few-rules : rules ≤ maxRules

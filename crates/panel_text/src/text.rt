@@ -1,0 +1,87 @@
+// The text for a file, into a buffer that is large enough. Internal.
+ghost use Prim.Native.Nat.{_≤_};
+ghost use mathlib.Core.Path.{_≡_};
+ghost use mathlib.Core.Option.{none};
+ghost use lib.ListN.{length};
+ghost use Rattle.theory.specs.Rule.{everyRule};
+ghost use Rattle.theory.specs.Run.{run as runOf};
+ghost use Rattle.reader.specs.Program.{programOf};
+ghost use Rattle.reader.specs.Questions.{firstNo};
+ghost use Rattle.run.specs.Checked.{countsOf};
+ghost use Rattle.panel_text.specs.Text.{ascending, runText, panelText, shown};
+ghost use Rattle.panel_text.specs.Put.{textRoom, Put};
+use reader::questions::Seen;
+use reader::questions::Verdict;
+use reader::rules::MAX_FACTS;
+use reader::write::NAME_WIDTH;
+use reader::write::STEP_WIDTH;
+use rules::index::MAX_RULES;
+use run::answer::Ran;
+
+// Every text has room in so many bytes: a line of at most 18, at most 255 of 10, 255 and 512 of 6, and one of 2.
+pub const TEXT_ROOM: usize = 8192;
+
+// The lines of the run of an accepted file, in ascending order. The order gets yes to its questions and the buffers are large enough, so the
+// run refuses nothing.
+fn put_run(file: &[u8], seen: Seen, out: &mut [u8]) -> usize
+    requires { ⌜ (firstNo (now file) ≡ none) × (seen ≡ countsOf (programOf (now file))) ⌝ }
+    requires { ⌜ textRoom ≤ length (now out) ⌝ }
+    ensures { λ r. ⌜ Put (runText (programOf (now (file .entry))) (runOf (programOf (now (file .entry))) everyRule (ascending (programOf (now (file .entry)))))) 0 (now (out .entry)) r (now (out .exit)) ⌝ }
+{
+    let mut order = [0u8; MAX_RULES * NAME_WIDTH];
+    let named = crate::order::put_order(file, seen.rules as usize, &mut order);
+    let mut fact_marks = [0u8; MAX_FACTS];
+    let mut rule_marks = [0u8; MAX_RULES];
+    let mut steps = [0u8; MAX_FACTS * STEP_WIDTH];
+    match run::run(
+        file,
+        &order[..named],
+        &mut fact_marks,
+        &mut rule_marks,
+        &mut steps,
+    ) {
+        Ran::Refused(_) => 0,
+        Ran::Done {
+            stages,
+            steps: taken,
+        } => {
+            let used = (taken as usize) * STEP_WIDTH;
+            crate::lines::put_left(
+                out,
+                seen.facts,
+                seen.rules,
+                stages,
+                &fact_marks,
+                &rule_marks,
+                &steps[..used],
+            )
+        }
+    }
+}
+
+// The text for a file. Answers its length.
+pub fn put_text(file: &[u8], out: &mut [u8]) -> usize
+    requires { ⌜ textRoom ≤ length (now out) ⌝ }
+    ensures { λ r. ⌜ Put (panelText (now (file .entry))) 0 (now (out .entry)) r (now (out .exit)) ⌝ }
+    ensures { λ r. ⌜ r ≤ textRoom ⌝ }
+{
+    match reader::questions::judge_file(file) {
+        Verdict::Failed(r) => crate::put::put_line(out, 0, b'E', r.number() as u16),
+        Verdict::Passed(seen) => put_run(file, seen, out),
+    }
+}
+
+// Copies a text to the front of a buffer exactly where it fits. Answers its length.
+pub fn show(text: &[u8], out: &mut [u8]) -> usize
+    ensures { λ r. ⌜ (r ≡ length (now (text .entry))) × (now (out .exit) ≡ shown (now (text .entry)) (now (out .entry))) ⌝ }
+{
+    if out.len() < text.len() {
+        return text.len();
+    }
+    let mut i: usize = 0;
+    while i < text.len() {
+        out[i] = text[i];
+        i += 1;
+    }
+    i
+}
