@@ -1,0 +1,5 @@
+pub mod Listing
+pub mod Reducing
+pub mod Least
+pub mod Answering
+pub mod Meaning

@@ -1,0 +1,8 @@
+use reader::refusal::Refusal;
+
+// What the judge answers of a set.
+pub enum Judged {
+    Stable,
+    NotStable,
+    Refused(Refusal),
+}
