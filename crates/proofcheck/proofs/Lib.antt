@@ -1,0 +1,5 @@
+pub mod Ending
+pub mod Holding
+pub mod Clearing
+pub mod Answering
+pub mod Meaning

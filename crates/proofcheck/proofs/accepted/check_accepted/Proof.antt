@@ -1,0 +1,81 @@
+-- `check_accepted`: the set, then the asked fact and the row, then the test.
+use borrow.Author.Needs.{needs}
+use mathlib.Core.Path.{_≡_, sym, _∙_}
+use mathlib.Core.Bool.{true, false}
+use mathlib.Core.Option.{Option, none}
+use native.Mathlib.Omega.{arith}
+use denote.Ref.{now}
+use Rattle.reader.specs.declared.refusal.Refusal.{Refusal}
+use Rattle.rules.specs.Questions.{setNo, rowNo}
+use Rattle.rules.proofs.Naming.{said-yes, said-no}
+use Rattle.proofcheck.proofs.Answering.{asked-below, set-no, row-no, told}
+use Rattle.proofcheck.proofs.accepted.check_accepted.Statement.{statement}
+use Rattle.proofcheck.proofs.accepted.check_accepted.Tie as tie
+use Rattle.proofcheck.proofs.accepted.check_accepted.Reads as reads
+use Rattle.proofcheck.proofs.accepted.check_accepted.Lts as lts
+use Rattle.proofcheck.proofs.accepted.is_proof.Reads as is-proof-reads
+use Rattle.rules.proofs.fact_set.ask_set_of.Reads as ask-set-of-reads
+use Rattle.rules.proofs.row.ask_row_of.Reads as ask-row-of-reads
+
+set-yes : (c : tie.After-enum-told) → _≡_ {A = Option Refusal} (setNo (c .before .before .before .before .before .before .args .seen .facts) (now (c .before .before .before .before .before .before .args .set))) none
+set-yes c = said-yes _ (sym (c .enum-told .given .1) ∙ c .before .before .ask-set-of .ensures)
+
+row-yes : (c : tie.After-enum-told2) → _≡_ {A = Option Refusal} (rowNo (c .before .before .before .before .before .before .before .before .before .args .seen .facts) (c .before .before .before .before .before .before .before .before .before .args .fact) (now (c .before .before .before .before .before .before .before .before .before .args .proof))) none
+row-yes c = said-yes _ (sym (c .enum-told2 .given .1) ∙ c .before .before .ask-row-of .ensures)
+
+ask-set-of-requires : tie.Need-ask-set-of-requires
+ask-set-of-requires c κs = search needs
+
+enum-known-of-set : tie.Need-enum-known-of-set
+enum-known-of-set c = search needs
+
+returns : tie.Need-returns
+returns c = set-no _ _ _ _ (c .before .before .before .before .before .before .before .pre .accepted) _ (c .before .before .before .before .before .before .before .pre .facts) _ (said-no _ _ (sym (c .before .of-set .given .1) ∙ c .before .before .before .ask-set-of .ensures))
+
+enum-told : tie.Need-enum-told
+enum-told c = search needs
+
+ask-row-of-requires : tie.Need-ask-row-of-requires
+ask-row-of-requires c κs = search needs
+
+enum-known-of-row : tie.Need-enum-known-of-row
+enum-known-of-row c = search needs
+
+returns-2 : tie.Need-returns-2
+returns-2 c = row-no _ _ _ _ (c .before .before .before .before .before .before .before .before .before .before .pre .accepted) _ (c .before .before .before .before .before .before .before .before .before .before .pre .facts) (set-yes (c .before .before .before .before)) _ (said-no _ _ (sym (c .before .of-row .given .1) ∙ c .before .before .before .ask-row-of .ensures))
+
+enum-told-2 : tie.Need-enum-told-2
+enum-told-2 c = search needs
+
+cast-is-proof : tie.Need-cast-is-proof
+cast-is-proof c = search needs
+
+cast-t12 : tie.Need-cast-t12
+cast-t12 c = omega (arith, asked-below _ _ _ (row-yes (c .before)), c .struct-known .given)
+
+is-proof-requires : tie.Need-is-proof-requires
+is-proof-requires c κs = search needs
+
+returns-3 : tie.Need-returns-3
+returns-3 c = told _ _ _ _ (c .before .before .before .before .before .before .before .before .before .before .before .before .pre .accepted) _ (c .before .before .before .before .before .before .before .before .before .before .before .before .pre .facts) (set-yes (c .before .before .before .before .before .before)) (row-yes (c .before .before .before)) true (sym (c .if1 .taken) ∙ c .before .is-proof .ensures)
+
+returns-4 : tie.Need-returns-4
+returns-4 c = told _ _ _ _ (c .before .before .before .before .before .before .before .before .before .before .before .before .pre .accepted) _ (c .before .before .before .before .before .before .before .before .before .before .before .before .pre .facts) (set-yes (c .before .before .before .before .before .before)) (row-yes (c .before .before .before)) false (sym (c .if1 .left) ∙ c .before .is-proof .ensures)
+
+pub check-accepted-spec : {M : Type 1} → statement M
+check-accepted-spec =
+    tie.close
+    (tie.spec
+    ask-set-of-requires
+    enum-known-of-set
+    returns
+    enum-told
+    ask-row-of-requires
+    enum-known-of-row
+    returns-2
+    enum-told-2
+    cast-is-proof
+    cast-t12
+    is-proof-requires
+    returns-3
+    returns-4)

@@ -1,0 +1,62 @@
+-- `is_proof`: each way through the tests is a law of `Answering`.
+use borrow.Author.Needs.{needs}
+use mathlib.Core.Path.{_≡_, refl, sym, _∙_}
+use mathlib.Core.Bool.{true}
+use borrow.Author.Tests.{not-true, not-false}
+use denote.Ref.{now}
+use lib.ListN.{replicate}
+use Rattle.theory.specs.Check.{endsWith}
+use Rattle.reader.specs.Item.{maxFacts}
+use Rattle.reader.specs.Program.{programOf}
+use Rattle.rules.specs.Sets.{has}
+use Rattle.rules.specs.Rows.{rowOf}
+use Rattle.proofcheck.proofs.Holding.{steps-known}
+use Rattle.proofcheck.proofs.Answering.{ends-elsewhere, step-fails, constraints-decide}
+use Rattle.proofcheck.proofs.accepted.is_proof.Statement.{statement}
+use Rattle.proofcheck.proofs.accepted.is_proof.Tie as tie
+use Rattle.proofcheck.proofs.accepted.is_proof.Reads as reads
+use Rattle.proofcheck.proofs.accepted.is_proof.Lts as lts
+use Rattle.proofcheck.proofs.constraints.row_clear.Reads as row-clear-reads
+use Rattle.proofcheck.proofs.steps.ends_with.Reads as ends-with-reads
+use Rattle.proofcheck.proofs.steps.steps_hold.Reads as steps-hold-reads
+use Rattle.rules.proofs.index.index_rules.Reads as index-rules-reads
+
+ends : (c : tie.Else1) → endsWith (c .before .before .before .before .before .args .fact .0) (rowOf (now (c .before .before .before .before .before .args .proof))) ≡ true
+ends c = sym (c .before .ends-with .ensures) ∙ not-false _ (c .if1 .left)
+
+ends-with-requires : tie.Need-ends-with-requires
+ends-with-requires c κs = search needs
+
+returns : tie.Need-returns
+returns c = ends-elsewhere (programOf (now (c .before .before .before .before .before .args .file))) _ _ _ (sym (c .before .ends-with .ensures) ∙ not-true _ (c .if1 .taken))
+
+index-rules-requires : tie.Need-index-rules-requires
+index-rules-requires c κs = search needs
+
+steps-hold-requires : tie.Need-steps-hold-requires
+steps-hold-requires c κs = search needs
+
+returns-2 : tie.Need-returns-2
+returns-2 c = step-fails (programOf (now (c .before .before .before .before .before .before .before .before .before .before .before .args .file))) _ _ _ (ends (c .before .before .before .before .before .before)) _ (c .before .steps-hold .ensures .0) (not-true _ (c .if2 .taken))
+
+slice-aggregate-row-clear : tie.Need-slice-aggregate-row-clear
+slice-aggregate-row-clear c = sym (c .before .before .before .steps-hold .ensures .1 .1)
+
+row-clear-requires : tie.Need-row-clear-requires
+row-clear-requires c κs = (record { accepted = c .before .before .before .before .before .before .before .before .before .before .before .before .before .pre .0; counted = refl; indexed = c .before .before .before .before .before .before .index-rules .ensures }, steps-known (programOf (now (c .before .before .before .before .before .before .before .before .before .before .before .before .before .args .file))) (has (replicate maxFacts 0)) (rowOf (now (c .before .before .before .before .before .before .before .before .before .before .before .before .before .args .proof))) (sym (c .before .before .before .steps-hold .ensures .0) ∙ not-false _ (c .before .before .if2 .left)))
+
+returns-3 : tie.Need-returns-3
+returns-3 c = constraints-decide (programOf (now (c .before .before .before .before .before .before .before .before .before .before .before .before .before .before .args .file))) _ _ _ (ends (c .before .before .before .before .before .before .before .before .before)) _ (c .before .before .before .before .steps-hold .ensures .0) (not-false _ (c .before .before .before .if2 .left)) _ (c .before .before .before .before .steps-hold .ensures .1 .0) _ (c .row-clear .ensures)
+
+pub is-proof-spec : {M : Type 1} → statement M
+is-proof-spec =
+    tie.close
+    (tie.spec
+    ends-with-requires
+    returns
+    index-rules-requires
+    steps-hold-requires
+    returns-2
+    slice-aggregate-row-clear
+    row-clear-requires
+    returns-3)

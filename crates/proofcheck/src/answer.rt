@@ -1,0 +1,8 @@
+use reader::refusal::Refusal;
+
+// What the proof check answers of a row.
+pub enum Checked {
+    Yes,
+    No,
+    Refused(Refusal),
+}
