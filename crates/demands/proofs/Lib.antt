@@ -1,0 +1,6 @@
+pub mod Asking
+pub mod Own
+pub mod Demand1
+pub mod Reading
+pub mod Demand2
+pub mod Starred
