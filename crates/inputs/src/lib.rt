@@ -22,17 +22,17 @@ fn put_wide(out: &mut [u8], at: usize, kind: u8, number: u16)
     put(out, at + 2, (number % 256) as u8);
 }
 
-// An exception rule with the conclusion 0.
-fn put_rule(out: &mut [u8], at: usize, constraint: u8)
+// An exception rule.
+fn put_rule(out: &mut [u8], at: usize, conclusion: u8, constraint: u8)
     requires { ⌜ at < 65536 ⌝ }
 {
     put(out, at, 0x01);
-    put(out, at + 1, 0);
+    put(out, at + 1, conclusion);
     put(out, at + 2, 0x03);
     put(out, at + 3, constraint);
 }
 
-// A file of 255 facts and so many exception rules, whose constraints are by turns so many facts. Answers its length.
+// A file of 255 facts and so many exception rules with the conclusion 0, whose constraints are by turns so many facts. Answers its length.
 pub fn exceptions(out: &mut [u8], rules: u16, constraints: u16) -> usize
     requires { ⌜ (rules ≤ 600) × ((0 < constraints) × (constraints ≤ 255)) ⌝ }
 {
@@ -40,7 +40,28 @@ pub fn exceptions(out: &mut [u8], rules: u16, constraints: u16) -> usize
     put(out, 1, 255);
     let mut i: u16 = 0;
     while i < rules {
-        put_rule(out, 2 + 4 * (i as usize), (i % constraints % 256) as u8);
+        put_rule(out, 2 + 4 * (i as usize), 0, (i % constraints % 256) as u8);
+        i += 1;
+    }
+    put_wide(out, 2 + 4 * (rules as usize), 0x1F, rules);
+    5 + 4 * (rules as usize)
+}
+
+// A file of 255 facts and so many exception rules, each with the next fact as its conclusion and the one after as its constraint, by turns.
+// Answers its length.
+pub fn in_turn(out: &mut [u8], rules: u16) -> usize
+    requires { ⌜ rules ≤ 600 ⌝ }
+{
+    put(out, 0, 0x10);
+    put(out, 1, 255);
+    let mut i: u16 = 0;
+    while i < rules {
+        put_rule(
+            out,
+            2 + 4 * (i as usize),
+            (i % 255) as u8,
+            ((i + 1) % 255) as u8,
+        );
         i += 1;
     }
     put_wide(out, 2 + 4 * (rules as usize), 0x1F, rules);

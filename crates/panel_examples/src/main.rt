@@ -1,8 +1,7 @@
 // The panel's text for empty input, for each file that document 01 refuses, and for its examples.
-mod build;
 mod report;
 
-use build::FILE_ROOM;
+use inputs::FILE_ROOM;
 use report::text;
 
 // The refusals of document 01.
@@ -20,10 +19,10 @@ fn refused() {
 // Those that need many bytes: one rule too many, and one byte too many. 512 rules pass.
 fn large() {
     let mut bytes = [0u8; FILE_ROOM];
-    let n = build::exceptions(&mut bytes, 513);
-    text(b"513 rules", build::part(&bytes, n));
-    let n = build::exceptions(&mut bytes, 512);
-    text(b"512 rules", build::part(&bytes, n));
+    let n = inputs::in_turn(&mut bytes, 513);
+    text(b"513 rules", inputs::part(&bytes, n));
+    let n = inputs::in_turn(&mut bytes, 512);
+    text(b"512 rules", inputs::part(&bytes, n));
     let longest = [0x02u8; 32768];
     text(b"32,768 bytes", &longest);
 }

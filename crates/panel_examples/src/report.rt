@@ -1,4 +1,3 @@
-use crate::build;
 use libc::STDOUT_FILENO;
 use panel_text::text::TEXT_ROOM;
 
@@ -12,7 +11,7 @@ pub fn text(name: &[u8], file: &[u8]) {
     title(name);
     let mut room = [0u8; TEXT_ROOM];
     let n = panel_text::render(file, &mut room);
-    io::write_all(STDOUT_FILENO, build::part(&room, n));
+    io::write_all(STDOUT_FILENO, inputs::part(&room, n));
 }
 
 // The length that was answered, and the whole room.
