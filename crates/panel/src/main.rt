@@ -4,9 +4,10 @@ ghost use Rattle.panel.specs.Input.{Inside};
 use libc::STDIN_FILENO;
 use libc::STDOUT_FILENO;
 use panel_text::text::TEXT_ROOM;
+use reader::questions::MAX_BYTES;
 
 // One byte more than a file may have, so that a file that is too long is told apart.
-const INPUT_ROOM: usize = 32768;
+const INPUT_ROOM: usize = MAX_BYTES + 1;
 
 // What was read: so many bytes, or a read failed.
 enum Input {

@@ -15,9 +15,9 @@ use Rattle.reader.specs.Questions.{firstNo}
 use Rattle.rules.specs.Orders.{each}
 use Rattle.run.specs.Outcome.{over}
 
--- A digit, and a number in decimal digits; k is at least the number of digits less one.
+-- A digit, and a number in decimal digits. No number n has more than n + 1 digits, so k from n up is enough.
 abbrev pub digit : ℕ → List ℕ
-digit d = (48 + d) ∷ []
+digit d = (0x30 + d) ∷ []
 
 abbrev pub digits : ℕ → ℕ → List ℕ
 digits zero n = digit n

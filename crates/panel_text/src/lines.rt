@@ -70,7 +70,7 @@ fn put_marked(
     at
 }
 
-// All lines. No line A stands before the last where none was written.
+// All lines. A line A was written exactly where the place has moved.
 pub fn put_left(
     out: &mut [u8],
     facts: u16,

@@ -1,9 +1,10 @@
 -- `main`: what was read lies inside the input's room, and the text inside its own.
-use Prim.Native.Nat.{ℕ, _≤_}
+use Prim.Native.Nat.{ℕ, _+_, _≤_}
 use mathlib.Core.Path.{sym}
 use native.Mathlib.Omega.{arith}
 use lib.ListN.{length, length-replicate}
 use lib.Seq.{length-take-le}
+use Rattle.reader.specs.Questions.{maxBytes}
 use borrow.Author.Needs.{needs}
 use Rattle.panel.proofs.main.Statement.{statement}
 use Rattle.panel.proofs.main.Tie as tie
@@ -11,8 +12,8 @@ use Rattle.panel.proofs.main.Tie as tie
 -- what was read lies inside the room
 inside : (c : tie.After-known-told) → c .before .n .given .0 .0 ≤ length (c .before .before .before .before .read-input .last .0)
 inside c =
-    let read : c .before .n .given .0 .0 ≤ 32768 = rw (c .before .n .given .1) at (c .before .before .before .before .read-input .ensures) in
-    omega (arith, c .before .before .before .before .read-input .kept .0, length-replicate {A = ℕ} 32768 0)
+    let read : c .before .n .given .0 .0 ≤ maxBytes + 1 = rw (c .before .n .given .1) at (c .before .before .before .before .read-input .ensures) in
+    omega (arith, c .before .before .before .before .read-input .kept .0, length-replicate {A = ℕ} (maxBytes + 1) 0)
 
 slice-aggregate-read-input : tie.Need-slice-aggregate-read-input
 slice-aggregate-read-input c = search needs
