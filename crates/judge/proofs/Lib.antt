@@ -2,4 +2,3 @@ pub mod Listing
 pub mod Reducing
 pub mod Least
 pub mod Answering
-pub mod Meaning

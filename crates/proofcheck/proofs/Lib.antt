@@ -2,4 +2,3 @@ pub mod Ending
 pub mod Holding
 pub mod Clearing
 pub mod Answering
-pub mod Meaning
