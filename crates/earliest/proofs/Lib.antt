@@ -1,0 +1,5 @@
+pub mod Listed
+pub mod Branching
+pub mod Finding
+pub mod Listing
+pub mod Hunting

@@ -1,0 +1,42 @@
+-- A branch of the search for the earliest stable set, as the tables show it.
+use Prim.Native.Nat.{ℕ, _<_, _≤_}
+use mathlib.Core.Path.{_≡_}
+use mathlib.Core.Bool.{Bool, true, false, not, _&&_}
+use mathlib.Core.List.{List}
+use mathlib.Core.Option.{Option, none, some}
+use lib.ListN.{length, take, drop}
+use Rattle.theory.specs.Lists.{mem}
+use Rattle.theory.specs.Rule.{Program, FactSet, everyRule}
+use Rattle.theory.specs.Stable.{leastOf}
+use Rattle.theory.specs.Search.{guessed}
+use Rattle.reader.specs.Item.{maxFacts}
+use Rattle.rules.specs.Sets.{has}
+use Rattle.literals.specs.Literal.{outside}
+use Rattle.propagation.specs.State.{Settled}
+
+-- The most constraint facts that are guessed (question 40).
+abbrev pub maxGuessed : ℕ
+maxGuessed = 16
+
+-- the facts of the row that are decided and not held out
+abbrev pub heldIn : List ℕ → ℕ → List ℕ → FactSet
+heldIn row decided low k = mem k (take decided row) && not (has low (outside k))
+
+-- The first facts of the row are decided, each held out or in. `low` marks what is derived from those held out alone, and so whatever the
+-- others turn out to be; `high` marks what is derived if all the others are held out too, the most that can be derived.
+pub record Branch (P : Program) (row : List ℕ) (decided : ℕ) (low missing high : List ℕ) : Type 0 where
+  pub guesses : row ≡ guessed P everyRule
+  pub reached : decided ≤ length row
+  pub settled : Settled P low missing
+  pub undecided-free : (k : ℕ) → mem k (drop decided row) ≡ true → has low (outside k) ≡ false
+  pub most : (f : ℕ) → f < maxFacts → has high f ≡ leastOf P everyRule (heldIn row decided low) f
+
+-- Whether a set was found, and then the bytes show it.
+abbrev pub Shown : Option FactSet → Bool → List ℕ → Type 0
+Shown none r bytes = r ≡ false
+Shown (some M) r bytes = (r ≡ true) × (has bytes ≡ M)
+
+-- the facts that the marks show, in bytes for the facts alone
+pub record Kept (marks bytes : List ℕ) : Type 0 where
+  pub places : length bytes ≡ maxFacts
+  pub facts : (f : ℕ) → f < maxFacts → has bytes f ≡ has marks f

@@ -1,0 +1,29 @@
+// The facts to guess. Internal.
+ghost use Prim.Native.Nat.{_≤_};
+ghost use mathlib.Core.Path.{_≡_};
+ghost use lib.ListN.{length, take};
+ghost use Rattle.theory.specs.Lists.{howMany, keep, upTo, downFrom};
+ghost use Rattle.reader.specs.Item.{maxFacts};
+ghost use Rattle.rules.specs.Sets.{has};
+ghost use Rattle.earliest.specs.Branch.{maxGuessed};
+use reader::rules::MAX_FACTS;
+
+// The most constraint facts that are guessed.
+pub const MAX_GUESSED: usize = 16;
+
+// Lists the marked facts below a number, from the highest down. Answers how many there are.
+pub fn list_down(marks: &[u8; MAX_FACTS], facts: usize, row: &mut [u16; MAX_GUESSED]) -> usize
+    requires { ⌜ (facts ≤ maxFacts) × (howMany (has (now marks)) (upTo facts) ≤ maxGuessed) × (length (now row) ≡ maxGuessed) ⌝ }
+    ensures { λ r. ⌜ (r ≤ maxGuessed) × (take r (now (row .exit)) ≡ keep (has (now (marks .entry))) (downFrom facts)) ⌝ }
+{
+    let mut n: usize = 0;
+    let mut f = facts;
+    while f > 0 {
+        f -= 1;
+        if marks[f] == 1 {
+            row[n] = f as u16;
+            n += 1;
+        }
+    }
+    n
+}

@@ -1,0 +1,148 @@
+// The branches of the search, one within another. Internal.
+ghost use Prim.Native.Nat.{_<_, _≤_};
+ghost use mathlib.Core.Path.{_≡_};
+ghost use mathlib.Core.Bool.{true, cond, not};
+ghost use mathlib.Core.Option.{Option·map};
+ghost use lib.Dec.{ltb};
+ghost use lib.ListN.{length, take, drop};
+ghost use Rattle.theory.specs.Lists.{all};
+ghost use Rattle.theory.specs.Rule.{everyRule};
+ghost use Rattle.theory.specs.Stable.{leastOf};
+ghost use Rattle.theory.specs.Bounds.{huntAlive};
+ghost use Rattle.reader.specs.Item.{maxFacts};
+ghost use Rattle.reader.specs.Program.{programOf};
+ghost use Rattle.rules.specs.Sets.{has};
+ghost use Rattle.literals.specs.Literal.{outside};
+ghost use Rattle.propagation.specs.State.{Ready};
+ghost use Rattle.earliest.specs.Branch.{heldIn, Branch, Shown, Kept};
+use literals::tables::LITERALS;
+use literals::tables::SLOTS;
+use propagation::hold::hold_out;
+use reader::rules::MAX_FACTS;
+use rules::index::MAX_RULES;
+
+// A fact held out is not derived already, or a fact held in can still be derived.
+fn stands(low: &[u8; LITERALS], high: &[u8; LITERALS], fact: usize) -> bool
+    requires { ⌜ fact < maxFacts ⌝ }
+    ensures { λ r. ⌜ r ≡ cond (has (now (low .entry)) (outside fact)) (not (has (now (low .entry)) fact)) (has (now (high .entry)) fact) ⌝ }
+{
+    if low[MAX_FACTS + fact] == 1 {
+        low[fact] != 1
+    } else {
+        high[fact] == 1
+    }
+}
+
+// Does each fact that is decided stand as it was decided?
+fn is_alive(row: &[u16], decided: usize, low: &[u8; LITERALS], high: &[u8; LITERALS]) -> bool
+    requires { ⌜ (decided ≤ length (now row)) × (all (λ k. ltb k maxFacts) (now row) ≡ true) ⌝ }
+    ensures { λ r. ⌜ r ≡ all (λ k. cond (has (now (low .entry)) (outside k)) (not (has (now (low .entry)) k)) (has (now (high .entry)) k)) (take decided (now (row .entry))) ⌝ }
+{
+    let mut n: usize = 0;
+    while n < decided {
+        if !stands(low, high, row[n] as usize) {
+            return false;
+        }
+        n += 1;
+    }
+    true
+}
+
+// Hands the facts marked over to the caller.
+fn keep_facts(marks: &[u8; LITERALS], found: &mut [u8; MAX_FACTS])
+    requires { ⌜ length (now found) ≡ maxFacts ⌝ }
+    ensures { λ _. ⌜ Kept (now (marks .entry)) (now (found .exit)) ⌝ }
+{
+    let mut f: usize = 0;
+    while f < MAX_FACTS {
+        found[f] = marks[f];
+        f += 1;
+    }
+}
+
+// Looks for the first guess that fits, in a branch where the first facts of the row are decided: the next one out before in. `low` marks what
+// is derived from the facts held out, with what each rule then misses, and `high` what is derived if all that are not decided are held out too.
+// A fact held out changes only the first, and a fact held in only the second.
+pub fn hunt(
+    file: &[u8],
+    starts: &[u16; MAX_RULES],
+    heads: &[u16; LITERALS],
+    links: &[u16; SLOTS],
+    owners: &[u16; SLOTS],
+    row: &[u16],
+    decided: usize,
+    low: &[u8; LITERALS],
+    missing: &[u16; MAX_RULES],
+    high: &[u8; LITERALS],
+    found: &mut [u8; MAX_FACTS],
+) -> bool
+    requires { ⌜ Ready (now file) (now starts) (now heads) (now links) (now owners) ⌝ }
+    requires { ⌜ Branch (programOf (now file)) (now row) decided (now low) (now missing) (now high) ⌝ }
+    requires { ⌜ length (now found) ≡ maxFacts ⌝ }
+    ensures { λ r. ⌜ Shown (Option·map (leastOf (programOf (now (file .entry))) everyRule) (huntAlive (programOf (now (file .entry))) everyRule (drop decided (now (row .entry))) (heldIn (now (row .entry)) decided (now (low .entry))))) r (now (found .exit)) ⌝ }
+    ensures { λ _. ⌜ length (now (found .exit)) ≡ maxFacts ⌝ }
+{
+    if !is_alive(row, decided, low, high) {
+        return false;
+    }
+    if decided == row.len() {
+        keep_facts(high, found);
+        return true;
+    }
+    let mut marks = *low;
+    let mut left = *missing;
+    hold_out(
+        file,
+        starts,
+        heads,
+        links,
+        owners,
+        row,
+        decided,
+        decided + 1,
+        &mut marks,
+        &mut left,
+    );
+    if hunt(
+        file,
+        starts,
+        heads,
+        links,
+        owners,
+        row,
+        decided + 1,
+        &marks,
+        &left,
+        high,
+        found,
+    ) {
+        return true;
+    }
+    let mut most = *low;
+    let mut rest = *missing;
+    hold_out(
+        file,
+        starts,
+        heads,
+        links,
+        owners,
+        row,
+        decided + 1,
+        row.len(),
+        &mut most,
+        &mut rest,
+    );
+    hunt(
+        file,
+        starts,
+        heads,
+        links,
+        owners,
+        row,
+        decided + 1,
+        low,
+        missing,
+        &most,
+        found,
+    )
+}
