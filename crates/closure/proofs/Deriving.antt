@@ -28,7 +28,8 @@ use Rattle.rules.proofs.Sets.{past-end, marked}
 use Rattle.closure.specs.declared.found.Found.the-variants.{At}
 use Rattle.closure.specs.Steps.{stepBytes, foundOf}
 use Rattle.closure.specs.Known.{Known, Room}
-use Rattle.closure.proofs.Placed.{placed-none, placed-length, placed-more, paint-self, paint-marked, has-painted}
+use Rattle.rules.proofs.Putting.{placed-none, placed-length, placed-more}
+use Rattle.closure.proofs.Painted.{paint-self, paint-marked, has-painted}
 use Rattle.closure.proofs.Ready.{found-at, rules-known, facts-bounded, read-conclusion, conclusion-few}
 
 -- One step, and none, of `derive` and its steps.

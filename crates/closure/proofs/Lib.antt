@@ -1,3 +1,3 @@
-pub mod Placed
+pub mod Painted
 pub mod Ready
 pub mod Deriving

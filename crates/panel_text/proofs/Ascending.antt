@@ -1,16 +1,16 @@
 -- The ascending order: what is written, and that it gets yes to the questions on an order.
 use Prim.Native.Nat.{ℕ, _*_, _≤_}
 use native.Mathlib.Omega.{arith}
-use mathlib.Core.Path.{_≡_, refl, ap, ap₂, _∙_}
-use mathlib.Core.Bool.{Bool, true, false, not, _||_}
+use mathlib.Core.Path.{_≡_, ap, ap₂, _∙_}
+use mathlib.Core.Bool.{Bool}
 use mathlib.Core.List.{List}
 use mathlib.Core.Option.{Option, none}
 use borrow.Author.Tests.{le-leb}
 use lib.ListN.{replicate}
-use Rattle.theory.specs.Lists.{all, mem, keep, upTo}
+use Rattle.theory.specs.Lists.{mem, keep, upTo}
 use Rattle.theory.specs.Rule.{Program, count, exception}
-use Rattle.theory.proofs.Bools.{and-right}
-use Rattle.theory.proofs.Lists.{all-of, mem-keep}
+use Rattle.theory.proofs.Bools.{and-right, and-both}
+use Rattle.theory.proofs.Lists.{all-of, mem-keep, upTo-mem}
 use Rattle.reader.specs.declared.refusal.Refusal.{Refusal}
 use Rattle.reader.specs.Item.{stepWidth, maxFacts}
 use Rattle.reader.specs.Program.{programOf}
@@ -21,30 +21,23 @@ use Rattle.reader.proofs.Accepted.{accepted-file, rules-few, facts-below}
 use Rattle.rules.specs.Sets.{has}
 use Rattle.rules.specs.Questions.{firstOf, orderNo}
 use Rattle.rules.proofs.Asking.{file-accepted}
-use Rattle.rules.proofs.Orders.{naming-names, list-yes, keep-once}
+use Rattle.rules.proofs.Orders.{keep-once, order-yes}
 use Rattle.rules.proofs.Sets.{has-kinds}
 use Rattle.run.specs.Outcome.{buffersNo, runNo}
 use Rattle.panel_text.specs.Text.{ascending}
-use Rattle.rules.specs.Orders.{naming}
-use Rattle.panel_text.specs.Left.{marked}
+use Rattle.rules.specs.Orders.{naming, marked}
 
 -- The exception rules as marked, ascending.
 pub marked-kinds : (s kinds : List ℕ) (n : ℕ) → _≡_ {A = Option Refusal} (firstNo s) none → kinds ≡ paint (exception (programOf s)) (replicate maxRules 0) → n ≡ count (programOf s) → marked 1 kinds n ≡ ascending (programOf s)
 unfolding marked has
 marked-kinds s kinds n a k e = ap₂ (λ (g : ℕ → Bool) (m : ℕ). keep g (upTo m)) (ap has k ∙ has-kinds s a) e
 
--- Every rule that passes is named.
-names-all : (known : ℕ → Bool) (n : ℕ) → all (λ i. not (known i) || mem i (keep known (upTo n))) (upTo n) ≡ true
-names-all known n = all-of (λ i. not (known i) || mem i (keep known (upTo n))) (upTo n) (λ i m. rw (mem-keep known (upTo n) i, m) (tests (known i)))
-  where
-    tests : (b : Bool) → not b || b ≡ true
-    tests true = refl
-    tests false = refl
-
-order-yes : (known : ℕ → Bool) (n : ℕ) → _≡_ {A = Option Refusal} (orderNo known n (naming (keep known (upTo n)))) none
-unfolding orderNo
-order-yes known n =
-    rw (list-yes known (keep known (upTo n)) (all-of known (keep known (upTo n)) (λ i m. and-right (mem i (upTo n)) (known i) (rw (mem-keep known (upTo n) i) at m))) (keep-once known 0 n), naming-names (keep known (upTo n)), names-all known n)
+ascending-yes : (known : ℕ → Bool) (n : ℕ) → _≡_ {A = Option Refusal} (orderNo known n (naming (keep known (upTo n)))) none
+ascending-yes known n =
+    order-yes known n (keep known (upTo n))
+    (all-of known (keep known (upTo n)) (λ i m. and-right (mem i (upTo n)) (known i) (rw (mem-keep known (upTo n) i) at m)))
+    (keep-once known 0 n)
+    (λ i h k. rw (mem-keep known (upTo n) i) (and-both (upTo-mem n i h) k))
 
 -- Working memory for every fact and every rule is large enough.
 buffers-yes : (P : Program) → P .facts ≤ maxFacts → count P ≤ maxRules → _≡_ {A = Option Refusal} (buffersNo P maxFacts maxRules (maxFacts * stepWidth)) none
@@ -59,4 +52,4 @@ run-yes s b a =
     let t = accepted-file s a in
     let P = programOf s in
     file-accepted s (λ Q. firstOf (orderNo (exception Q) (count Q) (naming (ascending P))) (buffersNo Q maxFacts maxRules (maxFacts * stepWidth))) a
-    ∙ ap₂ firstOf (order-yes (exception P) (count P)) (buffers-yes P (omega (arith, facts-below t b)) (rules-few t))
+    ∙ ap₂ firstOf (ascending-yes (exception P) (count P)) (buffers-yes P (omega (arith, facts-below t b)) (rules-few t))

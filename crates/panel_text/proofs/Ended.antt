@@ -2,9 +2,9 @@
 use Prim.Native.Nat.{ℕ, zero, suc, _+_, _*_, _≤_, _<_}
 use native.Mathlib.Omega.{arith}
 use native.Mathlib.Nat.{add-zero, zero-add}
-use mathlib.Core.Path.{_≡_, refl, sym, ap, ap₂, _∙_}
+use mathlib.Core.Path.{_≡_, refl, sym, ap, _∙_}
 use mathlib.Core.Bool.{Bool, true, false, cond}
-use mathlib.Core.List.{List, [], _∷_, _++_, map}
+use mathlib.Core.List.{List, _++_, map}
 use mathlib.Core.Option.{Option, none, some}
 use lib.ListN.{length, getD, take, drop, replicate, length-append, length-map, length-replicate}
 use lib.Seq.{take-at}
@@ -15,48 +15,34 @@ use Rattle.theory.specs.Derive.{Step as Taken}
 use Rattle.theory.specs.Chaining.{Supported}
 use Rattle.theory.specs.Run.{Stand, run, factMark, factMarks, ruleMark, ruleMarks, setAside, stageCount, stepCount}
 use Rattle.theory.proofs.Bools.{never, false-of}
-use Rattle.theory.proofs.Lists.{mem-here, mem-there, mem-upTo, length-range}
+use Rattle.theory.proofs.Lists.{mem-upTo, length-range}
 use Rattle.theory.proofs.Run.{Sound, not-both, run-sound}
 use Rattle.theory.proofs.Marks.{aside-supported, aside-exception}
 use Rattle.reader.specs.declared.refusal.Refusal.{Refusal}
 use Rattle.reader.specs.Refusal.{number}
 use Rattle.reader.specs.Item.{stepWidth, maxFacts}
-use Rattle.reader.specs.Cursor.{itemsAt}
 use Rattle.reader.specs.Program.{programOf}
 use Rattle.reader.specs.Questions.{maxRules, firstNo}
 use Rattle.reader.proofs.EachKind.{Bytes}
 use Rattle.reader.proofs.Accepted.{accepted-file, rules-few, facts-below, bounded}
-use Rattle.reader.proofs.Written.{step-item-first}
 use Rattle.closure.specs.Steps.{stepBytes}
 use Rattle.run.specs.declared.answer.Ran.{Ran}
 use Rattle.run.specs.declared.answer.Ran.the-variants.{Done, Refused}
 use Rattle.run.specs.Outcome.{Outcome, over, written, outcome}
 use Rattle.run.proofs.Answered.{outcome-written}
 use Rattle.run.proofs.Paced.{Paced, run-paced}
-use Rattle.run.proofs.Written.{over-length, step-bytes-length}
+use Rattle.run.proofs.Written.{over-length, step-bytes-length, steps-read}
 use Rattle.panel_text.specs.Text.{line, asideRules, runText, ascending, panelText}
-use Rattle.rules.specs.Rows.{stepsOf, rowOf}
-use Rattle.rules.specs.Orders.{naming}
-use Rattle.panel_text.specs.Left.{marked, leftText, Tables}
-use Rattle.rules.proofs.Orders.{naming-names}
+use Rattle.rules.specs.Rows.{rowOf}
+use Rattle.rules.specs.Orders.{naming, marked}
+use Rattle.panel_text.specs.Left.{leftText, Tables}
+use Rattle.rules.proofs.Orders.{keep-same, naming-names}
 use Rattle.panel_text.proofs.Ascending.{run-yes}
-
--- The steps that were written are read.
-steps-read : (row : List Taken) → rowOf (stepBytes row) ≡ row
-unfolding itemsAt
-steps-read [] = refl
-steps-read (s ∷ row) =
-    ap stepsOf (step-item-first (s .fact) (s .by) (stepBytes row)) ∙ ap (λ (r : List Taken). s ∷ r) (steps-read row)
 
 front-steps : (row : List Taken) (room : List ℕ) → rowOf (take (length row * stepWidth) (over (stepBytes row) room)) ≡ row
 front-steps row room =
     ap rowOf (take-at (stepBytes row) (drop (length (stepBytes row)) room) (length row * stepWidth) (omega (arith, step-bytes-length row)))
     ∙ steps-read row
-
-keep-same : (p q : ℕ → Bool) (xs : List ℕ) → ((x : ℕ) → mem x xs ≡ true → p x ≡ q x) → keep p xs ≡ keep q xs
-keep-same p q [] h = refl
-keep-same p q (x ∷ xs) h =
-    ap₂ (λ (b : Bool) (l : List ℕ). cond b (x ∷ l) l) (h x (mem-here x xs)) (keep-same p q xs (λ y m. h y (mem-there y x xs m)))
 
 mark-at : (f : ℕ → ℕ) (a n : ℕ) (ys : List ℕ) (i : ℕ) → i < n → getD (map f (range a n) ++ ys) i 0 ≡ f (a + i)
 mark-at f a zero ys i h = absurd (omega arith)

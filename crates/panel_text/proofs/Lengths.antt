@@ -23,10 +23,9 @@ use Rattle.reader.specs.Write.{ruleItem}
 use Rattle.reader.proofs.EachKind.{Bytes}
 use Rattle.reader.proofs.Accepted.{accepted-file, rules-few, facts-below, bounded}
 use Rattle.run.proofs.Paced.{Paced, run-paced}
-use Rattle.rules.specs.Orders.{each}
-use Rattle.panel_text.specs.Text.{newline, spaced, field, line, headLine, stepLine, lastLine, rejectedFacts, asideRules, runText, ascending}
-use Rattle.rules.specs.Orders.{naming}
-use Rattle.panel_text.specs.Put.{Fits, Put, textRoom}
+use Rattle.rules.specs.Orders.{each, naming}
+use Rattle.panel_text.specs.Text.{newline, spaced, field, line, headLine, stepLine, lastLine, rejectedFacts, asideRules, runText, ascending, textRoom}
+use Rattle.rules.specs.Put.{Fits, Put}
 use Rattle.panel_text.proofs.Decimal.{three-digits}
 
 -- A number of at most three digits.

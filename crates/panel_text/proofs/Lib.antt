@@ -1,6 +1,4 @@
 pub mod Decimal
-pub mod Putting
-pub mod Passing
 pub mod Stepping
 pub mod Showing
 pub mod Ascending

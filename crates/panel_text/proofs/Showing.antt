@@ -12,7 +12,7 @@ use lib.Seq.{paste, paste-zero, paste-suc, take-all, take-append-seam}
 use lib.Dec.{leb}
 use Rattle.run.specs.Outcome.{over}
 use Rattle.panel_text.specs.Text.{shown}
-use Rattle.panel_text.specs.Put.{Put}
+use Rattle.rules.specs.Put.{Put}
 
 -- The first i bytes are copied.
 pub record Copying (text before now : List ℕ) (i : ℕ) : Type 0 where

@@ -16,8 +16,8 @@ use Rattle.rules.proofs.Rows.{NotStep, no-step}
 use Rattle.rules.specs.Orders.{each}
 use Rattle.panel_text.specs.Text.{stepLine}
 use Rattle.rules.specs.Rows.{stepOf, stepsOf, rowOf}
-use Rattle.panel_text.specs.Put.{Fits, Put}
-use Rattle.panel_text.proofs.Putting.{Putting, ended, nothing-put, next-fits, one-put}
+use Rattle.rules.specs.Put.{Fits, Put}
+use Rattle.rules.proofs.Putting.{Putting, ended, nothing-put, next-fits, one-put}
 
 -- the lines of the steps from a cursor on
 abbrev toCome : List ℕ → Cursor → List ℕ

@@ -1,18 +1,12 @@
 -- The text by the bytes that a run leaves.
 use Prim.Native.Nat.{ℕ, _≤_}
 use mathlib.Core.List.{List, _++_}
-use lib.ListN.{length, getD}
-use lib.Dec.{eqb}
-use Rattle.theory.specs.Lists.{keep, upTo}
+use lib.ListN.{length}
 use Rattle.theory.specs.Rule.{null}
 use Rattle.reader.specs.Questions.{maxRules}
 use Rattle.rules.specs.Rows.{rowOf}
-use Rattle.rules.specs.Orders.{each}
+use Rattle.rules.specs.Orders.{each, marked}
 use Rattle.panel_text.specs.Text.{headLine, stepLine, line, lastLine}
-
--- the numbers below n at whose place the marks have m, ascending
-unfoldable pub marked : ℕ → List ℕ → ℕ → List ℕ
-marked m marks n = keep (λ i. eqb (getD marks i 0) m) (upTo n)
 
 -- The lines by the counts, the marks and the row of steps.
 unfoldable pub leftText : ℕ → ℕ → ℕ → List ℕ → List ℕ → List ℕ → List ℕ

@@ -88,3 +88,7 @@ panelText file =
 -- The text in a buffer: written to its front exactly where it fits.
 abbrev pub shown : List ℕ → List ℕ → List ℕ
 shown text room = cond (leb (length text) (length room)) (over text room) room
+
+-- Every text of the panel has room in so many bytes.
+abbrev pub textRoom : ℕ
+textRoom = 8192

@@ -2,8 +2,7 @@
 ghost use mathlib.Core.Path.{_≡_};
 ghost use Prim.Native.Nat.{_≤_};
 ghost use lib.ListN.{length};
-ghost use Rattle.panel_text.specs.Text.{panelText, shown};
-ghost use Rattle.panel_text.specs.Put.{textRoom};
+ghost use Rattle.panel_text.specs.Text.{panelText, shown, textRoom};
 
 pub mod lines;
 pub mod order;

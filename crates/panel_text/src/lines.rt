@@ -2,11 +2,11 @@
 ghost use Prim.Native.Nat.{_≤_};
 ghost use lib.ListN.{length};
 ghost use Rattle.reader.specs.Questions.{maxRules};
-ghost use Rattle.rules.specs.Orders.{each};
+ghost use Rattle.rules.specs.Orders.{each, marked};
 ghost use Rattle.panel_text.specs.Text.{line, stepLine};
 ghost use Rattle.rules.specs.Rows.{rowOf};
-ghost use Rattle.panel_text.specs.Left.{marked, leftText, Tables};
-ghost use Rattle.panel_text.specs.Put.{Fits, Put};
+ghost use Rattle.panel_text.specs.Left.{leftText, Tables};
+ghost use Rattle.rules.specs.Put.{Fits, Put};
 use crate::put::put_head;
 use crate::put::put_last;
 use crate::put::put_line;

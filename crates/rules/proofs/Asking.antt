@@ -44,6 +44,16 @@ module _ (s : List ℕ) (rest : Program → Option Refusal) where
   pub file-accepted : _≡_ {A = Option Refusal} (firstNo s) none → _≡_ {A = Option Refusal} (ofFile s rest) (rest (programOf s))
   file-accepted e = rw (accepts s e, ofFile)
 
+  -- A yes to all is a yes to the file's own questions and to the rest.
+  pub file-passes : _≡_ {A = Option Refusal} (ofFile s rest) none → (_≡_ {A = Option Refusal} (firstNo s) none) × (_≡_ {A = Option Refusal} (rest (programOf s)) none)
+  file-passes e = go (firstNo s) refl
+    where
+      go : (o : Option Refusal) → firstNo s ≡ o → (_≡_ {A = Option Refusal} (firstNo s) none) × (_≡_ {A = Option Refusal} (rest (programOf s)) none)
+      go none q = (q, sym (file-accepted q) ∙ e)
+      go (some r) q =
+          let refusal : ofFile s rest ≡ some r = rw (refuses s r q, ofFile) in
+          absurd (let z : _≡_ {A = ℕ} 0 1 = cc in omega arith)
+
 -- The ways of the questions on a fact set.
 module _ (n : ℕ) (set : List ℕ) where
   pub wrong-length : (length set ≡ n → ⊥) → setNo n set ≡ some WrongSetLength
@@ -135,7 +145,7 @@ yes-to-set n set e =
     let a = all-asked _ (eqb (length set) n) _ e in
     (eqb-true _ _ (a .0), all-asked _ (zeroOrOne set) _ (a .1) .0)
 
-both-none : (a b : Option Refusal) → _≡_ {A = Option Refusal} (firstOf a b) none → (_≡_ {A = Option Refusal} a none) × (_≡_ {A = Option Refusal} b none)
+pub both-none : (a b : Option Refusal) → _≡_ {A = Option Refusal} (firstOf a b) none → (_≡_ {A = Option Refusal} a none) × (_≡_ {A = Option Refusal} b none)
 both-none none b e = (refl, e)
 both-none (some r) b e = absurd (let z : _≡_ {A = ℕ} 0 1 = cc in omega arith)
 

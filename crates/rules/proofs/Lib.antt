@@ -6,3 +6,5 @@ pub mod Naming
 pub mod Asking
 pub mod Orders
 pub mod Rows
+pub mod Putting
+pub mod Passing

@@ -1,22 +1,25 @@
 -- An order or a list that is written names what was written, and gets yes where each rule is known and named once.
-use Prim.Native.Nat.{ℕ, zero, suc, _+_, _≤_, _<_}
+use Prim.Native.Nat.{ℕ, zero, suc, _+_, _*_, _≤_, _<_}
 use native.Mathlib.Omega.{arith}
-use mathlib.Core.Path.{_≡_, refl, ap, _∙_}
-use mathlib.Core.Bool.{Bool, true, false, cond}
+use mathlib.Core.Path.{_≡_, refl, ap, ap₂, _∙_}
+use mathlib.Core.Bool.{Bool, true, false, cond, not, _||_}
 use mathlib.Core.List.{List, [], _∷_, _++_}
 use mathlib.Core.Logic.{⊎-elim}
-use mathlib.Core.Option.{Option, none, some}
+use mathlib.Core.Option.{Option, none}
 use borrow.Author.Tests.{eqb-true}
+use lib.ListN.{length}
 use lib.Dec.{eqb}
-use Rattle.theory.specs.Lists.{all, mem, keep, range}
+use Rattle.theory.specs.Lists.{all, mem, keep, range, upTo, howMany}
 use Rattle.theory.specs.Rule.{nothing, adjoin}
 use Rattle.theory.proofs.Bools.{never, and-left, and-right, false-of, or-cases}
-use Rattle.theory.proofs.Lists.{mem-keep, mem-range, mem-there, mem-here}
+use Rattle.theory.proofs.Lists.{all-of, mem-keep, mem-range, mem-upTo, mem-there, mem-here, eqb-self, howMany-less}
 use Rattle.theory.proofs.Run.{NoRepeat}
 use Rattle.reader.specs.declared.refusal.Refusal.{Refusal}
+use Rattle.reader.specs.Item.{nameWidth}
 use Rattle.reader.specs.Cursor.{itemsAt, orderStart}
+use Rattle.reader.specs.Write.{ruleItem}
 use Rattle.reader.proofs.Written.{rule-item-first}
-use Rattle.rules.specs.Questions.{whole, namesOf, namedIn, askNames, listNo}
+use Rattle.rules.specs.Questions.{whole, namesOf, namedIn, askNames, listNo, orderNo}
 use Rattle.rules.specs.Orders.{naming}
 use Rattle.rules.proofs.Naming.{first-named}
 
@@ -42,6 +45,12 @@ names-yes known seen (r ∷ rs) k n s =
         false-of (adjoin seen r x)
         (λ t. ⊎-elim (λ e. never (rw (eqb-true x r e) at m) (n .0)) (λ e. never e (s x (mem-there x r rs m))) (or-cases (eqb x r) _ t))
 
+-- what passes depends on the test alone
+pub keep-same : (p q : ℕ → Bool) (xs : List ℕ) → ((x : ℕ) → mem x xs ≡ true → p x ≡ q x) → keep p xs ≡ keep q xs
+keep-same p q [] h = refl
+keep-same p q (x ∷ xs) h =
+    ap₂ (λ (b : Bool) (l : List ℕ). cond b (x ∷ l) l) (h x (mem-here x xs)) (keep-same p q xs (λ y m. h y (mem-there y x xs m)))
+
 -- ascending numbers do not repeat
 pub keep-once : (p : ℕ → Bool) (a n : ℕ) → NoRepeat (keep p (range a n))
 keep-once p a zero = tt
@@ -60,3 +69,44 @@ pub list-yes : (known : ℕ → Bool) (rs : List ℕ) → all known rs ≡ true 
 unfolding listNo
 list-yes known rs k n =
     rw (naming-whole rs, naming-names rs) (names-yes known nothing rs k n (λ r m. refl))
+
+-- An order that names every known rule below n gets yes to 14 too.
+pub order-yes : (known : ℕ → Bool) (n : ℕ) (rs : List ℕ) → all known rs ≡ true → NoRepeat rs → ((i : ℕ) → i < n → known i ≡ true → mem i rs ≡ true) → _≡_ {A = Option Refusal} (orderNo known n (naming rs)) none
+unfolding orderNo
+order-yes known n rs k o every = rw (list-yes known rs k o, naming-names rs, names-all)
+  where
+    named : (a b : Bool) → (a ≡ true → b ≡ true) → not a || b ≡ true
+    named true b h = h refl
+    named false b h = refl
+
+    names-all : all (λ i. not (known i) || mem i rs) (upTo n) ≡ true
+    names-all = all-of (λ i. not (known i) || mem i rs) (upTo n) (λ i m. named (known i) (mem i rs) (every i (mem-upTo n i m)))
+
+-- What is named stands there.
+pub named-some : (r : ℕ) (rs : List ℕ) → mem r rs ≡ true → 0 < howMany (eqb r) rs
+named-some r rs m =
+    let more : howMany (λ _. false) rs < howMany (eqb r) rs = howMany-less (eqb r) (λ _. false) rs (λ x e. never e refl) r m (eqb-self r) refl in
+    omega arith
+
+-- Numbers that stand once at most do not repeat.
+pub once-each : (rs : List ℕ) → ((r : ℕ) → howMany (eqb r) rs ≤ 1) → NoRepeat rs
+once-each [] h = tt
+once-each (r ∷ rs) h = (false-of (mem r rs) not-again, once-each rs (λ x. rest x (eqb x r) (h x)))
+  where
+    not-again : mem r rs ≡ true → ⊥
+    not-again m =
+        let no-more : suc (howMany (eqb r) rs) ≤ 1 = rw (eqb-self r) at (h r) in
+        omega (arith, named-some r rs m)
+
+    rest : (x : ℕ) (b : Bool) → cond b (suc (howMany (eqb x) rs)) (howMany (eqb x) rs) ≤ 1 → howMany (eqb x) rs ≤ 1
+    rest x true l = omega arith
+    rest x false l = l
+
+-- Rows written one behind the other, and how long they are.
+pub naming-append : (xs ys : List ℕ) → naming (xs ++ ys) ≡ naming xs ++ naming ys
+naming-append [] ys = refl
+naming-append (x ∷ xs) ys = ap (λ (bytes : List ℕ). ruleItem x ++ bytes) (naming-append xs ys)
+
+pub naming-length : (rs : List ℕ) → length (naming rs) ≡ nameWidth * length rs
+naming-length [] = refl
+naming-length (r ∷ rs) = omega (arith, naming-length rs)

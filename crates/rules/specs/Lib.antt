@@ -5,3 +5,4 @@ pub mod Questions
 pub mod Named
 pub mod Orders
 pub mod Rows
+pub mod Put

@@ -7,3 +7,4 @@ pub mod names;
 pub mod order;
 pub mod row;
 pub mod rule;
+pub mod write;

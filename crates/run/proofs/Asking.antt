@@ -1,6 +1,6 @@
 -- The questions before a run, and what a yes to all of them tells.
 use Prim.Native.Nat.{ℕ, _*_, _≤_, _<_}
-use mathlib.Core.Path.{_≡_, refl, sym, ap, ap₂, _∙_}
+use mathlib.Core.Path.{_≡_, sym, ap, ap₂, _∙_}
 use mathlib.Core.Bool.{Bool}
 use mathlib.Core.List.{List}
 use mathlib.Core.Option.{Option, none, some}
@@ -18,13 +18,13 @@ use Rattle.reader.specs.Program.{programOf}
 use Rattle.reader.specs.Questions.{maxRules, firstNo}
 use Rattle.reader.specs.Rules.{paint}
 use Rattle.reader.specs.Verdict.{fileVerdict}
-use Rattle.reader.proofs.Accepted.{all-asked, refuses}
+use Rattle.reader.proofs.Accepted.{all-asked}
 use Rattle.reader.proofs.Answered.{PassedFile}
 use Rattle.rules.specs.declared.answer.Answer.the-variants.{Yes, No}
 use Rattle.rules.specs.Sets.{has}
 use Rattle.rules.specs.Answer.{answerOf}
-use Rattle.rules.specs.Questions.{namedIn, firstOf, listNo, orderNo, ofFile}
-use Rattle.rules.proofs.Asking.{file-refused, file-accepted, yes-to-list}
+use Rattle.rules.specs.Questions.{namedIn, firstOf, listNo, orderNo}
+use Rattle.rules.proofs.Asking.{file-refused, file-accepted, file-passes, both-none, yes-to-list}
 use Rattle.rules.proofs.Naming.{said-yes, said-no}
 use Rattle.rules.proofs.Sets.{has-kinds}
 use Rattle.stage.specs.Refused.{NamesOnly}
@@ -92,11 +92,6 @@ module _ (file order : List ℕ) (facts rules steps : ℕ) where
 pub counted : {s : List ℕ} {seen : Seen} → PassedFile s seen → seen ≡ countsOf (programOf s)
 counted p = λ j. record { facts = p .facts j; rules = p .rules j }
 
--- A yes to all is a yes to both.
-both-asked : (o rest : Option Refusal) → _≡_ {A = Option Refusal} (firstOf o rest) none → (_≡_ {A = Option Refusal} o none) × (_≡_ {A = Option Refusal} rest none)
-both-asked none rest e = (refl, e)
-both-asked (some r) rest e = absurd (let z : _≡_ {A = ℕ} 0 1 = cc in omega arith)
-
 -- What a run may rely on where all questions got yes.
 pub record AllYesses (file order : List ℕ) (facts rules steps : ℕ) : Type 0 where
   pub accepted : _≡_ {A = Option Refusal} (firstNo file) none
@@ -106,27 +101,18 @@ pub record AllYesses (file order : List ℕ) (facts rules steps : ℕ) : Type 0 
   pub steps-fit : stepWidth * programOf file .facts ≤ steps
 
 module _ (file order : List ℕ) (facts rules steps : ℕ) (e : _≡_ {A = Option Refusal} (runNo file order facts rules steps) none) where
-  file-yes : _≡_ {A = Option Refusal} (firstNo file) none
-  unfolding runNo
-  file-yes = go (firstNo file) refl
-    where
-      go : (o : Option Refusal) → firstNo file ≡ o → _≡_ {A = Option Refusal} (firstNo file) none
-      go none q = q
-      go (some r) q =
-          let refusal : runNo file order facts rules steps ≡ some r = rw (refuses file r q, ofFile) in
-          absurd (let z : _≡_ {A = ℕ} 0 1 = cc in omega arith)
-
   pub all-yes : AllYesses file order facts rules steps
-  unfolding buffersNo orderNo
+  unfolding runNo buffersNo orderNo
   all-yes =
       let P = programOf file in
-      let a = both-asked (orderNo (exception P) (count P) order) (buffersNo P facts rules steps) (sym (run-asks file order facts rules steps file-yes) ∙ e) in
-      let l = both-asked (listNo (exception P) order) _ (a .0) in
+      let t = file-passes file (λ Q. firstOf (orderNo (exception Q) (count Q) order) (buffersNo Q facts rules steps)) e in
+      let a = both-none (orderNo (exception P) (count P) order) (buffersNo P facts rules steps) (t .1) in
+      let l = both-none (listNo (exception P) order) _ (a .0) in
       let f = all-asked _ (leb (P .facts) facts) _ (a .1) in
       let r = all-asked _ (leb (count P) rules) _ (f .1) in
       let s = all-asked _ (leb (stepWidth * P .facts) steps) _ (r .1) in
       record {
-        accepted = file-yes;
+        accepted = t .0;
         names-only = yes-to-list (exception P) order (l .0);
         facts-fit = leb-true _ _ (f .0);
         rules-fit = leb-true _ _ (r .0);

@@ -22,7 +22,7 @@ use Rattle.reader.proofs.Marks.{both-tests}
 use Rattle.rules.specs.Sets.{has}
 use Rattle.rules.proofs.Sets.{past-end, marked, unmarked, length-paint}
 use Rattle.closure.specs.Steps.{stepBytes}
-use Rattle.closure.proofs.Placed.{has-painted, paint-self}
+use Rattle.closure.proofs.Painted.{has-painted, paint-self}
 use Rattle.closure.proofs.Deriving.{has-derived}
 use Rattle.run.specs.Stands.{Holds, Advances, outset}
 use Rattle.run.proofs.Written.{steps-more}

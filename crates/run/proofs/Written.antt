@@ -1,13 +1,18 @@
 -- Bytes written one after another at the front of a buffer.
 use Prim.Native.Nat.{ℕ, _+_, _*_, _≤_}
-use mathlib.Core.Path.{_≡_, refl, ap}
+use mathlib.Core.Path.{_≡_, refl, ap, _∙_}
+use mathlib.Core.Bool.{true}
 use mathlib.Core.List.{List, [], _∷_, _++_, append-assoc}
 use native.Mathlib.Omega.{arith}
 use lib.ListN.{length, drop, length-append, length-drop}
 use lib.Seq.{take-append-seam, drop-append-add, drop-drop}
 use Rattle.theory.specs.Derive.{Step}
 use Rattle.reader.specs.Item.{stepWidth}
+use Rattle.reader.specs.Cursor.{itemsAt, stepsStart}
 use Rattle.reader.specs.Write.{stepItem, placed}
+use Rattle.reader.proofs.Written.{step-item-first}
+use Rattle.rules.specs.Questions.{whole}
+use Rattle.rules.specs.Rows.{stepsOf, rowOf}
 use Rattle.closure.specs.Steps.{stepBytes}
 use Rattle.run.specs.Outcome.{over}
 
@@ -33,3 +38,15 @@ pub steps-more : (xs ys : List Step) (room : List ℕ) (n : ℕ) → n ≡ lengt
 steps-more xs ys room n e =
     let at : stepWidth * n ≡ length (stepBytes xs) = omega (arith, step-bytes-length xs) in
     rw (at, step-bytes-append xs ys) (over-more (stepBytes xs) (stepBytes ys) room)
+
+-- The steps that were written are read, and are whole items.
+pub steps-read : (row : List Step) → rowOf (stepBytes row) ≡ row
+unfolding itemsAt
+steps-read [] = refl
+steps-read (s ∷ row) =
+    ap stepsOf (step-item-first (s .fact) (s .by) (stepBytes row)) ∙ ap (λ (r : List Step). s ∷ r) (steps-read row)
+
+pub steps-whole : (row : List Step) → whole (itemsAt (stepBytes row) stepsStart) ≡ true
+unfolding itemsAt
+steps-whole [] = refl
+steps-whole (s ∷ row) = ap whole (step-item-first (s .fact) (s .by) (stepBytes row)) ∙ steps-whole row

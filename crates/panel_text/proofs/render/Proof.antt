@@ -5,8 +5,7 @@ use native.Mathlib.Omega.{arith}
 use lib.ListN.{length, take, length-replicate}
 use lib.Seq.{length-take-le}
 use denote.Ref.{now}
-use Rattle.panel_text.specs.Text.{panelText}
-use Rattle.panel_text.specs.Put.{textRoom}
+use Rattle.panel_text.specs.Text.{panelText, textRoom}
 use Rattle.panel_text.proofs.Showing.{front-text}
 use borrow.Author.Needs.{needs}
 use Rattle.panel_text.proofs.render.Statement.{statement}

@@ -5,11 +5,11 @@ use lib.Dec.{eqb}
 use denote.Ref.{now}
 use borrow.Author.Needs.{needs}
 use Rattle.theory.specs.Rule.{null}
-use Rattle.rules.specs.Orders.{each}
+use Rattle.rules.specs.Orders.{each, marked}
 use Rattle.panel_text.specs.Text.{line, stepLine, lastLine}
 use Rattle.rules.specs.Rows.{rowOf}
-use Rattle.panel_text.specs.Left.{marked, leftText}
-use Rattle.panel_text.proofs.Putting.{Putting, begun, nothing-put, next-fits, one-put}
+use Rattle.panel_text.specs.Left.{leftText}
+use Rattle.rules.proofs.Putting.{Putting, begun, nothing-put, next-fits, one-put}
 use Rattle.panel_text.proofs.Lengths.{none-written}
 use Rattle.panel_text.proofs.lines.put_left.Statement.{statement}
 use Rattle.panel_text.proofs.lines.put_left.Tie as tie

@@ -7,7 +7,7 @@ use borrow.Author.Needs.{needs}
 use Rattle.reader.specs.declared.cursor.Read.the-variants.{Found}
 use Rattle.reader.specs.Cursor.{nextAt}
 use Rattle.reader.proofs.Items.{found, closer}
-use Rattle.panel_text.proofs.Putting.{begun}
+use Rattle.rules.proofs.Putting.{begun}
 use Rattle.panel_text.proofs.Stepping.{Stepping, no-step-left, other-passed, step-fits, step-put}
 use Rattle.panel_text.proofs.lines.put_steps.Statement.{statement}
 use Rattle.panel_text.proofs.lines.put_steps.Tie as tie

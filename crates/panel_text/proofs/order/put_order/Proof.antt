@@ -5,7 +5,7 @@ use denote.Ref.{now}
 use Rattle.reader.specs.Program.{programOf}
 use Rattle.reader.proofs.Accepted.{accepted-file, rules-few}
 use Rattle.panel_text.specs.Text.{ascending}
-use Rattle.panel_text.specs.Left.{marked}
+use Rattle.rules.specs.Orders.{marked}
 use Rattle.panel_text.proofs.Ascending.{marked-kinds}
 use borrow.Author.Needs.{needs}
 use Rattle.panel_text.proofs.order.put_order.Statement.{statement}
@@ -18,16 +18,16 @@ written c = marked-kinds _ _ _ (c .before .before .before .before .pre .0 .0) (c
 mark-exceptions-requires : tie.Need-mark-exceptions-requires
 mark-exceptions-requires c κs = search needs
 
-put-names-requires : tie.Need-put-names-requires
-put-names-requires c κs =
+write-names-requires : tie.Need-write-names-requires
+write-names-requires c κs =
     (omega (arith, c .before .before .before .before .before .before .pre .0 .1, rules-few (accepted-file _ (c .before .before .before .before .before .before .pre .0 .0))), rw (written (c .before .before)) (c .before .before .before .before .before .before .pre .1))
 
 same-length : tie.Need-same-length
 same-length c = search needs
 
 returns : tie.Need-returns
-returns c = rw (written (c .before .before .before .before .before)) at (c .before .before .put-names .ensures)
+returns c = rw (written (c .before .before .before .before .before)) at (c .before .before .write-names .ensures)
 
 pub put-order-spec : {M : Type 1} → statement M
 put-order-spec =
-    tie.close (tie.spec mark-exceptions-requires put-names-requires same-length returns)
+    tie.close (tie.spec mark-exceptions-requires write-names-requires same-length returns)

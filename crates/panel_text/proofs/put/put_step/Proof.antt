@@ -5,7 +5,7 @@ use denote.Ref.{now}
 use borrow.Author.Needs.{needs}
 use Rattle.panel_text.specs.Text.{newline, spaced, stepLine}
 use Rattle.rules.specs.Rows.{stepOf}
-use Rattle.panel_text.proofs.Putting.{Putting, begun, next-fits, one-put}
+use Rattle.rules.proofs.Putting.{Putting, begun, next-fits, one-put}
 use Rattle.panel_text.proofs.put.put_step.Statement.{statement}
 use Rattle.panel_text.proofs.put.put_step.Tie as tie
 

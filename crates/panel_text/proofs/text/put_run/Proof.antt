@@ -9,7 +9,7 @@ use Rattle.reader.specs.declared.questions.Seen.{Seen}
 use Rattle.reader.specs.Program.{programOf}
 use Rattle.reader.proofs.EachKind.{Bytes}
 use Rattle.panel_text.specs.Text.{ascending}
-use Rattle.panel_text.proofs.Putting.{put-inside}
+use Rattle.rules.proofs.Putting.{put-inside}
 use Rattle.panel_text.proofs.Showing.{front-text}
 use Rattle.panel_text.proofs.Lengths.{order-fits, text-fits}
 use Rattle.panel_text.proofs.Ended.{Ended, ran-through, not-refused, tables, steps-inside, left-lines}

@@ -13,7 +13,3 @@ pub record Fits (bytes : List ℕ) (at : ℕ) (room : List ℕ) : Type 0 where
 pub record Put (bytes : List ℕ) (at : ℕ) (before : List ℕ) (next : ℕ) (after : List ℕ) : Type 0 where
   pub written : after ≡ placed bytes at before
   pub behind : next ≡ at + length bytes
-
--- Every text of the panel has room in so many bytes.
-abbrev pub textRoom : ℕ
-textRoom = 8192

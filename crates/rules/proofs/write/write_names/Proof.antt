@@ -1,18 +1,18 @@
--- `put_names`: the items of the rules passed are written.
+-- `write_names`: the items of the rules passed are written.
 use Prim.Native.Nat.{_-_}
 use mathlib.Core.Path.{refl}
 use mathlib.Core.Logic.{⊎-elim}
 use native.Mathlib.Omega.{arith}
 use Rattle.reader.specs.Write.{ruleItem}
-use Rattle.panel_text.proofs.Passing.{Passing, none-passed, all-passed, mark-fits, mark-put, mark-passed}
-use Rattle.panel_text.proofs.order.put_names.Statement.{statement}
-use Rattle.panel_text.proofs.order.put_names.Tie as tie
+use Rattle.rules.proofs.Passing.{Passing, none-passed, all-passed, mark-fits, mark-put, mark-passed}
+use Rattle.rules.proofs.write.write_names.Statement.{statement}
+use Rattle.rules.proofs.write.write_names.Tie as tie
 
 abbrev Inv-loop : tie.InvT-loop
-Inv-loop kinds count out₀ at₀ i₀ out at i = Passing ruleItem 1 kinds count 0 out₀ at out i
+Inv-loop marks mark count out₀ from at₀ i₀ out at i = Passing ruleItem mark marks count from out₀ at out i
 
 abbrev μ-loop : tie.MeasureT-loop
-μ-loop kinds count out₀ at₀ i₀ out at i = count - i
+μ-loop marks mark count out₀ from at₀ i₀ out at i = count - i
 
 loop-holds : tie.Need-loop-holds Inv-loop μ-loop
 loop-holds c = none-passed _ _ _ _ _ _ (c .before .pre .1)
@@ -20,8 +20,8 @@ loop-holds c = none-passed _ _ _ _ _ _ (c .before .pre .1)
 element-copy-out-if1 : tie.Need-element-copy-out-if1 Inv-loop μ-loop
 element-copy-out-if1 c = omega arith
 
-cast-t13 : tie.Need-cast-t13 Inv-loop μ-loop
-cast-t13 c = omega arith
+cast-t15 : tie.Need-cast-t15 Inv-loop μ-loop
+cast-t15 c = omega arith
 
 write-rule-item-requires : tie.Need-write-rule-item-requires Inv-loop μ-loop
 write-rule-item-requires c κs = mark-fits (c .before .before .before .before .loop .inv) (c .before .before .before .loop-test .taken) (c .before .if1 .taken) .inside
@@ -47,15 +47,15 @@ same-length c = c .before .loop .inv .putting .kept
 returns : tie.Need-returns Inv-loop μ-loop
 returns c = all-passed (c .before .loop .inv) (c .loop-test .left)
 
-pub put-names-spec : {M : Type 1} → statement M
-put-names-spec =
+pub write-names-spec : {M : Type 1} → statement M
+write-names-spec =
     tie.close
     (tie.spec
     Inv-loop
     μ-loop
     loop-holds
     element-copy-out-if1
-    cast-t13
+    cast-t15
     write-rule-item-requires
     add-at
     add-i

@@ -7,11 +7,10 @@ use borrow.Author.Tests.{eq-eqb, ne-eqb}
 use lib.ListN.{getD}
 use lib.Dec.{eqb}
 use Rattle.theory.specs.Lists.{keep, range}
 use Rattle.rules.proofs.Walks.{range-all, range-cons, range-end}
-use Rattle.rules.specs.Orders.{each}
-use Rattle.panel_text.specs.Left.{marked}
-use Rattle.panel_text.specs.Put.{Fits, Put}
-use Rattle.panel_text.proofs.Putting.{Putting, begun, ended, nothing-put, next-fits, one-put}
+use Rattle.rules.specs.Orders.{each, marked}
+use Rattle.rules.specs.Put.{Fits, Put}
+use Rattle.rules.proofs.Putting.{Putting, begun, ended, nothing-put, next-fits, one-put}
 
 -- what g gives of the numbers from i on that have the mark m
 abbrev toCome : (ℕ → List ℕ) → ℕ → List ℕ → ℕ → ℕ → List ℕ

@@ -1,0 +1,32 @@
+// Orders and lists that are written. Internal.
+ghost use Prim.Native.Nat.{_≤_};
+ghost use Rattle.reader.specs.Questions.{maxRules};
+ghost use Rattle.rules.specs.Orders.{naming, marked};
+ghost use Rattle.rules.specs.Put.{Fits, Put};
+use crate::index::MAX_RULES;
+use reader::item::RuleId;
+use reader::write::NAME_WIDTH;
+
+// An item for each rule below the count that has the mark, ascending, from a place of the buffer on. Answers the place behind them.
+pub fn write_names(
+    marks: &[u8; MAX_RULES],
+    mark: u8,
+    count: usize,
+    out: &mut [u8],
+    from: usize,
+) -> usize
+    requires { ⌜ count ≤ maxRules ⌝ }
+    requires { ⌜ Fits (naming (marked mark (now marks) count)) from (now out) ⌝ }
+    ensures { λ r. ⌜ Put (naming (marked mark (now (marks .entry)) count)) from (now (out .entry)) r (now (out .exit)) ⌝ }
+{
+    let mut at = from;
+    let mut i: usize = 0;
+    while i < count {
+        if marks[i] == mark {
+            reader::write::write_rule_item(out, at, RuleId(i as u16));
+            at += NAME_WIDTH;
+        }
+        i += 1;
+    }
+    at
+}
