@@ -16,19 +16,22 @@ use Rattle.reader.specs.declared.cursor.Row.{Row}
 use Rattle.reader.specs.declared.cursor.Row.the-variants.{Opening}
 use Rattle.reader.specs.declared.cursor.Fault.{Fault}
 use Rattle.reader.specs.declared.cursor.Fault.the-variants.{OtherKind, ShortBody}
-use Rattle.reader.specs.declared.refusal.Refusal.the-variants.{NotAnException, NamedTwice, NotAllNamed}
+use Rattle.reader.specs.declared.refusal.Refusal.the-variants.{NotAnException, NamedTwice, NotAllNamed, NoStableSet}
 use Rattle.reader.specs.Refusal as refusal
-use Rattle.reader.specs.Item.{stepWidth, bodyLength, itemOf}
+use Rattle.reader.specs.Item.{stepWidth, nameWidth, bodyLength, itemOf}
 use Rattle.reader.specs.Cursor.{Token, item, bad, refusalOf, ofRow, rowAfter, front, followed, itemsIn, itemsAt, start, orderStart, stepsStart}
 use Rattle.reader.specs.Program.{programOf}
 use Rattle.reader.specs.Questions.{asked, ended, judge, opening, parse, maxRules, maxBytes}
 use Rattle.reader.specs.Questions as reader
+use Rattle.reader.specs.Accept.{exceptions, constraintFacts}
 use Rattle.rules.specs.Questions.{firstOf, askNames, listNo, orderNo, setNo, rowNo, zeroOrOne, whole, namedIn}
 use Rattle.rules.specs.Questions as rules
 use Rattle.run.specs.Outcome.{buffersNo, runNo}
 use Rattle.judge.specs.Judged.{judgeNo}
 use Rattle.proofcheck.specs.Verdict.{checkNo}
-use Rattle.demands.specs.Asked.{Question, firstNo, ofItems, ofOpening, ofFile, ofNames, ofList, ofOrder, ofBuffers, ofRun, ofSet, ofProofRow, ofJudge, ofCheck}
+use Rattle.earliest.specs.Branch.{maxGuessed}
+use Rattle.search.specs.Searched.{limitsNo, searchNo}
+use Rattle.demands.specs.Asked.{Question, firstNo, ofItems, ofOpening, ofFile, ofNames, ofList, ofOrder, ofBuffers, ofRun, ofSet, ofProofRow, ofJudge, ofCheck, ofLimits, someStable, ofSearch}
 
 -- the number of a refusal, where there is one
 abbrev pub numbered : Option Refusal → Option ℕ
@@ -184,3 +187,27 @@ check-asked file set fact row =
     then-asked file (λ P. firstOf (setNo (P .facts) set) (rowNo (P .facts) fact row)) _
     (both-asked (setNo (programOf file .facts) set) (rowNo (programOf file .facts) fact row) (ofSet (programOf file) set)
     (ofProofRow (programOf file) fact row) (set-asked (programOf file) set) (row-asked (programOf file) fact row))
+
+pub limits-asked : (P : Program) (order : ℕ) → numbered (limitsNo P order) ≡ firstNo (ofLimits P order)
+unfolding limitsNo ofLimits
+limits-asked P order =
+    one-asked _ (leb (nameWidth * exceptions P) order) _ _ (one-asked _ (leb (constraintFacts P) maxGuessed) _ _ refl)
+
+-- the questions of the search before the last, and all of them
+pub before-asked : (file : List ℕ) (a b c d : ℕ) → numbered (searchNo file a b c d) ≡ firstNo (ofFile file ++ (ofBuffers (programOf file) a b c ++ ofLimits (programOf file) d))
+unfolding searchNo
+before-asked file a b c d =
+    then-asked file (λ P. firstOf (buffersNo P a b c) (limitsNo P d)) _
+    (both-asked (buffersNo (programOf file) a b c) (limitsNo (programOf file) d) (ofBuffers (programOf file) a b c)
+    (ofLimits (programOf file) d) (buffers-asked (programOf file) a b c) (limits-asked (programOf file) d))
+
+abbrev pub allNo : List ℕ → ℕ → ℕ → ℕ → ℕ → Option Refusal
+allNo file a b c d = firstOf (searchNo file a b c d) (asked NoStableSet (someStable (programOf file)) none)
+
+pub search-asked : (file : List ℕ) (a b c d : ℕ) → numbered (allNo file a b c d) ≡ firstNo (ofSearch file a b c d)
+unfolding ofSearch
+search-asked file a b c d =
+    both-asked (searchNo file a b c d) (asked NoStableSet (someStable (programOf file)) none)
+    (ofFile file ++ (ofBuffers (programOf file) a b c ++ ofLimits (programOf file) d)) _
+    (before-asked file a b c d)
+    (one-asked NoStableSet (someStable (programOf file)) none none refl)

@@ -4,13 +4,17 @@ use Prim.Native.Nat.{ℕ, _<_}
 use native.Mathlib.Omega.{arith}
 use mathlib.Core.Path.{_≡_, refl, sym, _∙_, ap}
 use mathlib.Core.Bool.{Bool, true, false, cond}
-use mathlib.Core.List.{List}
+use mathlib.Core.List.{List, _++_}
+use mathlib.Core.Logic.{_↔_}
 use mathlib.Core.Option.{Option, none, some}
 use lib.ListN.{length}
 use Rattle.theory.specs.Lists.{mem}
-use Rattle.theory.specs.Rule.{everyRule}
-use Rattle.theory.specs.Stable.{isStable}
+use Rattle.theory.specs.Rule.{FactSet, everyRule}
+use Rattle.theory.specs.Stable.{Stable, isStable}
 use Rattle.theory.specs.Check.{isProof}
+use Rattle.theory.specs.Search.{search}
+use Rattle.theory.proofs.Bools.{never}
+use Rattle.theory.proofs.Search.{search-earliest, search-none}
 use Rattle.rules.specs.Sets.{has}
 use Rattle.reader.specs.declared.refusal.Refusal.{Refusal}
 use Rattle.reader.specs.declared.refusal.Refusal.the-variants.{FileTooLong, NoFactCount, FileCutOff, UnknownKind, BodyCutOff, FactTooHigh, NoRuleOpened, TooManyRules, WrongRuleCount, BytesAfterEnd, NotRuleItems, NotAnException, NamedTwice, NotAllNamed, WrongSetLength, NotZeroOrOne, NotStepItems, AskedFactTooHigh, FactMarksShort, RuleMarksShort, StepsShort, OrderShort, TooManyConstraints, NoStableSet}
@@ -19,6 +23,7 @@ use Rattle.reader.specs.Refusal as refusal
 use Rattle.reader.specs.Questions as reader
 use Rattle.reader.specs.Accept as answer
 use Rattle.reader.specs.Program.{programOf}
+use Rattle.reader.proofs.Accepted.{accepted-file, bounded}
 use Rattle.run.specs.Outcome.{Outcome, outcome, written, runNo, runOf}
 use Rattle.run.specs.Outcome as run
 use Rattle.run.specs.declared.answer.Ran.the-variants as ran
@@ -29,9 +34,11 @@ use Rattle.proofcheck.specs.Verdict.{checked, checkNo}
 use Rattle.rules.specs.Rows.{rowOf}
 use Rattle.proofcheck.specs.Verdict as check
 use Rattle.proofcheck.specs.declared.answer.Checked.the-variants as checking
-use Rattle.demands.specs.Asked.{firstNo, ofFile, ofRun, ofJudge, ofCheck, fileNumbers, runNumbers, judgeNumbers, checkNumbers}
-use Rattle.demands.proofs.Asking.{numbered, file-asked, run-asked, judge-asked, check-asked}
-use Rattle.demands.proofs.Own.{own-no, file-own, run-own, judge-own, check-own}
+use Rattle.search.specs.Searched.{searched, searchNo, foundAt, refusedWith}
+use Rattle.search.specs.Searched as searching
+use Rattle.demands.specs.Asked.{firstNo, ofFile, ofRun, ofJudge, ofCheck, ofBuffers, ofLimits, someStable, ofSearch, fileNumbers, runNumbers, judgeNumbers, checkNumbers, searchNumbers}
+use Rattle.demands.proofs.Asking.{numbered, file-asked, run-asked, judge-asked, check-asked, before-asked, allNo, search-asked}
+use Rattle.demands.proofs.Own.{own-no, file-own, run-own, judge-own, check-own, before-own, beforeNumbers, search-own}
 
 -- the refusal behind the first no
 behind : (o : Option Refusal) (q : Option ℕ) (n : ℕ) → numbered o ≡ q → q ≡ some n → (r : Refusal) × (o ≡ some r) × (refusal.number r ≡ n)
@@ -263,3 +270,144 @@ module _ (file set : List ℕ) (fact : ℕ) (row : List ℕ) where
 
   pub check-answered : check.number (checked file set fact row) ≡ 0 → _≡_ {A = Option Refusal} (checkNo file set fact row) none
   check-answered = answered (checkNo file set fact row) (check.number (checked file set fact row)) (λ r h. ap check.number (check-refused r h))
+
+-- Of an accepted file, question 41 gets yes exactly where some set is stable.
+pub stable-asked : (file : List ℕ) → _≡_ {A = Option Refusal} (reader.firstNo file) none → (someStable (programOf file) ≡ true) ↔ ((M : FactSet) × Stable (programOf file) everyRule M)
+unfolding someStable
+stable-asked file a = (λ t. into (search (programOf file) everyRule) refl t, λ s. back (search (programOf file) everyRule) refl s)
+  where
+    into : (o : Option FactSet) → search (programOf file) everyRule ≡ o → someStable (programOf file) ≡ true → (M : FactSet) × Stable (programOf file) everyRule M
+    into (some M) e t = (M, search-earliest (programOf file) everyRule (bounded (accepted-file file a)) M e .stable)
+    into none e t = never t (rw (e, someStable))
+
+    back : (o : Option FactSet) → search (programOf file) everyRule ≡ o → (M : FactSet) × Stable (programOf file) everyRule M → someStable (programOf file) ≡ true
+    back (some M) e s = rw (e, someStable)
+    back none e s = absurd (search-none (programOf file) everyRule (bounded (accepted-file file a)) e (s .0) (s .1))
+
+-- the search refuses with n: its number is n, its counts are 0, every byte is as it was, and n is one of 1 to 10, 31 to 34, 40 and 41
+pub record SearchRefuses (file facts rules steps order : List ℕ) (n : ℕ) : Type 0 where
+  pub number : searching.number (searched file facts rules steps order .answer) ≡ n
+  pub no-stages : searching.stages (searched file facts rules steps order .answer) ≡ 0
+  pub no-steps : searching.steps (searched file facts rules steps order .answer) ≡ 0
+  pub fact-marks-kept : searched file facts rules steps order .fact-marks ≡ facts
+  pub rule-marks-kept : searched file facts rules steps order .rule-marks ≡ rules
+  pub steps-kept : searched file facts rules steps order .steps ≡ steps
+  pub order-kept : searched file facts rules steps order .order ≡ order
+  pub own : mem n searchNumbers ≡ true
+
+module _ (file facts rules steps order : List ℕ) where
+  -- a no to one of the questions before the last, and to the last; and a yes to all
+  pub search-refused : (r : Refusal) → searchNo file (length facts) (length rules) (length steps) (length order) ≡ some r → searched file facts rules steps order ≡ refusedWith r facts rules steps order
+  unfolding searched
+  search-refused r h = rw (h, searched)
+
+  module _ (h : _≡_ {A = Option Refusal} (searchNo file (length facts) (length rules) (length steps) (length order)) none) where
+    pub search-without : _≡_ {A = Option FactSet} (search (programOf file) everyRule) none → searched file facts rules steps order ≡ refusedWith NoStableSet facts rules steps order
+    unfolding searched
+    search-without e = rw (h, e, searched)
+
+    pub search-found : (M : FactSet) → search (programOf file) everyRule ≡ some M → searched file facts rules steps order ≡ foundAt (programOf file) M facts rules steps order
+    unfolding searched
+    search-found M e = rw (h, e, searched)
+
+  every-no : Option Refusal
+  every-no = allNo file (length facts) (length rules) (length steps) (length order)
+
+  asked-search : numbered every-no ≡ firstNo (ofSearch file (length facts) (length rules) (length steps) (length order))
+  unfolding every-no
+  asked-search = search-asked file (length facts) (length rules) (length steps) (length order)
+
+  refused-by : (r : Refusal) → every-no ≡ some r → searched file facts rules steps order ≡ refusedWith r facts rules steps order
+  unfolding every-no someStable
+  refused-by r h = go (searchNo file (length facts) (length rules) (length steps) (length order)) refl (search (programOf file) everyRule) refl
+    where
+      go : (o : Option Refusal) → searchNo file (length facts) (length rules) (length steps) (length order) ≡ o → (found : Option FactSet) → search (programOf file) everyRule ≡ found → searched file facts rules steps order ≡ refusedWith r facts rules steps order
+      go (some q) e found f =
+          let s : _≡_ {A = Option Refusal} (some q) (some r) = rw e at h in
+          let w : q ≡ r = cc in
+          rw w at (search-refused q e)
+      go none e none f =
+          let s : _≡_ {A = Option Refusal} (some NoStableSet) (some r) = rw (e, f, someStable) at h in
+          let w : NoStableSet ≡ r = cc in
+          rw w at (search-without e f)
+      go none e (some M) f =
+          let s : _≡_ {A = Option Refusal} none (some r) = rw (e, f, someStable) at h in
+          let z : _≡_ {A = ℕ} 0 1 = cc in
+          absurd (omega arith)
+
+  -- where no question gets no, a set is taken
+  found-by : _≡_ {A = Option Refusal} every-no none → (_≡_ {A = Option Refusal} (searchNo file (length facts) (length rules) (length steps) (length order)) none) × ((M : FactSet) × (search (programOf file) everyRule ≡ some M))
+  unfolding every-no someStable
+  found-by h = go (searchNo file (length facts) (length rules) (length steps) (length order)) refl (search (programOf file) everyRule) refl
+    where
+      go : (o : Option Refusal) → searchNo file (length facts) (length rules) (length steps) (length order) ≡ o → (found : Option FactSet) → search (programOf file) everyRule ≡ found → (_≡_ {A = Option Refusal} (searchNo file (length facts) (length rules) (length steps) (length order)) none) × ((M : FactSet) × (search (programOf file) everyRule ≡ some M))
+      go (some q) e found f =
+          let s : _≡_ {A = Option Refusal} (some q) none = rw e at h in
+          let z : _≡_ {A = ℕ} 0 1 = cc in
+          absurd (omega arith)
+      go none e none f =
+          let s : _≡_ {A = Option Refusal} (some NoStableSet) none = rw (e, f, someStable) at h in
+          let z : _≡_ {A = ℕ} 0 1 = cc in
+          absurd (omega arith)
+      go none e (some M) f = (e, (M, f))
+
+  found-number : _≡_ {A = Option Refusal} every-no none → searching.number (searched file facts rules steps order .answer) ≡ 0
+  unfolding searching.written
+  found-number h =
+      let t = found-by h in
+      ap (λ (o : searching.Outcome). searching.number (o .answer)) (search-found (t .0) (t .1 .0) (t .1 .1))
+
+  pub search-refuses : (n : ℕ) → firstNo (ofSearch file (length facts) (length rules) (length steps) (length order)) ≡ some n → SearchRefuses file facts rules steps order n
+  search-refuses n e =
+      let b = behind every-no (firstNo (ofSearch file (length facts) (length rules) (length steps) (length order))) n asked-search e in
+      let a = refused-by (b .0) (b .1) in
+      record {
+        number = ap (λ (o : searching.Outcome). searching.number (o .answer)) a ∙ b .2;
+        no-stages = ap (λ (o : searching.Outcome). searching.stages (o .answer)) a;
+        no-steps = ap (λ (o : searching.Outcome). searching.steps (o .answer)) a;
+        fact-marks-kept = ap (λ (o : searching.Outcome). o .fact-marks) a;
+        rule-marks-kept = ap (λ (o : searching.Outcome). o .rule-marks) a;
+        steps-kept = ap (λ (o : searching.Outcome). o .steps) a;
+        order-kept = ap (λ (o : searching.Outcome). o .order) a;
+        own = own-no searchNumbers (ofSearch file (length facts) (length rules) (length steps) (length order)) n (search-own file (length facts) (length rules) (length steps) (length order)) e;
+      }
+
+  pub search-searches : _≡_ {A = Option ℕ} (firstNo (ofSearch file (length facts) (length rules) (length steps) (length order))) none → searching.number (searched file facts rules steps order .answer) ≡ 0
+  search-searches e = found-number (all-yes every-no (firstNo (ofSearch file (length facts) (length rules) (length steps) (length order))) asked-search e)
+
+  pub search-exactly : (n : ℕ) → 0 < n → searching.number (searched file facts rules steps order .answer) ≡ n → firstNo (ofSearch file (length facts) (length rules) (length steps) (length order)) ≡ some n
+  search-exactly n =
+      exactly every-no (firstNo (ofSearch file (length facts) (length rules) (length steps) (length order))) (searching.number (searched file facts rules steps order .answer)) asked-search found-number
+      (λ r h. ap (λ (o : searching.Outcome). searching.number (o .answer)) (refused-by r h)) n
+
+  -- a result means that no question got no
+  pub search-answered : searching.number (searched file facts rules steps order .answer) ≡ 0 → (_≡_ {A = Option Refusal} (searchNo file (length facts) (length rules) (length steps) (length order)) none) × ((M : FactSet) × (search (programOf file) everyRule ≡ some M))
+  search-answered e =
+      found-by
+      (answered every-no (searching.number (searched file facts rules steps order .answer))
+      (λ r h. ap (λ (o : searching.Outcome). searching.number (o .answer)) (refused-by r h)) e)
+
+  pub search-all-yes : searching.number (searched file facts rules steps order .answer) ≡ 0 → _≡_ {A = Option ℕ} (firstNo (ofSearch file (length facts) (length rules) (length steps) (length order))) none
+  search-all-yes e =
+      sym asked-search
+      ∙ ap numbered (answered every-no (searching.number (searched file facts rules steps order .answer)) (λ r h. ap (λ (o : searching.Outcome). searching.number (o .answer)) (refused-by r h)) e)
+
+  -- number 41 means that only the last did
+  pub search-forty-one : searching.number (searched file facts rules steps order .answer) ≡ 41 → (_≡_ {A = Option Refusal} (searchNo file (length facts) (length rules) (length steps) (length order)) none) × (_≡_ {A = Option FactSet} (search (programOf file) everyRule) none)
+  unfolding searching.written
+  search-forty-one e = go (searchNo file (length facts) (length rules) (length steps) (length order)) refl (search (programOf file) everyRule) refl
+    where
+      -- no question before the last has number 41
+      not-before : (r : Refusal) → searchNo file (length facts) (length rules) (length steps) (length order) ≡ some r → refusal.number r ≡ 41 → ⊥
+      not-before r h n =
+          never {A = ⊥}
+          (own-no beforeNumbers (ofFile file ++ (ofBuffers (programOf file) (length facts) (length rules) (length steps) ++ ofLimits (programOf file) (length order))) 41 (before-own file (length facts) (length rules) (length steps) (length order))
+          (sym (before-asked file (length facts) (length rules) (length steps) (length order)) ∙ (ap numbered h ∙ ap (λ (m : ℕ). some m) n)))
+          refl
+
+      go : (o : Option Refusal) → searchNo file (length facts) (length rules) (length steps) (length order) ≡ o → (found : Option FactSet) → search (programOf file) everyRule ≡ found → (_≡_ {A = Option Refusal} (searchNo file (length facts) (length rules) (length steps) (length order)) none) × (_≡_ {A = Option FactSet} (search (programOf file) everyRule) none)
+      go (some r) h found f = absurd (not-before r h (sym (ap (λ (o : searching.Outcome). searching.number (o .answer)) (search-refused r h)) ∙ e))
+      go none h none f = (h, f)
+      go none h (some M) f =
+          let z : _≡_ {A = ℕ} 0 41 = sym (ap (λ (o : searching.Outcome). searching.number (o .answer)) (search-found h M f)) ∙ e in
+          absurd (omega arith)

@@ -49,7 +49,7 @@ use Rattle.demands.proofs.Demand1.{run-answered, run-written, judge-ans
 use Rattle.demands.proofs.Reading.{marks-front, marked-past, read-derived, read-rejected, read-aside, listed-back, listed-yes, set-back, set-yes}
 
 -- the file's questions got yes where all of an operation's did
-file-yes : (s : List ℕ) (rest : Program → Option Refusal) → _≡_ {A = Option Refusal} (rules.ofFile s rest) none → (reader.firstNo s ≡ none) × (rest (programOf s) ≡ none)
+pub file-yes : (s : List ℕ) (rest : Program → Option Refusal) → _≡_ {A = Option Refusal} (rules.ofFile s rest) none → (reader.firstNo s ≡ none) × (rest (programOf s) ≡ none)
 unfolding reader.parse
 file-yes s rest e = go (reader.firstNo s) refl
   where
@@ -60,7 +60,7 @@ file-yes s rest e = go (reader.firstNo s) refl
         some≢none : (r : Refusal) → _≡_ {A = Option Refusal} (some r) none → ⊥
         some≢none r q = let z : _≡_ {A = ℕ} 0 1 = cc in omega arith
 
-first-none : (o p : Option Refusal) → _≡_ {A = Option Refusal} (firstOf o p) none → _≡_ {A = Option Refusal} o none
+pub first-none : (o p : Option Refusal) → _≡_ {A = Option Refusal} (firstOf o p) none → _≡_ {A = Option Refusal} o none
 first-none none p e = refl
 first-none (some r) p e = e
 

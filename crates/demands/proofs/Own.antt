@@ -17,7 +17,7 @@ use Rattle.reader.specs.Refusal as refusal
 use Rattle.reader.specs.Cursor.{Token, item, bad, refusalOf, itemsAt, start}
 use Rattle.reader.specs.Program.{programOf}
 use Rattle.rules.specs.Questions.{namedIn}
-use Rattle.demands.specs.Asked.{Question, firstNo, ofItems, ofOpening, ofFile, ofNames, ofList, ofOrder, ofBuffers, ofRun, ofSet, ofProofRow, ofJudge, ofCheck, fileNumbers, runNumbers, judgeNumbers, checkNumbers}
+use Rattle.demands.specs.Asked.{Question, firstNo, ofItems, ofOpening, ofFile, ofNames, ofList, ofOrder, ofBuffers, ofRun, ofSet, ofProofRow, ofJudge, ofCheck, ofLimits, ofSearch, fileNumbers, runNumbers, judgeNumbers, checkNumbers, searchNumbers}
 use Rattle.demands.proofs.Asking.{TokensOf, tokens-of-file}
 
 -- every number of the questions is one of these
@@ -103,3 +103,20 @@ unfolding ofCheck ofSet ofProofRow
 check-own file set fact row =
     own-append checkNumbers (ofFile file) _ (own-wider fileNumbers (21 ∷ 22 ∷ 24 ∷ 23 ∷ []) (ofFile file) (file-own file))
     (own-append checkNumbers (ofSet (programOf file) set) (ofProofRow (programOf file) fact row) (refl, (refl, tt)) (refl, (refl, tt)))
+
+-- the questions of the search before the last, none of which is 41, and all of them
+abbrev pub beforeNumbers : List ℕ
+beforeNumbers = fileNumbers ++ (31 ∷ 32 ∷ 33 ∷ 34 ∷ 40 ∷ [])
+
+pub before-own : (file : List ℕ) (a b c d : ℕ) → Own beforeNumbers (ofFile file ++ (ofBuffers (programOf file) a b c ++ ofLimits (programOf file) d))
+unfolding ofBuffers ofLimits
+before-own file a b c d =
+    own-append beforeNumbers (ofFile file) _ (own-wider fileNumbers (31 ∷ 32 ∷ 33 ∷ 34 ∷ 40 ∷ []) (ofFile file) (file-own file))
+    (refl, (refl, (refl, (refl, (refl, tt)))))
+
+pub search-own : (file : List ℕ) (a b c d : ℕ) → Own searchNumbers (ofSearch file a b c d)
+unfolding ofSearch
+search-own file a b c d =
+    own-append searchNumbers (ofFile file ++ (ofBuffers (programOf file) a b c ++ ofLimits (programOf file) d)) _
+    (own-wider beforeNumbers (41 ∷ []) (ofFile file ++ (ofBuffers (programOf file) a b c ++ ofLimits (programOf file) d)) (before-own file a b c d))
+    (refl, tt)

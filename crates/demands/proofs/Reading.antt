@@ -32,7 +32,7 @@ getD-range f zero a i l = absurd (omega arith)
 getD-range f (suc n) a zero l = ap f (sym (add-zero a))
 getD-range f (suc n) a (suc i) l = getD-range f n (suc a) i (omega arith) ∙ ap f (suc-add a i ∙ sym (add-suc a i))
 
-length-marks : (f : ℕ → ℕ) (n : ℕ) → length (map f (upTo n)) ≡ n
+pub length-marks : (f : ℕ → ℕ) (n : ℕ) → length (map f (upTo n)) ≡ n
 length-marks f n = length-map (upTo n) f ∙ length-range 0 n
 
 -- a mark in front is the mark of its number

@@ -1,20 +1,23 @@
 -- The questions of each operation, with their answers, in the order of document 01. Each no stops: nothing is listed after one that the later
 -- questions would need.
-use Prim.Native.Nat.{ℕ, suc, _*_}
+use Prim.Native.Nat.{ℕ, suc, _*_, _≤_}
 use mathlib.Core.Bool.{Bool, true, false, not, cond, _||_}
 use mathlib.Core.List.{List, [], _∷_, _++_}
 use mathlib.Core.Option.{Option, none, some}
 use lib.ListN.{length}
 use lib.Dec.{eqb, ltb, leb}
 use Rattle.theory.specs.Lists.{all, mem, upTo}
-use Rattle.theory.specs.Rule.{Program, nothing, adjoin, count, exception}
+use Rattle.theory.specs.Rule.{Program, nothing, adjoin, everyRule, count, exception}
+use Rattle.theory.specs.Search.{search}
 use Rattle.reader.specs.declared.item.Item.the-variants.{Facts, Opens, Premise, Constraint, Rules, Names, Step}
 use Rattle.reader.specs.Refusal as refusal
-use Rattle.reader.specs.Item.{stepWidth}
+use Rattle.reader.specs.Item.{stepWidth, nameWidth}
 use Rattle.reader.specs.Cursor.{Token, item, bad, itemsAt, start, orderStart, stepsStart}
 use Rattle.reader.specs.Program.{programOf}
 use Rattle.reader.specs.Questions.{maxBytes, maxRules, ended}
+use Rattle.reader.specs.Accept.{exceptions, constraintFacts}
 use Rattle.rules.specs.Questions.{whole, namedIn, zeroOrOne}
+use Rattle.earliest.specs.Branch.{maxGuessed}
 
 -- A question's number, and its answer.
 pub record Question : Type 0 where
@@ -97,6 +100,29 @@ ofJudge file list set = ofFile file ++ (ofList (programOf file) list ++ ofSet (p
 unfoldable pub ofCheck : List ℕ → List ℕ → ℕ → List ℕ → List Question
 ofCheck file set fact row = ofFile file ++ (ofSet (programOf file) set ++ ofProofRow (programOf file) fact row)
 
+-- Questions 34 and 40, by the length of the order's buffer.
+unfoldable pub ofLimits : Program → ℕ → List Question
+ofLimits P order =
+    ask 34 (leb (nameWidth * exceptions P) order) ∷ ask 40 (leb (constraintFacts P) maxGuessed) ∷ []
+
+-- The buffers of a search are large enough (document 01): questions 31 to 34 get yes.
+pub record LargeEnough (P : Program) (facts rules steps order : List ℕ) : Type 0 where
+  pub fact-marks : P .facts ≤ length facts
+  pub rule-marks : count P ≤ length rules
+  pub step-items : stepWidth * P .facts ≤ length steps
+  pub rule-items : nameWidth * exceptions P ≤ length order
+
+-- Is there a stable set? Of an accepted file the answer is true exactly where some set is stable (`stable-asked` in proofs/Demand1).
+unfoldable pub someStable : Program → Bool
+someStable P = elim (search P everyRule) [ some M ↦ true | none ↦ false ]
+
+-- The search: whether there is a stable set is asked last.
+unfoldable pub ofSearch : List ℕ → ℕ → ℕ → ℕ → ℕ → List Question
+ofSearch file facts rules steps order =
+    ofFile file
+    ++ (ofBuffers (programOf file) facts rules steps ++ ofLimits (programOf file) order)
+    ++ (ask 41 (someStable (programOf file)) ∷ [])
+
 -- The numbers that each operation may refuse with.
 abbrev pub fileNumbers : List ℕ
 fileNumbers = 1 ∷ 2 ∷ 3 ∷ 4 ∷ 5 ∷ 6 ∷ 7 ∷ 8 ∷ 9 ∷ 10 ∷ []
@@ -109,3 +135,6 @@ judgeNumbers = fileNumbers ++ (11 ∷ 12 ∷ 13 ∷ 21 ∷ 22 ∷ [])
 
 abbrev pub checkNumbers : List ℕ
 checkNumbers = fileNumbers ++ (21 ∷ 22 ∷ 24 ∷ 23 ∷ [])
+
+abbrev pub searchNumbers : List ℕ
+searchNumbers = fileNumbers ++ (31 ∷ 32 ∷ 33 ∷ 34 ∷ 40 ∷ 41 ∷ [])

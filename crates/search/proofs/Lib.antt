@@ -1,0 +1,4 @@
+pub mod Asking
+pub mod Grouping
+pub mod Running
+pub mod Answered

@@ -1,0 +1,93 @@
+-- `run_to`: the order gets yes, so the run ends, and what it leaves is what the search leaves.
+use Prim.Native.Nat.{_≤_}
+use mathlib.Core.Path.{sym}
+use lib.ListN.{length}
+use lib.Seq.{length-take-le}
+use denote.Ref.{now}
+use Rattle.theory.specs.Rule.{everyRule}
+use Rattle.theory.specs.Search.{orderFor}
+use Rattle.reader.specs.Program.{programOf}
+use Rattle.rules.specs.Sets.{has}
+use Rattle.rules.specs.Orders.{naming}
+use Rattle.search.proofs.Asking.{AllYesses, all-yes}
+use Rattle.search.proofs.Running.{front-inside, not-refused, found-there}
+use borrow.Author.Needs.{needs}
+use Rattle.search.proofs.found.run_to.Statement.{statement}
+use Rattle.search.proofs.found.run_to.Tie as tie
+
+-- what all the yesses tell
+yesses : (c : tie.After-shared-slice-known) → AllYesses (now (c .before .args .file)) (length (now (c .before .args .fact-marks))) (length (now (c .before .args .rule-marks))) (length (now (c .before .args .steps))) (length (now (c .before .args .order)))
+yesses c = all-yes _ _ _ _ _ (c .before .pre .0)
+
+-- the order lies inside its buffer
+inside : (c : tie.After-write-order) → c .write-order .result ≤ length (c .write-order .last .1 .1 .1 .0)
+inside c = front-inside (naming (orderFor (programOf (now (c .before .before .before .before .before .before .before .args .file))) everyRule (has (now (c .before .before .before .before .before .before .before .args .set))))) (now (c .before .before .before .before .before .before .before .args .order)) _ _ (c .write-order .ensures)
+
+write-order-requires : tie.Need-write-order-requires
+write-order-requires c κs = ((yesses (c .before .before .before .before .before) .accepted, c .before .before .before .before .before .before .pre .1), yesses (c .before .before .before .before .before) .order-fits)
+
+slice-reshare-prefix-run : tie.Need-slice-reshare-prefix-run
+slice-reshare-prefix-run c = inside (c .before .before)
+
+slice-aggregate-run : tie.Need-slice-aggregate-run
+slice-aggregate-run c = sym (length-take-le _ _ (inside (c .before .before .before)))
+
+run-requires : tie.Need-run-requires
+run-requires c κs = search needs
+
+enum-known-stages : tie.Need-enum-known-stages
+enum-known-stages c = search needs
+
+enum-known-r : tie.Need-enum-known-r
+enum-known-r c = search needs
+
+same-length : tie.Need-same-length
+same-length c = search needs
+
+same-length-2 : tie.Need-same-length-2
+same-length-2 c = search needs
+
+same-length-3 : tie.Need-same-length-3
+same-length-3 c = search needs
+
+same-length-4 : tie.Need-same-length-4
+same-length-4 c = search needs
+
+returns : tie.Need-returns
+returns c = found-there _ _ _ _ _ (yesses (c .before .before .before .before .before .before .before .before .before .before .before .before .before .before .before .before .before .before .before .before .before .before)) _ _ _ (c .before .before .before .before .before .before .before .before .before .before .before .before .before .before .before .before .write-order .ensures) _ _ _ _ (c .before .before .before .before .before .before .before .before .before .run .ensures) _ _ (c .before .stages .given .1)
+
+same-length-5 : tie.Need-same-length-5
+same-length-5 c = search needs
+
+same-length-6 : tie.Need-same-length-6
+same-length-6 c = search needs
+
+same-length-7 : tie.Need-same-length-7
+same-length-7 c = search needs
+
+same-length-8 : tie.Need-same-length-8
+same-length-8 c = search needs
+
+returns-2 : tie.Need-returns-2
+returns-2 c = absurd (not-refused _ _ _ _ _ (yesses (c .before .before .before .before .before .before .before .before .before .before .before .before .before .before .before .before .before .before .before .before .before .before)) _ _ _ (c .before .before .before .before .before .before .before .before .before .before .before .before .before .before .before .before .write-order .ensures) _ _ _ _ (c .before .before .before .before .before .before .before .before .before .run .ensures) _ (c .before .r .given .1))
+
+pub run-to-spec : {M : Type 1} → statement M
+run-to-spec =
+    tie.close
+    (tie.spec
+    write-order-requires
+    slice-reshare-prefix-run
+    slice-aggregate-run
+    run-requires
+    enum-known-stages
+    enum-known-r
+    same-length
+    same-length-2
+    same-length-3
+    same-length-4
+    returns
+    same-length-5
+    same-length-6
+    same-length-7
+    same-length-8
+    returns-2)
