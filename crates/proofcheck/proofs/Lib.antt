@@ -1,4 +1,5 @@
 pub mod Ending
 pub mod Holding
 pub mod Clearing
+pub mod Viewing
 pub mod Answering

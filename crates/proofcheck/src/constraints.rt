@@ -8,13 +8,13 @@ ghost use Rattle.rules.specs.Sets.{has};
 ghost use Rattle.closure.specs.Known.{Known};
 ghost use Rattle.proofcheck.specs.Steps.{rulesKnown};
 ghost use Rattle.rules.specs.Rows.{rowOf};
+use crate::own::constraints_clear;
 use closure::place::start_of;
 use reader::cursor::Cursor;
 use reader::cursor::Read;
 use reader::cursor::Row;
 use reader::item::Item;
 use rules::index::MAX_RULES;
-use rules::rule::constraints_clear;
 
 // Are the constraints of all steps outside the facts of all steps, and outside the set?
 pub fn row_clear(

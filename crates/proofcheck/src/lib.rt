@@ -2,6 +2,7 @@
 pub mod accepted;
 pub mod answer;
 pub mod constraints;
+pub mod own;
 pub mod steps;
 
 ghost use mathlib.Core.Path.{_≡_};

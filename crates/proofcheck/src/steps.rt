@@ -63,7 +63,7 @@ fn step_holds(
     if concluded.0 != fact.0 {
         return false;
     }
-    rules::rule::premises_in(file, at, earlier)
+    crate::own::premises_in(file, at, earlier)
 }
 
 // Does each step hold after those before it? Where all do, their facts are marked.

@@ -26,7 +26,7 @@ use Rattle.proofcheck.proofs.constraints.row_clear.Reads as reads
 use Rattle.proofcheck.proofs.constraints.row_clear.Lts as lts
 use Rattle.closure.proofs.place.start_of.Reads as start-of-reads
 use Rattle.reader.proofs.cursor.Cursor.next.Reads as next-reads
-use Rattle.rules.proofs.rule.constraints_clear.Reads as constraints-clear-reads
+use Rattle.proofcheck.proofs.own.constraints_clear.Reads as constraints-clear-reads
 
 abbrev Inv-loop : tie.InvT-loop
 Inv-loop file starts proof facts set cursor₀ cursor = Clearing (programOf file) (has facts) (has set) (rowOf proof) (stepsFrom proof cursor)

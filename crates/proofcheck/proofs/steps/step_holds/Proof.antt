@@ -9,7 +9,7 @@ use Rattle.proofcheck.proofs.steps.step_holds.Reads as reads
 use Rattle.proofcheck.proofs.steps.step_holds.Lts as lts
 use Rattle.closure.proofs.place.start_of.Reads as start-of-reads
 use Rattle.rules.proofs.rule.conclusion.Reads as conclusion-reads
-use Rattle.rules.proofs.rule.premises_in.Reads as premises-in-reads
+use Rattle.proofcheck.proofs.own.premises_in.Reads as premises-in-reads
 
 cast-if1 : tie.Need-cast-if1
 cast-if1 c = search needs
