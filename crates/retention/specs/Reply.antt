@@ -1,0 +1,80 @@
+-- Each operation's answer as plain numbers: the refusal's, 0 where there is none, and the answer's values, all 0 on a refusal.
+use Prim.Native.Nat.{ℕ}
+use mathlib.Core.List.{List}
+use Rattle.reader.specs.declared.answer.Accept.{Accept}
+use Rattle.reader.specs.declared.answer.Accept.the-variants.{Accepted, Refused}
+use Rattle.reader.specs.Item.{stepWidth}
+use Rattle.reader.specs.Accept as accept
+use Rattle.run.specs.declared.answer.Ran.{Ran}
+use Rattle.run.specs.Outcome as ran
+use Rattle.judge.specs.declared.answer.Judged.{Judged}
+use Rattle.judge.specs.Judged as judged
+use Rattle.proofcheck.specs.declared.answer.Checked.{Checked}
+use Rattle.proofcheck.specs.Verdict as checked
+use Rattle.search.specs.declared.answer.Searched.{Searched}
+use Rattle.search.specs.Searched as searched
+use Rattle.retention.specs.declared.reply.FileCounts.{FileCounts}
+use Rattle.retention.specs.declared.reply.Counts.{Counts}
+use Rattle.retention.specs.declared.reply.Verdict.{Verdict}
+
+-- The bytes of one step.
+abbrev pub stepBytes : Accept → ℕ
+stepBytes (Accepted f r e k) = stepWidth
+stepBytes (Refused r) = 0
+
+unfoldable pub fileOf : Accept → FileCounts
+fileOf a =
+    record {
+      refusal = accept.number a;
+      facts = accept.facts a;
+      rules = accept.rules a;
+      exceptions = accept.exceptionRules a;
+      constraints = accept.constraints a;
+      «step_bytes» = stepBytes a;
+    }
+
+unfoldable pub countsOfRan : Ran → Counts
+countsOfRan a = record { refusal = ran.number a; stages = ran.stages a; steps = ran.steps a }
+
+unfoldable pub countsOfSearched : Searched → Counts
+countsOfSearched a = record { refusal = searched.number a; stages = searched.stages a; steps = searched.steps a }
+
+unfoldable pub verdictOfJudged : Judged → Verdict
+verdictOfJudged a = record { refusal = judged.number a; verdict = judged.verdict a }
+
+unfoldable pub verdictOfChecked : Checked → Verdict
+verdictOfChecked a = record { refusal = checked.number a; verdict = checked.verdict a }
+
+-- The reply of a run and the three buffers, from the run's outcome.
+pub record RunReply : Type 0 where
+  pub reply : Counts
+  pub fact-marks : List ℕ
+  pub rule-marks : List ℕ
+  pub steps : List ℕ
+
+unfoldable pub runReply : ran.Outcome → RunReply
+runReply o =
+    record {
+      reply = countsOfRan (o .answer);
+      fact-marks = o .fact-marks;
+      rule-marks = o .rule-marks;
+      steps = o .steps;
+    }
+
+-- The reply of a search and the four buffers, from the search's outcome.
+pub record SearchReply : Type 0 where
+  pub reply : Counts
+  pub fact-marks : List ℕ
+  pub rule-marks : List ℕ
+  pub steps : List ℕ
+  pub order : List ℕ
+
+unfoldable pub searchReply : searched.Outcome → SearchReply
+searchReply o =
+    record {
+      reply = countsOfSearched (o .answer);
+      fact-marks = o .fact-marks;
+      rule-marks = o .rule-marks;
+      steps = o .steps;
+      order = o .order;
+    }

@@ -1,0 +1,77 @@
+// The operations for callers in C and Rust: plain numbers by value, and no type of the engine. Each is the operation of the same name below,
+// with its answer as numbers.
+ghost use mathlib.Core.Path.{_≡_};
+ghost use lib.ListN.{length};
+ghost use Rattle.reader.specs.Accept.{acceptOf};
+ghost use Rattle.run.specs.Outcome.{outcome};
+ghost use Rattle.judge.specs.Judged.{judged};
+ghost use Rattle.proofcheck.specs.Verdict.{checked};
+ghost use Rattle.search.specs.Searched.{searched};
+ghost use Rattle.panel_text.specs.Text.{panelText, shown};
+ghost use Rattle.retention.specs.Reply.{fileOf, verdictOfJudged, verdictOfChecked, RunReply, runReply, SearchReply, searchReply};
+
+pub mod reply;
+
+use reply::Counts;
+use reply::FileCounts;
+use reply::Verdict;
+
+// Is the file accepted, and what does it count?
+#[no_mangle]
+pub extern "C" fn retention_accept(file: &[u8]) -> FileCounts
+    ensures { λ r. ⌜ r ≡ fileOf (acceptOf (now (file .entry))) ⌝ }
+{
+    reply::of_accept(reader::accept(file))
+}
+
+// Runs a file under an order.
+#[no_mangle]
+pub extern "C" fn retention_run(
+    file: &[u8],
+    order: &[u8],
+    fact_marks: &mut [u8],
+    rule_marks: &mut [u8],
+    steps: &mut [u8],
+) -> Counts
+    ensures { λ r. ⌜ _≡_ {A = RunReply} (record { reply = r; fact-marks = now («fact_marks» .exit); rule-marks = now («rule_marks» .exit); steps = now (steps .exit) }) (runReply (outcome (now (file .entry)) (now (order .entry)) (now («fact_marks» .entry)) (now («rule_marks» .entry)) (now (steps .entry)))) ⌝ }
+{
+    reply::of_ran(run::run(file, order, fact_marks, rule_marks, steps))
+}
+
+// Is a set stable for a file less some listed exception rules?
+#[no_mangle]
+pub extern "C" fn retention_judge(file: &[u8], list: &[u8], set: &[u8]) -> Verdict
+    ensures { λ r. ⌜ r ≡ verdictOfJudged (judged (now (file .entry)) (now (list .entry)) (now (set .entry))) ⌝ }
+{
+    reply::of_judged(judge::judge(file, list, set))
+}
+
+// Is a row of steps a proof of a fact that a set admits?
+#[no_mangle]
+pub extern "C" fn retention_check(file: &[u8], set: &[u8], fact: u32, proof: &[u8]) -> Verdict
+    ensures { λ r. ⌜ r ≡ verdictOfChecked (checked (now (file .entry)) (now (set .entry)) fact (now (proof .entry))) ⌝ }
+{
+    reply::of_checked(proofcheck::check(file, set, fact, proof))
+}
+
+// Searches a file for its earliest stable set.
+#[no_mangle]
+pub extern "C" fn retention_search(
+    file: &[u8],
+    fact_marks: &mut [u8],
+    rule_marks: &mut [u8],
+    steps: &mut [u8],
+    order: &mut [u8],
+) -> Counts
+    ensures { λ r. ⌜ _≡_ {A = SearchReply} (record { reply = r; fact-marks = now («fact_marks» .exit); rule-marks = now («rule_marks» .exit); steps = now (steps .exit); order = now (order .exit) }) (searchReply (searched (now (file .entry)) (now («fact_marks» .entry)) (now («rule_marks» .entry)) (now (steps .entry)) (now (order .entry)))) ⌝ }
+{
+    reply::of_searched(search::search(file, fact_marks, rule_marks, steps, order))
+}
+
+// The panel's text for a file, written where it fits. Answers its length.
+#[no_mangle]
+pub extern "C" fn retention_panel(file: &[u8], out: &mut [u8]) -> u32
+    ensures { λ r. ⌜ (r ≡ length (panelText (now (file .entry)))) × (now (out .exit) ≡ shown (panelText (now (file .entry))) (now (out .entry))) ⌝ }
+{
+    panel_text::render(file, out) as u32
+}

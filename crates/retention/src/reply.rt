@@ -1,0 +1,135 @@
+// The replies, and each answer as a reply. A refusal has its number and 0 for every other value.
+ghost use mathlib.Core.Path.{_≡_};
+ghost use Rattle.retention.specs.Reply.{fileOf, countsOfRan, countsOfSearched, verdictOfJudged, verdictOfChecked};
+use judge::answer::Judged;
+use proofcheck::answer::Checked;
+use reader::answer::Accept;
+use reader::write::STEP_WIDTH;
+use run::answer::Ran;
+use search::answer::Searched;
+
+// An accepted file, and the bytes of one step.
+#[repr(C)]
+pub struct FileCounts {
+    pub refusal: u32,
+    pub facts: u32,
+    pub rules: u32,
+    pub exceptions: u32,
+    pub constraints: u32,
+    pub step_bytes: u32,
+}
+
+// A run.
+#[repr(C)]
+pub struct Counts {
+    pub refusal: u32,
+    pub stages: u32,
+    pub steps: u32,
+}
+
+// 1 for stable or yes, 0 for not.
+#[repr(C)]
+pub struct Verdict {
+    pub refusal: u32,
+    pub verdict: u32,
+}
+
+pub fn of_accept(a: Accept) -> FileCounts
+    ensures { λ r. ⌜ r ≡ fileOf a ⌝ }
+{
+    match a {
+        Accept::Accepted {
+            facts,
+            rules,
+            exceptions,
+            constraints,
+        } => FileCounts {
+            refusal: 0,
+            facts: facts as u32,
+            rules: rules as u32,
+            exceptions: exceptions as u32,
+            constraints: constraints as u32,
+            step_bytes: STEP_WIDTH as u32,
+        },
+        Accept::Refused(r) => FileCounts {
+            refusal: r.number() as u32,
+            facts: 0,
+            rules: 0,
+            exceptions: 0,
+            constraints: 0,
+            step_bytes: 0,
+        },
+    }
+}
+
+pub fn of_ran(a: Ran) -> Counts
+    ensures { λ r. ⌜ r ≡ countsOfRan a ⌝ }
+{
+    match a {
+        Ran::Done { stages, steps } => Counts {
+            refusal: 0,
+            stages: stages as u32,
+            steps: steps as u32,
+        },
+        Ran::Refused(r) => Counts {
+            refusal: r.number() as u32,
+            stages: 0,
+            steps: 0,
+        },
+    }
+}
+
+pub fn of_searched(a: Searched) -> Counts
+    ensures { λ r. ⌜ r ≡ countsOfSearched a ⌝ }
+{
+    match a {
+        Searched::Found { stages, steps } => Counts {
+            refusal: 0,
+            stages: stages as u32,
+            steps: steps as u32,
+        },
+        Searched::Refused(r) => Counts {
+            refusal: r.number() as u32,
+            stages: 0,
+            steps: 0,
+        },
+    }
+}
+
+pub fn of_judged(a: Judged) -> Verdict
+    ensures { λ r. ⌜ r ≡ verdictOfJudged a ⌝ }
+{
+    match a {
+        Judged::Stable => Verdict {
+            refusal: 0,
+            verdict: 1,
+        },
+        Judged::NotStable => Verdict {
+            refusal: 0,
+            verdict: 0,
+        },
+        Judged::Refused(r) => Verdict {
+            refusal: r.number() as u32,
+            verdict: 0,
+        },
+    }
+}
+
+pub fn of_checked(a: Checked) -> Verdict
+    ensures { λ r. ⌜ r ≡ verdictOfChecked a ⌝ }
+{
+    match a {
+        Checked::Yes => Verdict {
+            refusal: 0,
+            verdict: 1,
+        },
+        Checked::No => Verdict {
+            refusal: 0,
+            verdict: 0,
+        },
+        Checked::Refused(r) => Verdict {
+            refusal: r.number() as u32,
+            verdict: 0,
+        },
+    }
+}

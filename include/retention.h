@@ -1,0 +1,172 @@
+/*
+ * The retention rule engine.
+ *
+ * Facts and rules are counted separately, each from 0. A rule file is a row of
+ * items, one byte of kind and then a body (kinds in hexadecimal, numbers of two
+ * bytes high byte first):
+ *
+ *   10  fact count, 1 byte (0 to 255); first, and only there
+ *   01  opens a rule, 1 byte: its conclusion
+ *   02  a premise of the rule last opened, 1 byte
+ *   03  a constraint of it, 1 byte
+ *   1F  rule count, 2 bytes (0 to 512); last
+ *
+ * Beside the file:
+ *
+ *   05  a rule number, 2 bytes: orders and lists are rows of these
+ *   06  a proof step, 1 byte of fact and 2 of rule: proofs are rows of these
+ *
+ * A fact set is one byte for each fact, 1 in, 0 out. A plain rule has no
+ * constraint, an exception rule has one or more. A constraint fact is a fact
+ * that is a constraint of some rule.
+ *
+ * What a caller owes
+ *
+ *   - Every pointer is non-null. With its length it names bytes that stay valid
+ *     and unchanged by others during the call. With length 0 it is not read or
+ *     written and may be any non-null address.
+ *   - Lent buffers, those that are not const, overlap neither each other nor an
+ *     input.
+ *
+ * What a caller gets
+ *
+ *   - The reply comes back by value. Its refusal is 0 where there is none, and
+ *     then its other values hold. On a refusal all its other values are 0, and
+ *     no byte of a lent buffer has changed.
+ *   - In a lent buffer the bytes past those written keep their contents.
+ *   - Nothing is kept between calls, and nothing is allocated for the caller.
+ *
+ * Refusals
+ *
+ * Each is the number of the first question that gets a no. The questions are
+ * asked in the order given with each function.
+ *
+ *   the file, from the start; 3 to 10 for each next item
+ *    1  At most 32,767 bytes?
+ *    2  Does it begin with a whole 10 item?
+ *    3  Is there a next byte?
+ *    4  Is its kind 01, 02, 03 or 1F?
+ *    5  Is the body whole?
+ *    6  01, 02, 03: is the fact below the count?
+ *    7  02, 03: has a rule been opened?
+ *    8  01: fewer than 512 rules before it?
+ *    9  1F: does it give the number of rules?
+ *   10  1F: does the file end there?
+ *
+ *   an order or a list; 12 and 13 for each item
+ *   11  Whole 05 items throughout?
+ *   12  Does it name an exception rule of the file?
+ *   13  Is the rule not named before?
+ *   14  An order: is every exception rule named?
+ *
+ *   a fact set
+ *   21  One byte for each fact?
+ *   22  Every byte 0 or 1?
+ *
+ *   a proof check
+ *   23  Whole 06 items throughout?
+ *   24  Is the asked fact below the count? (asked before 23)
+ *
+ *   lent buffers
+ *   31  Fact marks: at least the count of facts?
+ *   32  Rule marks: at least the count of rules?
+ *   33  Steps: at least 4 x facts?
+ *   34  Order: at least 3 x exception rules?
+ *
+ *   the search
+ *   40  At most 16 constraint facts?
+ *   41  Is there a stable set?
+ */
+#ifndef RETENTION_H
+#define RETENTION_H
+
+#include <stddef.h>
+#include <stdint.h>
+
+#ifdef __cplusplus
+extern "C" {
+#endif
+
+/* The counts of a run: its stages, and the steps it wrote. */
+typedef struct {
+    uint32_t refusal, stages, steps;
+} retention_counts;
+
+/* An answer: verdict 1 for stable or yes, 0 for not. */
+typedef struct {
+    uint32_t refusal, verdict;
+} retention_verdict;
+
+/* An accepted file: its facts, rules, exception rules and constraint facts.
+ * step_bytes is the bytes of one step, 4 here. */
+typedef struct {
+    uint32_t refusal, facts, rules, exceptions, constraints, step_bytes;
+} retention_file;
+
+/*
+ * Is the file accepted, and what does it count? The counts give the sizes of
+ * the buffers that the other functions need.
+ * Questions: 1 to 10.
+ */
+retention_file retention_accept(const uint8_t *file, size_t file_len);
+
+/*
+ * Runs the file under an order that names every exception rule once. Writes one
+ * mark for each fact (0 open, 1 derived, 2 ruled out), one for each rule
+ * (0 plain, 1 applied at a stage, 2 set aside, 3 other), and the steps in order,
+ * as 06 items.
+ * Questions: 1 to 14, 31 to 33.
+ */
+retention_counts retention_run(const uint8_t *file, size_t file_len,
+                               const uint8_t *order, size_t order_len,
+                               uint8_t *fact_marks, size_t fact_marks_len,
+                               uint8_t *rule_marks, size_t rule_marks_len,
+                               uint8_t *steps, size_t steps_len);
+
+/*
+ * Is the set stable for the file less the listed exception rules?
+ * Questions: 1 to 13, 21, 22.
+ */
+retention_verdict retention_judge(const uint8_t *file, size_t file_len,
+                                  const uint8_t *list, size_t list_len,
+                                  const uint8_t *set, size_t set_len);
+
+/*
+ * Is the row of steps a proof of the fact that the set admits? An empty row,
+ * or an unknown fact or rule in a step, gets the verdict 0 and no refusal.
+ * Questions: 1 to 10, 21, 22, 24, 23.
+ */
+retention_verdict retention_check(const uint8_t *file, size_t file_len,
+                                  const uint8_t *set, size_t set_len,
+                                  uint32_t fact,
+                                  const uint8_t *proof, size_t proof_len);
+
+/*
+ * Finds the earliest stable set of the file: of two stable sets the earlier
+ * lacks the highest constraint fact on which they differ. Writes an order under
+ * which the run ends at that set, as 05 items, and the marks and steps of that
+ * run. The set is the facts marked 1. The steps from the first up to a fact's
+ * own are a proof of it that the set admits.
+ * Questions: 1 to 10, 31 to 34, 40, 41.
+ */
+retention_counts retention_search(const uint8_t *file, size_t file_len,
+                                  uint8_t *fact_marks, size_t fact_marks_len,
+                                  uint8_t *rule_marks, size_t rule_marks_len,
+                                  uint8_t *steps, size_t steps_len,
+                                  uint8_t *order, size_t order_len);
+
+/*
+ * Writes what the panel program prints for the file, and returns the length of
+ * that text. Where the buffer is shorter nothing is written; a call with length
+ * 0 asks for the length. The text of a refusal is "E n" and a line end, and
+ * there is no zero byte after the text.
+ * Questions: 1 to 10, answered by the text.
+ */
+uint32_t retention_panel(const uint8_t *file, size_t file_len,
+                         uint8_t *out, size_t out_len);
+
+#ifdef __cplusplus
+}
+#endif
+
+#endif
