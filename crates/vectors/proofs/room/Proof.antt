@@ -1,0 +1,12 @@
+-- `vectors::room`: the length by its law, since it is too long to be counted.
+use Prim.Native.Nat.{ℕ}
+use mathlib.Core.Path.{sym}
+use lib.ListN.{length-replicate}
+use Rattle.vectors.proofs.room.Statement.{statement}
+use Rattle.vectors.proofs.room.Tie as tie
+
+returns : tie.Need-returns
+returns c = sym (length-replicate {A = ℕ} 1048576 0)
+
+pub room-spec : {M : Type 1} → statement M
+room-spec = tie.close (tie.spec returns)

@@ -1,0 +1,278 @@
+/* Runs the specification's examples through the C interface. */
+#include <retention.h>
+
+#include <stdio.h>
+#include <string.h>
+
+#define COUNT(array) (sizeof(array) / sizeof((array)[0]))
+#define BYTES(...) (const uint8_t[]){__VA_ARGS__}, COUNT(((const uint8_t[]){__VA_ARGS__}))
+/* With length 0 a pointer is not read, so any address that is not null will do. */
+#define NOTHING (const uint8_t[]){0}, 0
+
+enum { UNTOUCHED = 0xA5, MOST_FACTS = 255, MOST_RULES = 512 };
+
+static int failures;
+
+static void expect(int holds, const char *what)
+{
+    printf("%s %s\n", holds ? "PASS" : "FAIL", what);
+    failures += !holds;
+}
+
+/* The buffers of a run or a search, of the largest size. */
+typedef struct {
+    uint8_t fact_marks[MOST_FACTS];
+    uint8_t rule_marks[MOST_RULES];
+    uint8_t steps[4 * MOST_FACTS];
+    uint8_t order[3 * MOST_RULES];
+    retention_counts counts;
+} outcome;
+
+static outcome untouched(void)
+{
+    outcome result;
+    memset(&result, UNTOUCHED, sizeof result);
+    return result;
+}
+
+static outcome run(const uint8_t *file, size_t file_len, const uint8_t *order, size_t order_len)
+{
+    outcome result = untouched();
+    result.counts = retention_run(file, file_len, order, order_len,
+                                  result.fact_marks, sizeof result.fact_marks,
+                                  result.rule_marks, sizeof result.rule_marks,
+                                  result.steps, sizeof result.steps);
+    return result;
+}
+
+static outcome search(const uint8_t *file, size_t file_len)
+{
+    outcome result = untouched();
+    result.counts = retention_search(file, file_len,
+                                     result.fact_marks, sizeof result.fact_marks,
+                                     result.rule_marks, sizeof result.rule_marks,
+                                     result.steps, sizeof result.steps,
+                                     result.order, sizeof result.order);
+    return result;
+}
+
+/* The buffer holds the bytes, and past them what it held before the call. */
+static int holds(const uint8_t *buffer, size_t buffer_len, const uint8_t *bytes, size_t len)
+{
+    if (len > buffer_len || memcmp(buffer, bytes, len) != 0)
+        return 0;
+    for (size_t place = len; place < buffer_len; place++)
+        if (buffer[place] != UNTOUCHED)
+            return 0;
+    return 1;
+}
+
+#define HOLDS(buffer, ...) holds(buffer, sizeof(buffer), __VA_ARGS__)
+
+static int refused(const outcome *result, uint32_t refusal)
+{
+    const retention_counts *counts = &result->counts;
+    return counts->refusal == refusal && counts->stages == 0 && counts->steps == 0
+        && HOLDS(result->fact_marks, NOTHING) && HOLDS(result->rule_marks, NOTHING)
+        && HOLDS(result->steps, NOTHING) && HOLDS(result->order, NOTHING);
+}
+
+static int counted(const outcome *result, uint32_t stages, uint32_t steps)
+{
+    const retention_counts *counts = &result->counts;
+    return counts->refusal == 0 && counts->stages == stages && counts->steps == steps;
+}
+
+/* 4 facts; 0<; 1<0,!2; 2<0,!1; 3<2 */
+static const uint8_t A[] = {0x10, 4, 1, 0, 1, 1, 2, 0, 3, 2, 1, 2,
+                            2,    0, 3, 1, 1, 3, 2, 2, 0x1F, 0, 4};
+/* 1 fact; 0<!0 */
+static const uint8_t B[] = {0x10, 1, 1, 0, 3, 0, 0x1F, 0, 1};
+/* 3 facts; 0<!1; 1<!2 */
+static const uint8_t C[] = {0x10, 3, 1, 0, 3, 1, 1, 1, 3, 2, 0x1F, 0, 2};
+/* 2 facts; 1<0; 0<!1 */
+static const uint8_t D[] = {0x10, 2, 1, 1, 2, 0, 1, 0, 3, 1, 0x1F, 0, 2};
+/* nothing */
+static const uint8_t E[] = {0x10, 0, 0x1F, 0, 0};
+/* 1 fact; 0<0 */
+static const uint8_t F[] = {0x10, 1, 1, 0, 2, 0, 0x1F, 0, 1};
+
+static void example_a(void)
+{
+    outcome first = run(A, sizeof A, BYTES(5, 0, 1, 5, 0, 2));
+    expect(counted(&first, 1, 2) && HOLDS(first.fact_marks, BYTES(1, 1, 2, 0))
+               && HOLDS(first.rule_marks, BYTES(0, 1, 3, 0))
+               && HOLDS(first.steps, BYTES(6, 0, 0, 0, 6, 1, 0, 1)),
+           "A: order 1 2");
+    outcome second = run(A, sizeof A, BYTES(5, 0, 2, 5, 0, 1));
+    expect(counted(&second, 1, 3) && HOLDS(second.fact_marks, BYTES(1, 2, 1, 1))
+               && HOLDS(second.rule_marks, BYTES(0, 3, 1, 0))
+               && HOLDS(second.steps, BYTES(6, 0, 0, 0, 6, 2, 0, 2, 6, 3, 0, 3)),
+           "A2: order 2 1");
+    outcome found = search(A, sizeof A);
+    expect(counted(&found, 1, 2) && HOLDS(found.fact_marks, BYTES(1, 1, 2, 0))
+               && HOLDS(found.rule_marks, BYTES(0, 1, 3, 0))
+               && HOLDS(found.steps, BYTES(6, 0, 0, 0, 6, 1, 0, 1))
+               && HOLDS(found.order, BYTES(5, 0, 1, 5, 0, 2)),
+           "A3: the search takes {0,1}");
+    retention_verdict stable = retention_judge(A, sizeof A, NOTHING, BYTES(1, 1, 0, 0));
+    expect(stable.refusal == 0 && stable.verdict == 1, "A3: {0,1} is stable");
+    retention_verdict proof =
+        retention_check(A, sizeof A, BYTES(1, 1, 0, 0), 1, BYTES(6, 0, 0, 0, 6, 1, 0, 1));
+    expect(proof.refusal == 0 && proof.verdict == 1, "A3: the steps prove 1");
+    proof = retention_check(A, sizeof A, BYTES(1, 1, 1, 0), 1, BYTES(6, 0, 0, 0, 6, 1, 0, 1));
+    expect(proof.refusal == 0 && proof.verdict == 0, "A: a set with 2 does not admit the proof");
+    proof = retention_check(A, sizeof A, BYTES(1, 1, 0, 0), 4, NOTHING);
+    expect(proof.refusal == 24 && proof.verdict == 0, "A: fact 4 cannot be asked for");
+}
+
+static void orders_for_a(void)
+{
+    outcome result = run(A, sizeof A, BYTES(5, 0, 0));
+    expect(refused(&result, 12), "order 0 for A: 12");
+    result = run(A, sizeof A, BYTES(5, 0, 1, 5, 0, 1));
+    expect(refused(&result, 13), "order 1 1 for A: 13");
+    result = run(A, sizeof A, BYTES(5, 0, 1));
+    expect(refused(&result, 14), "order 1 for A: 14");
+}
+
+static void example_b(void)
+{
+    outcome end = run(B, sizeof B, BYTES(5, 0, 0));
+    expect(counted(&end, 0, 0) && HOLDS(end.fact_marks, BYTES(0))
+               && HOLDS(end.rule_marks, BYTES(2)) && HOLDS(end.steps, NOTHING),
+           "B: nothing derived, rule 0 set aside");
+    outcome found = search(B, sizeof B);
+    expect(refused(&found, 41), "B: search 41");
+}
+
+static void example_c(void)
+{
+    outcome first = run(C, sizeof C, BYTES(5, 0, 0, 5, 0, 1));
+    expect(counted(&first, 1, 1) && HOLDS(first.fact_marks, BYTES(1, 2, 0))
+               && HOLDS(first.rule_marks, BYTES(1, 2)) && HOLDS(first.steps, BYTES(6, 0, 0, 0)),
+           "C: order 0 1");
+    outcome second = run(C, sizeof C, BYTES(5, 0, 1, 5, 0, 0));
+    expect(counted(&second, 1, 1) && HOLDS(second.fact_marks, BYTES(0, 1, 2))
+               && HOLDS(second.rule_marks, BYTES(3, 1)) && HOLDS(second.steps, BYTES(6, 1, 0, 1)),
+           "C2: order 1 0");
+    outcome found = search(C, sizeof C);
+    expect(counted(&found, 1, 1) && HOLDS(found.fact_marks, BYTES(0, 1, 2))
+               && HOLDS(found.order, BYTES(5, 0, 1, 5, 0, 0)),
+           "C3: search order 1 0");
+}
+
+static void examples_d_e_f(void)
+{
+    outcome end = run(D, sizeof D, BYTES(5, 0, 1));
+    expect(counted(&end, 0, 0) && HOLDS(end.rule_marks, BYTES(0, 2)), "D: rule 1 set aside");
+    outcome found = search(D, sizeof D);
+    expect(refused(&found, 41), "D: search 41");
+    found = search(E, sizeof E);
+    expect(counted(&found, 0, 0) && HOLDS(found.fact_marks, NOTHING)
+               && HOLDS(found.rule_marks, NOTHING) && HOLDS(found.steps, NOTHING)
+               && HOLDS(found.order, NOTHING),
+           "E: the empty set, an empty order");
+    retention_verdict whole = retention_judge(F, sizeof F, NOTHING, BYTES(1));
+    expect(whole.refusal == 0 && whole.verdict == 0, "F: {0} is not stable");
+    retention_verdict empty = retention_judge(F, sizeof F, NOTHING, BYTES(0));
+    expect(empty.refusal == 0 && empty.verdict == 1, "F: the empty set is stable");
+}
+
+static void expect_refusal(const uint8_t *file, size_t len, uint32_t refusal, const char *what)
+{
+    retention_file found = retention_accept(file, len);
+    expect(found.refusal == refusal && found.facts == 0 && found.rules == 0
+               && found.exceptions == 0 && found.constraints == 0 && found.step_bytes == 0,
+           what);
+}
+
+/* Ends the file after its rules, and gives its length. */
+static size_t end_file(uint8_t *file, size_t len, size_t rules)
+{
+    file[len++] = 0x1F;
+    file[len++] = (uint8_t)(rules >> 8);
+    file[len++] = (uint8_t)rules;
+    return len;
+}
+
+/* 512 rules with this many constraint facts; fact 20 is the conclusion of all. */
+static size_t constrained(uint8_t *file, size_t constraint_facts)
+{
+    size_t len = 0;
+    file[len++] = 0x10;
+    file[len++] = 21;
+    for (size_t rule = 0; rule < MOST_RULES; rule++) {
+        file[len++] = 1;
+        file[len++] = 20;
+        file[len++] = 3;
+        file[len++] = (uint8_t)(rule % constraint_facts);
+    }
+    return end_file(file, len, MOST_RULES);
+}
+
+static void files(void)
+{
+    static uint8_t large[32768];
+    expect_refusal(NOTHING, 2, "empty file: 2");
+    expect_refusal(BYTES(0x10, 1), 3, "10 01: 3");
+    expect_refusal(BYTES(0x10, 1, 5), 4, "10 01 05: 4");
+    expect_refusal(BYTES(0x10, 1, 1), 5, "10 01 01: 5");
+    expect_refusal(BYTES(0x10, 1, 1, 1), 6, "10 01 01 01: 6");
+    expect_refusal(BYTES(0x10, 1, 2, 0), 7, "10 01 02 00: 7");
+    expect_refusal(BYTES(0x10, 0, 0x1F, 0, 1), 9, "10 00 1F 00 01: 9");
+    expect_refusal(BYTES(0x10, 0, 0x1F, 0, 0, 0), 10, "E and one more byte: 10");
+    expect_refusal(large, sizeof large, 1, "32,768 bytes: 1");
+
+    size_t len = 0;
+    large[len++] = 0x10;
+    large[len++] = 1;
+    for (size_t rule = 0; rule < MOST_RULES + 1; rule++) {
+        large[len++] = 1;
+        large[len++] = 0;
+    }
+    len = end_file(large, len, MOST_RULES + 1);
+    expect_refusal(large, len, 8, "513 rules: 8");
+
+    len = constrained(large, 16);
+    retention_file found = retention_accept(large, len);
+    expect(found.refusal == 0 && found.facts == 21 && found.rules == 512
+               && found.exceptions == 512 && found.constraints == 16 && found.step_bytes == 4,
+           "512 rules and 16 constraint facts are accepted");
+    outcome searched = search(large, len);
+    expect(counted(&searched, 1, 1), "512 rules and 16 constraint facts: searched");
+    len = constrained(large, 17);
+    searched = search(large, len);
+    expect(refused(&searched, 40), "17 constraint facts: 40");
+}
+
+static int prints(const uint8_t *file, size_t len, const char *text)
+{
+    uint8_t out[64];
+    size_t text_len = strlen(text);
+    memset(out, UNTOUCHED, sizeof out);
+    if (retention_panel(file, len, out, text_len - 1) != text_len || !HOLDS(out, NOTHING))
+        return 0;
+    return retention_panel(file, len, out, sizeof out) == text_len
+        && HOLDS(out, (const uint8_t *)text, text_len);
+}
+
+static void panel(void)
+{
+    expect(prints(C, sizeof C, "F 3 R 2 S 1\nD 0 0\nX 1\nA 1\nN\n"), "panel for C");
+    expect(prints(E, sizeof E, "F 0 R 0 S 0\nY\n"), "panel for E");
+    expect(prints(NOTHING, "E 2\n"), "panel for empty input");
+}
+
+int main(void)
+{
+    example_a();
+    orders_for_a();
+    example_b();
+    example_c();
+    examples_d_e_f();
+    files();
+    panel();
+    printf("%d failed\n", failures);
+    return failures == 0 ? 0 : 1;
+}

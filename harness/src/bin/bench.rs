@@ -1,0 +1,437 @@
+//! Times the archive and the reference side by side on the same inputs.
+//!
+//! bench [--out path]
+//!
+//! Every row is one operation on one file. The growth is the time over the time
+//! at the size before, with half the rules. Nothing is written unless asked for.
+
+#[path = "../archive.rs"]
+mod archive;
+#[path = "../draft.rs"]
+mod draft;
+#[path = "../random.rs"]
+mod random;
+
+use draft::{Draft, chain};
+use random::Random;
+use reference::{Lent, STEP_BYTES};
+use std::hint::black_box;
+use std::process::ExitCode;
+use std::time::{Duration, Instant};
+
+/// Rules and facts of the growing files.
+const SIZES: [(usize, usize); 4] = [(64, 32), (128, 64), (256, 128), (512, 255)];
+/// One round repeats its call for about this long.
+const ROUND: Duration = Duration::from_millis(2);
+const ROUNDS: usize = 9;
+/// Calls slower than this are timed in fewer rounds.
+const SLOW: Duration = Duration::from_millis(200);
+const SLOW_ROUNDS: usize = 3;
+
+#[derive(Clone, Copy)]
+enum RuleOrder {
+    Forward,
+    Backward,
+    Shuffled,
+}
+
+/// Fact `first` from nothing and a chain up from it; further rules, up to the
+/// count, lead to the same facts from two before them.
+fn add_chains(draft: &mut Draft, first: usize, rules: usize) {
+    let facts: Vec<usize> = (first..usize::from(draft.facts)).collect();
+    draft.rule(first, &[], &[]);
+    chain(draft, &facts);
+    draft.rules.truncate(rules);
+    for place in (2..facts.len()).cycle() {
+        if draft.rules.len() == rules {
+            return;
+        }
+        draft.rule(facts[place], &[facts[place - 1], facts[place - 2]], &[]);
+    }
+}
+
+fn chains((rules, facts): (usize, usize), order: RuleOrder) -> Draft {
+    let mut draft = Draft::new(facts);
+    add_chains(&mut draft, 0, rules);
+    match order {
+        RuleOrder::Forward => {}
+        RuleOrder::Backward => draft.rules.reverse(),
+        RuleOrder::Shuffled => Random::new(1, rules as u64).shuffle(&mut draft.rules),
+    }
+    draft
+}
+
+/// Constraint facts that exclude each other in pairs, and rules above them that
+/// mostly have one as a constraint. There are stable sets.
+fn exceptions((rules, facts): (usize, usize), constraint_facts: usize) -> Draft {
+    let random = &mut Random::new(2, rules as u64);
+    let mut draft = Draft::new(facts);
+    for fact in 0..constraint_facts {
+        draft.rule(fact, &[], &[fact ^ 1]);
+    }
+    while draft.rules.len() < rules {
+        let conclusion = random.within(constraint_facts, facts - 1);
+        let premise = random.below(conclusion);
+        if random.one_in(4) {
+            draft.rule(conclusion, &[premise], &[]);
+        } else {
+            draft.rule(conclusion, &[premise], &[random.below(constraint_facts)]);
+        }
+    }
+    random.shuffle(&mut draft.rules);
+    draft
+}
+
+/// No stable set: seven pairs, and an odd loop on the lowest constraint fact,
+/// which a search from the highest number down meets last.
+fn pairs_above_odd_loop() -> Draft {
+    let mut draft = Draft::new(255);
+    draft.rule(0, &[], &[0]);
+    draft.rule(1, &[], &[0]);
+    draft.rule(16, &[], &[1]);
+    for fact in 2..16 {
+        draft.rule(fact, &[], &[fact ^ 1]);
+    }
+    add_chains(&mut draft, 16, 512);
+    draft.rules.reverse();
+    draft
+}
+
+/// No stable set: fifteen constraint facts that all rest on the absence of the
+/// lowest, which is an odd loop; none of them says anything of another.
+fn all_above_lowest() -> Draft {
+    let mut draft = Draft::new(255);
+    draft.rule(0, &[], &[0]);
+    for fact in 1..16 {
+        draft.rule(fact, &[], &[0]);
+        draft.rule(16, &[], &[fact]);
+    }
+    add_chains(&mut draft, 16, 512);
+    draft.rules.reverse();
+    draft
+}
+
+/// A file with the inputs and the buffers of all operations.
+struct Subject {
+    file: Vec<u8>,
+    order: Vec<u8>,
+    set: Vec<u8>,
+    list: Vec<u8>,
+    proof: Vec<u8>,
+    asked: u32,
+    constraint_facts: usize,
+    buffers: Buffers,
+}
+
+#[derive(Clone, PartialEq, Eq)]
+struct Buffers {
+    fact_marks: Vec<u8>,
+    rule_marks: Vec<u8>,
+    steps: Vec<u8>,
+    order: Vec<u8>,
+}
+
+impl Buffers {
+    fn lent(&mut self) -> (Lent<'_>, &mut [u8]) {
+        let Buffers { fact_marks, rule_marks, steps, order } = self;
+        (Lent { fact_marks, rule_marks, steps }, order)
+    }
+}
+
+fn rule_numbers(rules: impl IntoIterator<Item = usize>) -> Vec<u8> {
+    let item = |rule: usize| [reference::kind::RULE_NUMBER, (rule >> 8) as u8, rule as u8];
+    rules.into_iter().flat_map(item).collect()
+}
+
+impl Subject {
+    /// The judge gets the end of the ascending run with the rules set aside, the
+    /// check the whole row of its steps.
+    fn new(draft: &Draft) -> Subject {
+        let file = draft.bytes();
+        let order = rule_numbers(draft.exceptions());
+        let mut buffers = Buffers {
+            fact_marks: vec![0; usize::from(draft.facts)],
+            rule_marks: vec![0; draft.rules.len()],
+            steps: vec![0; STEP_BYTES * usize::from(draft.facts)],
+            order: vec![0; order.len()],
+        };
+        let counts = reference::run(&file, &order, buffers.lent().0).expect("the run is answered");
+        let set = buffers.fact_marks.iter().map(|&mark| u8::from(mark == 1)).collect();
+        let rule_marks = &buffers.rule_marks;
+        let list = rule_numbers((0..rule_marks.len()).filter(|&rule| rule_marks[rule] == 2));
+        let proof = buffers.steps[..STEP_BYTES * counts.steps].to_vec();
+        let asked = proof.rchunks(STEP_BYTES).next().map_or(0, |step| u32::from(step[1]));
+        let constraint_facts =
+            reference::accept(&file).expect("the file is accepted").constraint_facts;
+        Subject { file, order, set, list, proof, asked, constraint_facts, buffers }
+    }
+
+    /// Both sides say the same, so that the times are of the same work.
+    fn agrees(&self) -> bool {
+        let mut ours = self.buffers.clone();
+        let mut theirs = self.buffers.clone();
+        let (lent, order) = ours.lent();
+        let expected = match reference::search(&self.file, lent, order) {
+            Ok(counts) => [0, counts.stages as u32, counts.steps as u32],
+            Err(refusal) => [refusal as u32, 0, 0],
+        };
+        let searched = self.archive_search(&mut theirs) == expected && ours == theirs;
+        let text = reference::panel(&self.file);
+        let mut out = vec![0; text.len()];
+        let length = archive::panel(&self.file, &mut out);
+        let same_panel = length as usize == text.len() && out == text.as_bytes();
+        let accepted = archive::accept(&self.file)[0] == 0;
+        let stable = archive::judge(&self.file, &self.list, &self.set) == [0, 1];
+        let checked = archive::check(&self.file, &self.set, self.asked, &self.proof);
+        let proved = checked == [0, u32::from(!self.proof.is_empty())];
+        searched && same_panel && accepted && stable && proved
+    }
+
+    fn archive_search(&self, buffers: &mut Buffers) -> [u32; 3] {
+        let Buffers { fact_marks, rule_marks, steps, order } = buffers;
+        archive::search(&self.file, fact_marks, rule_marks, steps, order)
+    }
+
+    fn archive_run(&self, buffers: &mut Buffers) -> [u32; 3] {
+        let Buffers { fact_marks, rule_marks, steps, .. } = buffers;
+        archive::run(&self.file, &self.order, fact_marks, rule_marks, steps)
+    }
+
+    fn times(&self, operation: Operation) -> Times {
+        let (file, set, list, proof) = (&self.file, &self.set, &self.list, &self.proof);
+        let mut ours = self.buffers.clone();
+        let mut theirs = self.buffers.clone();
+        match operation {
+            Operation::Accept => side_by_side(
+                || archive::accept(black_box(file)),
+                || reference::accept(black_box(file)),
+            ),
+            Operation::Run => side_by_side(
+                || self.archive_run(&mut theirs),
+                || reference::run(black_box(file), &self.order, ours.lent().0),
+            ),
+            Operation::Judge => side_by_side(
+                || archive::judge(black_box(file), list, set),
+                || reference::judge(black_box(file), list, set),
+            ),
+            Operation::Check => side_by_side(
+                || archive::check(black_box(file), set, self.asked, proof),
+                || reference::check(black_box(file), set, self.asked, proof),
+            ),
+            Operation::Search => side_by_side(
+                || self.archive_search(&mut theirs),
+                || {
+                    let (lent, order) = ours.lent();
+                    reference::search(black_box(file), lent, order)
+                },
+            ),
+        }
+    }
+}
+
+#[derive(Clone, Copy, Debug)]
+enum Operation {
+    Accept,
+    Run,
+    Judge,
+    Check,
+    Search,
+}
+
+const OPERATIONS: [Operation; 5] =
+    [Operation::Accept, Operation::Run, Operation::Judge, Operation::Check, Operation::Search];
+
+/// Median seconds of one call.
+#[derive(Clone, Copy)]
+struct Times {
+    archive: f64,
+    reference: f64,
+}
+
+/// A call, timed in rounds of a fixed number of repeats.
+struct Timed<C> {
+    call: C,
+    repeats: u32,
+    rounds: usize,
+}
+
+impl<R, C: FnMut() -> R> Timed<C> {
+    /// The first call warms up, and a second tells how often to repeat.
+    fn new(mut call: C) -> Timed<C> {
+        let mut once = time_of(&mut call);
+        if once > SLOW {
+            return Timed { call, repeats: 1, rounds: SLOW_ROUNDS };
+        }
+        once = time_of(&mut call).max(Duration::from_nanos(20));
+        let repeats = (ROUND.as_nanos() / once.as_nanos()).max(1) as u32;
+        Timed { call, repeats, rounds: ROUNDS }
+    }
+
+    fn round(&mut self) -> f64 {
+        let started = Instant::now();
+        for _ in 0..self.repeats {
+            black_box((self.call)());
+        }
+        started.elapsed().as_secs_f64() / f64::from(self.repeats)
+    }
+}
+
+fn time_of<R>(call: &mut impl FnMut() -> R) -> Duration {
+    let started = Instant::now();
+    black_box(call());
+    started.elapsed()
+}
+
+/// The rounds of both sides alternate, so that a change of the machine's speed
+/// meets both.
+fn side_by_side<A, B>(archive: impl FnMut() -> A, reference: impl FnMut() -> B) -> Times {
+    let mut archive = Timed::new(archive);
+    let mut reference = Timed::new(reference);
+    let rounds = archive.rounds.min(reference.rounds);
+    let (ours, theirs): (Vec<f64>, Vec<f64>) =
+        (0..rounds).map(|_| (archive.round(), reference.round())).unzip();
+    Times { archive: median(ours), reference: median(theirs) }
+}
+
+fn median(mut times: Vec<f64>) -> f64 {
+    times.sort_by(f64::total_cmp);
+    times[times.len() / 2]
+}
+
+/// The table, printed line by line and kept.
+struct Table {
+    text: String,
+    /// Logarithms of the ratios, by operation.
+    ratios: [Vec<f64>; 5],
+}
+
+impl Table {
+    fn line(&mut self, line: &str) {
+        println!("{line}");
+        self.text += line;
+        self.text.push('\n');
+    }
+
+    fn head(&mut self) {
+        self.line(&format!(
+            "{:<22}{:>6}{:>6}{:>5}  {:<8}{:>12}{:>12}{:>8}{:>10}{:>10}",
+            "file",
+            "rules",
+            "facts",
+            "con",
+            "",
+            "archive us",
+            "refer. us",
+            "ratio",
+            "growth a",
+            "growth r"
+        ));
+    }
+
+    fn row(&mut self, file: &str, subject: &Subject, operation: Operation, rows: TimesRow) {
+        let growth = |time: f64, before: Option<f64>| {
+            before.map_or("-".to_string(), |before| format!("{:.2}", time / before))
+        };
+        let TimesRow { now, before } = rows;
+        self.ratios[operation as usize].push((now.archive / now.reference).ln());
+        self.line(&format!(
+            "{:<22}{:>6}{:>6}{:>5}  {:<8}{:>12.2}{:>12.2}{:>8.2}{:>10}{:>10}",
+            file,
+            subject.buffers.rule_marks.len(),
+            subject.buffers.fact_marks.len(),
+            subject.constraint_facts,
+            format!("{operation:?}").to_lowercase(),
+            now.archive * 1e6,
+            now.reference * 1e6,
+            now.archive / now.reference,
+            growth(now.archive, before.map(|times| times.archive)),
+            growth(now.reference, before.map(|times| times.reference)),
+        ));
+    }
+
+    fn summary(&mut self) {
+        for operation in OPERATIONS {
+            let logs = &self.ratios[operation as usize];
+            let mean = (logs.iter().sum::<f64>() / logs.len() as f64).exp();
+            let name = format!("{operation:?}").to_lowercase();
+            self.line(&format!("{name:<8} geometric mean of archive/reference {mean:>8.2}"));
+        }
+    }
+}
+
+/// The times at this size, and at the size before.
+struct TimesRow {
+    now: Times,
+    before: Option<Times>,
+}
+
+type Family = (&'static str, fn((usize, usize)) -> Draft);
+
+/// Files that grow; each takes rules and facts.
+const FAMILIES: [Family; 8] = [
+    ("chain forward", |size| chains(size, RuleOrder::Forward)),
+    ("chain backward", |size| chains(size, RuleOrder::Backward)),
+    ("chain shuffled", |size| chains(size, RuleOrder::Shuffled)),
+    ("backward, 16 facts", |(rules, _)| chains((rules, 16), RuleOrder::Backward)),
+    ("exceptions, 16 facts", |(rules, _)| exceptions((rules, 16), 8)),
+    ("exceptions", |size| exceptions(size, 4)),
+    ("exceptions", |size| exceptions(size, 8)),
+    ("exceptions", |size| exceptions(size, 16)),
+];
+
+type WorstSearch = (&'static str, fn() -> Draft);
+
+const WORST_SEARCHES: [WorstSearch; 2] =
+    [("pairs above odd loop", pairs_above_odd_loop), ("all above lowest", all_above_lowest)];
+
+fn agreeing(name: &str, draft: &Draft) -> Result<Subject, String> {
+    let subject = Subject::new(draft);
+    if subject.agrees() { Ok(subject) } else { Err(format!("{name}: the answers differ")) }
+}
+
+fn measure() -> Result<Table, String> {
+    let mut table = Table { text: String::new(), ratios: Default::default() };
+    table.head();
+    for (name, family) in FAMILIES {
+        let mut before = [None; 5];
+        for size in SIZES {
+            let subject = agreeing(name, &family(size))?;
+            for operation in OPERATIONS {
+                let now = subject.times(operation);
+                let before = before[operation as usize].replace(now);
+                table.row(name, &subject, operation, TimesRow { now, before });
+            }
+        }
+    }
+    for (name, file) in WORST_SEARCHES {
+        let subject = agreeing(name, &file())?;
+        let now = subject.times(Operation::Search);
+        table.row(name, &subject, Operation::Search, TimesRow { now, before: None });
+    }
+    table.summary();
+    Ok(table)
+}
+
+fn run() -> Result<(), String> {
+    let arguments: Vec<String> = std::env::args().skip(1).collect();
+    let out = match &arguments[..] {
+        [] => None,
+        [option, path] if option == "--out" => Some(path),
+        _ => return Err("usage: bench [--out path]".to_string()),
+    };
+    let table = measure()?;
+    match out {
+        Some(path) => std::fs::write(path, table.text).map_err(|error| format!("{path}: {error}")),
+        None => Ok(()),
+    }
+}
+
+fn main() -> ExitCode {
+    match run() {
+        Ok(()) => ExitCode::SUCCESS,
+        Err(message) => {
+            println!("FAIL: {message}");
+            ExitCode::FAILURE
+        }
+    }
+}

@@ -1,0 +1,314 @@
+//! Drives the archive and the reference with the same inputs and compares the
+//! replies and every byte of every buffer.
+//!
+//! differential [cases] [seed] [--threads n] [--trace] [--clingo]
+//!
+//! The cases made on purpose are always run; random ones fill up to the count.
+//! The same seed gives the same cases. `--trace` prints each case's number
+//! before its calls, for an archive that does not come back from one.
+
+#[path = "../archive.rs"]
+mod archive;
+#[path = "../cases.rs"]
+mod cases;
+#[path = "../clingo.rs"]
+mod clingo;
+#[path = "../directed.rs"]
+mod directed;
+#[path = "../draft.rs"]
+mod draft;
+#[path = "../files.rs"]
+mod files;
+#[path = "../random.rs"]
+mod random;
+#[path = "../shrink.rs"]
+mod shrink;
+
+use cases::{Case, Met, Operation, Reply, Tally, random_case};
+use directed::{all_operations, directed_cases, examples};
+use draft::Draft;
+use random::Random;
+use std::process::ExitCode;
+use std::sync::Mutex;
+use std::thread;
+use std::time::Instant;
+
+/// Bytes on both sides of everything that is handed to the archive.
+const FENCE_BYTES: usize = 16;
+/// Past an input stands a byte that is valid in a set and as a kind, so that
+/// reading too far is likely to change the answer.
+const INPUT_FENCE: u8 = 0x01;
+const LENT_FENCE: u8 = 0xC3;
+
+/// What a lent buffer holds at first: by place, and never a mark, a kind or a
+/// byte of text.
+fn pattern(place: usize) -> u8 {
+    0x80 | (place * 5 + 1) as u8
+}
+
+/// Bytes with a fence on both sides.
+struct Fenced {
+    bytes: Vec<u8>,
+    fence: u8,
+}
+
+impl Fenced {
+    fn new(content: impl Iterator<Item = u8>, fence: u8) -> Fenced {
+        let mut bytes = vec![fence; FENCE_BYTES];
+        bytes.extend(content);
+        bytes.extend([fence; FENCE_BYTES]);
+        Fenced { bytes, fence }
+    }
+
+    fn input(content: &[u8]) -> Fenced {
+        Fenced::new(content.iter().copied(), INPUT_FENCE)
+    }
+
+    /// An empty input is handed over at an address that cannot be read.
+    fn content(&self) -> &[u8] {
+        match &self.bytes[FENCE_BYTES..self.bytes.len() - FENCE_BYTES] {
+            [] => &[],
+            content => content,
+        }
+    }
+
+    fn content_mut(&mut self) -> &mut [u8] {
+        let end = self.bytes.len() - FENCE_BYTES;
+        match &mut self.bytes[FENCE_BYTES..end] {
+            [] => &mut [],
+            content => content,
+        }
+    }
+
+    fn is_intact(&self) -> bool {
+        let is_fence = |bytes: &[u8]| bytes.iter().all(|&byte| byte == self.fence);
+        is_fence(&self.bytes[..FENCE_BYTES])
+            && is_fence(&self.bytes[self.bytes.len() - FENCE_BYTES..])
+    }
+}
+
+/// The archive's reply, or what it did outside the bytes lent to it.
+fn call_archive(case: &Case) -> Result<Reply, String> {
+    let originals = [&case.file, &case.rules, &case.set, &case.proof];
+    let inputs = originals.map(|input| Fenced::input(input));
+    let [file, rules, set, proof] = inputs.each_ref().map(Fenced::content);
+    let lend = |&length: &usize| Fenced::new((0..length).map(pattern), LENT_FENCE);
+    let mut lent: Vec<Fenced> = case.lent.iter().map(lend).collect();
+    let mut buffers: Vec<&mut [u8]> = lent.iter_mut().map(Fenced::content_mut).collect();
+    let numbers = match (case.operation, &mut buffers[..]) {
+        (Operation::Accept, _) => archive::accept(file).to_vec(),
+        (Operation::Run, [fact_marks, rule_marks, steps]) => {
+            archive::run(file, rules, fact_marks, rule_marks, steps).to_vec()
+        }
+        (Operation::Judge, _) => archive::judge(file, rules, set).to_vec(),
+        (Operation::Check, _) => archive::check(file, set, case.asked, proof).to_vec(),
+        (Operation::Search, [fact_marks, rule_marks, steps, order]) => {
+            archive::search(file, fact_marks, rule_marks, steps, order).to_vec()
+        }
+        (Operation::Panel, [out]) => vec![archive::panel(file, out)],
+        _ => unreachable!("a case lends what its operation takes"),
+    };
+    if lent.iter().chain(&inputs).any(|fenced| !fenced.is_intact()) {
+        return Err("the archive wrote outside its buffers".to_string());
+    }
+    if inputs.iter().zip(originals).any(|(input, original)| input.content() != original) {
+        return Err("the archive changed an input".to_string());
+    }
+    let buffers = lent.iter().map(|buffer| buffer.content().to_vec()).collect();
+    Ok(Reply { numbers, buffers })
+}
+
+/// What the reference says, where the archive says the same.
+fn compare(case: &Case) -> Result<Met, String> {
+    let expected = case.expected(pattern);
+    let actual = call_archive(case)?;
+    if actual == expected {
+        return Ok(case.met(&expected));
+    }
+    let mut text = format!("reply    {:?}\nexpected {:?}\n", actual.numbers, expected.numbers);
+    for (buffer, (actual, expected)) in actual.buffers.iter().zip(&expected.buffers).enumerate() {
+        if actual != expected {
+            text += &format!("buffer {buffer} {}\nexpected {}\n", hex(actual), hex(expected));
+        }
+    }
+    Err(text)
+}
+
+fn hex(bytes: &[u8]) -> String {
+    let digits: Vec<String> = bytes.iter().map(|byte| format!("{byte:02X}")).collect();
+    if digits.is_empty() { "(empty)".to_string() } else { digits.join(" ") }
+}
+
+/// Every prefix and every change of one byte of a file, under all operations
+/// with the inputs that fit the file itself.
+fn neighbours(file: &[u8]) -> Vec<Case> {
+    let prefixes = (0..file.len()).map(|length| file[..length].to_vec());
+    let changes = (0..file.len()).flat_map(|place| {
+        (1..=255).map(move |change| {
+            let mut changed = file.to_vec();
+            changed[place] ^= change;
+            changed
+        })
+    });
+    let files: Vec<Vec<u8>> = prefixes.chain(changes).collect();
+    let calls = all_operations(file);
+    let on = |file: &Vec<u8>, call: &Case| Case { file: file.clone(), ..call.clone() };
+    files.iter().flat_map(|file| calls.iter().map(move |call| on(file, call))).collect()
+}
+
+/// Another file for its neighbours: two pairs, a guarded odd loop, equal rules.
+fn mixed_file() -> Vec<u8> {
+    let mut draft = Draft::new(6);
+    draft.rule(4, &[1], &[4]);
+    draft.rule(3, &[], &[0]);
+    draft.rule(0, &[], &[3]);
+    draft.rule(5, &[0, 0], &[]);
+    draft.rule(1, &[5], &[2, 2]);
+    draft.rule(2, &[5], &[1]);
+    draft.rule(2, &[5], &[1]);
+    draft.bytes()
+}
+
+fn purposeful_cases() -> Vec<Case> {
+    let mut cases = directed_cases();
+    for draft in examples() {
+        cases.extend(neighbours(&draft.bytes()));
+    }
+    cases.extend(neighbours(&mixed_file()));
+    cases
+}
+
+struct Settings {
+    count: usize,
+    seed: u64,
+    threads: usize,
+    trace: bool,
+    clingo: bool,
+}
+
+impl Settings {
+    fn read() -> Result<Settings, String> {
+        let mut settings =
+            Settings { count: 1_000_000, seed: 1, threads: 2, trace: false, clingo: false };
+        let mut plain = 0;
+        let mut arguments = std::env::args().skip(1);
+        while let Some(argument) = arguments.next() {
+            let number =
+                |text: &str| text.parse::<u64>().map_err(|_| format!("not a number: {text}"));
+            match argument.as_str() {
+                "--trace" => settings.trace = true,
+                "--clingo" => settings.clingo = true,
+                "--threads" => {
+                    let next = arguments.next().unwrap_or_default();
+                    settings.threads = number(&next)?.max(1) as usize;
+                }
+                text if plain == 0 => {
+                    settings.count = number(text)? as usize;
+                    plain = 1;
+                }
+                text => settings.seed = number(text)?,
+            }
+        }
+        Ok(settings)
+    }
+}
+
+/// What the workers have met so far.
+#[derive(Default)]
+struct Progress {
+    tally: Tally,
+    /// The first case found to differ; it ends the work.
+    difference: Option<(usize, Case)>,
+}
+
+/// Compares every case whose number is `first` and a multiple of the threads.
+fn work(settings: &Settings, purposeful: &[Case], first: usize, progress: &Mutex<Progress>) {
+    let count = settings.count.max(purposeful.len());
+    for number in (first..count).step_by(settings.threads) {
+        if settings.trace {
+            eprintln!("case {number}");
+        }
+        let case = match purposeful.get(number) {
+            Some(case) => case.clone(),
+            None => random_case(&mut Random::new(settings.seed, number as u64)),
+        };
+        let compared = compare(&case);
+        let mut progress = progress.lock().expect("no worker panics");
+        if progress.difference.is_some() {
+            return;
+        }
+        match compared {
+            Ok(met) => progress.tally.count(case.operation, met),
+            Err(_) => progress.difference = Some((number, case)),
+        }
+    }
+}
+
+fn compare_all(settings: &Settings, purposeful: &[Case]) -> Progress {
+    let progress = Mutex::new(Progress::default());
+    thread::scope(|scope| {
+        for first in 0..settings.threads {
+            let progress = &progress;
+            scope.spawn(move || work(settings, purposeful, first, progress));
+        }
+    });
+    progress.into_inner().expect("no worker panics")
+}
+
+fn report_difference(number: usize, case: Case) {
+    println!("DIFFERENCE in case {number}, {:?}; shrinking", case.operation);
+    let case = shrink::shrink(case, |case| compare(case).is_err());
+    println!("{:?}", case.operation);
+    println!("file     {}", hex(&case.file));
+    match case.operation {
+        Operation::Run => println!("order    {}", hex(&case.rules)),
+        Operation::Judge => {
+            println!("list     {}\nset      {}", hex(&case.rules), hex(&case.set));
+        }
+        Operation::Check => {
+            println!("set      {}\nfact     {}", hex(&case.set), case.asked);
+            println!("proof    {}", hex(&case.proof));
+        }
+        Operation::Accept | Operation::Search | Operation::Panel => {}
+    }
+    println!("buffers  {:?} bytes", case.lent);
+    println!("{}", compare(&case).expect_err("the shrunk case differs"));
+}
+
+fn run(settings: &Settings) -> Result<bool, String> {
+    let purposeful = purposeful_cases();
+    let started = Instant::now();
+    let Progress { tally, difference } = compare_all(settings, &purposeful);
+    if let Some((number, case)) = difference {
+        report_difference(number, case);
+        return Ok(false);
+    }
+    let count = settings.count.max(purposeful.len());
+    let seconds = started.elapsed().as_secs_f64();
+    let (table, all_met) = tally.table();
+    print!("{table}");
+    println!(
+        "{count} cases agree, {} of them made on purpose; seed {}; {seconds:.1} s, {:.0} cases/s",
+        purposeful.len(),
+        settings.seed,
+        count as f64 / seconds,
+    );
+    if !all_met {
+        println!("FAIL: not every number and answer was met");
+    }
+    if settings.clingo {
+        clingo::compare(settings.seed)?;
+    }
+    Ok(all_met)
+}
+
+fn main() -> ExitCode {
+    match Settings::read().and_then(|settings| run(&settings)) {
+        Ok(true) => ExitCode::SUCCESS,
+        Ok(false) => ExitCode::FAILURE,
+        Err(message) => {
+            println!("FAIL: {message}");
+            ExitCode::FAILURE
+        }
+    }
+}

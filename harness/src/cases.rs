@@ -1,0 +1,506 @@
+//! Cases: one call of one operation, with its inputs and the lengths of the
+//! buffers it is lent, and the reply that the reference gives.
+
+use crate::draft::Draft;
+use crate::files::{random_draft, spoil_file};
+use crate::random::Random;
+use reference::{Counts, Lent, RULE_NUMBER_BYTES, Refusal, STEP_BYTES, kind};
+
+#[derive(Clone, Copy, PartialEq, Eq, Debug)]
+pub enum Operation {
+    Accept,
+    Run,
+    Judge,
+    Check,
+    Search,
+    Panel,
+}
+
+impl Operation {
+    pub const ALL: [Operation; 6] = [
+        Operation::Accept,
+        Operation::Run,
+        Operation::Judge,
+        Operation::Check,
+        Operation::Search,
+        Operation::Panel,
+    ];
+
+    /// The refusals that can come from this operation.
+    pub fn own_refusals(self) -> Vec<u32> {
+        let beyond_file: &[u32] = match self {
+            Operation::Accept | Operation::Panel => &[],
+            Operation::Run => &[11, 12, 13, 14, 31, 32, 33],
+            Operation::Judge => &[11, 12, 13, 21, 22],
+            Operation::Check => &[21, 22, 24, 23],
+            Operation::Search => &[31, 32, 33, 34, 40, 41],
+        };
+        (1..=10).chain(beyond_file.iter().copied()).collect()
+    }
+
+    /// The names of its answers where nothing is refused.
+    pub fn answers(self) -> [&'static str; 2] {
+        match self {
+            Operation::Accept => ["without exception", "with exceptions"],
+            Operation::Run | Operation::Search => ["no stage", "stages"],
+            Operation::Judge => ["not stable", "stable"],
+            Operation::Check => ["no", "yes"],
+            Operation::Panel => ["buffer short", "text"],
+        }
+    }
+}
+
+#[derive(Clone, Debug)]
+pub struct Case {
+    pub operation: Operation,
+    pub file: Vec<u8>,
+    /// The order of a run, or the list of a judge.
+    pub rules: Vec<u8>,
+    pub set: Vec<u8>,
+    pub asked: u32,
+    pub proof: Vec<u8>,
+    /// Lengths of the lent buffers, in the order of the C interface.
+    pub lent: Vec<usize>,
+}
+
+/// What a call leaves behind: the numbers of its reply in the order of the C
+/// structure, and all bytes of the lent buffers.
+#[derive(Clone, Debug, PartialEq, Eq)]
+pub struct Reply {
+    pub numbers: Vec<u32>,
+    pub buffers: Vec<Vec<u8>>,
+}
+
+/// What a reply says, for counting.
+#[derive(Clone, Copy, PartialEq, Eq, Debug)]
+pub enum Met {
+    Refusal(u32),
+    /// An index into the answers of the operation.
+    Answer(usize),
+}
+
+impl Case {
+    fn new(operation: Operation, file: &[u8]) -> Case {
+        Case {
+            operation,
+            file: file.to_vec(),
+            rules: Vec::new(),
+            set: Vec::new(),
+            asked: 0,
+            proof: Vec::new(),
+            lent: Vec::new(),
+        }
+    }
+
+    /// The reply of the reference, from buffers that hold `pattern(place)`.
+    pub fn expected(&self, pattern: fn(usize) -> u8) -> Reply {
+        let fill = |&length: &usize| (0..length).map(pattern).collect();
+        let mut buffers: Vec<Vec<u8>> = self.lent.iter().map(fill).collect();
+        let numbers = self.call_reference(&mut buffers);
+        Reply { numbers, buffers }
+    }
+
+    fn call_reference(&self, buffers: &mut [Vec<u8>]) -> Vec<u32> {
+        let file = &self.file;
+        match (self.operation, buffers) {
+            (Operation::Accept, _) => match reference::accept(file) {
+                Ok(found) => {
+                    let counts =
+                        [found.facts, found.rules, found.exceptions, found.constraint_facts];
+                    let [facts, rules, exceptions, constraints] = counts.map(|count| count as u32);
+                    vec![0, facts, rules, exceptions, constraints, STEP_BYTES as u32]
+                }
+                Err(refusal) => vec![refusal as u32, 0, 0, 0, 0, 0],
+            },
+            (Operation::Run, [fact_marks, rule_marks, steps]) => counts_reply(reference::run(
+                file,
+                &self.rules,
+                Lent { fact_marks, rule_marks, steps },
+            )),
+            (Operation::Judge, _) => verdict_reply(reference::judge(file, &self.rules, &self.set)),
+            (Operation::Check, _) => {
+                verdict_reply(reference::check(file, &self.set, self.asked, &self.proof))
+            }
+            (Operation::Search, [fact_marks, rule_marks, steps, order]) => {
+                counts_reply(reference::search(file, Lent { fact_marks, rule_marks, steps }, order))
+            }
+            (Operation::Panel, [out]) => {
+                let text = reference::panel(file);
+                if let Some(start) = out.get_mut(..text.len()) {
+                    start.copy_from_slice(text.as_bytes());
+                }
+                vec![text.len() as u32]
+            }
+            _ => unreachable!("a case lends what its operation takes"),
+        }
+    }
+
+    /// What the reply of the reference says.
+    pub fn met(&self, reply: &Reply) -> Met {
+        let numbers = &reply.numbers;
+        match self.operation {
+            Operation::Panel => match reference::accept(&self.file) {
+                Err(refusal) => Met::Refusal(refusal as u32),
+                Ok(_) => Met::Answer(usize::from(self.lent[0] >= numbers[0] as usize)),
+            },
+            _ if numbers[0] != 0 => Met::Refusal(numbers[0]),
+            Operation::Accept => Met::Answer(usize::from(numbers[3] > 0)),
+            _ => Met::Answer(usize::from(numbers[1] > 0)),
+        }
+    }
+}
+
+fn counts_reply(result: Result<Counts, Refusal>) -> Vec<u32> {
+    match result {
+        Ok(counts) => vec![0, counts.stages as u32, counts.steps as u32],
+        Err(refusal) => vec![refusal as u32, 0, 0],
+    }
+}
+
+fn verdict_reply(result: Result<bool, Refusal>) -> Vec<u32> {
+    match result {
+        Ok(verdict) => vec![0, u32::from(verdict)],
+        Err(refusal) => vec![refusal as u32, 0],
+    }
+}
+
+/// The highest refusal number.
+const MOST_REFUSAL: usize = 41;
+
+/// How often each refusal and each answer was met, by operation.
+#[derive(Clone)]
+pub struct Tally {
+    refusals: [[u64; MOST_REFUSAL + 1]; 6],
+    answers: [[u64; 2]; 6],
+}
+
+impl Default for Tally {
+    fn default() -> Tally {
+        Tally { refusals: [[0; MOST_REFUSAL + 1]; 6], answers: [[0; 2]; 6] }
+    }
+}
+
+impl Tally {
+    pub fn count(&mut self, operation: Operation, met: Met) {
+        match met {
+            Met::Refusal(number) => self.refusals[operation as usize][number as usize] += 1,
+            Met::Answer(answer) => self.answers[operation as usize][answer] += 1,
+        }
+    }
+
+    /// The table of counts, and whether every entry was met at least once.
+    pub fn table(&self) -> (String, bool) {
+        let mut text = String::new();
+        let mut all_met = true;
+        for operation in Operation::ALL {
+            text += &format!("{operation:?}\n");
+            for (answer, count) in operation.answers().iter().zip(self.answers[operation as usize])
+            {
+                text += &format!("  {answer:<18}{count:>10}\n");
+                all_met &= count > 0;
+            }
+            for refusal in operation.own_refusals() {
+                let count = self.refusals[operation as usize][refusal as usize];
+                let note = if count == 0 { "  never met" } else { "" };
+                text += &format!("  refusal {refusal:<10}{count:>10}{note}\n");
+                all_met &= count > 0;
+            }
+        }
+        (text, all_met)
+    }
+}
+
+pub fn rule_numbers(rules: &[usize]) -> Vec<u8> {
+    let item = |&rule: &usize| [kind::RULE_NUMBER, (rule >> 8) as u8, rule as u8];
+    rules.iter().flat_map(item).collect()
+}
+
+/// The lengths that the questions 31 to 34 ask for.
+fn needed(operation: Operation, draft: &Draft) -> Vec<usize> {
+    let facts = usize::from(draft.facts);
+    let mut lengths = vec![facts, draft.rules.len(), STEP_BYTES * facts];
+    if operation == Operation::Search {
+        lengths.push(RULE_NUMBER_BYTES * draft.exceptions().len());
+    }
+    lengths
+}
+
+/// Where a run or a search ended.
+struct End {
+    set: Vec<u8>,
+    set_aside: Vec<usize>,
+    steps: Vec<u8>,
+}
+
+impl End {
+    fn of(case: &Case) -> Option<End> {
+        let reply = case.expected(|_| 0);
+        let [0, _, steps] = reply.numbers[..] else { return None };
+        let set = reply.buffers[0].iter().map(|&mark| u8::from(mark == 1)).collect();
+        let rule_marks = &reply.buffers[1];
+        let set_aside = (0..rule_marks.len()).filter(|&rule| rule_marks[rule] == 2).collect();
+        let steps = reply.buffers[2][..STEP_BYTES * steps as usize].to_vec();
+        Some(End { set, set_aside, steps })
+    }
+}
+
+fn run_case(draft: &Draft, file: &[u8], order: &[usize]) -> Case {
+    Case {
+        rules: rule_numbers(order),
+        lent: needed(Operation::Run, draft),
+        ..Case::new(Operation::Run, file)
+    }
+}
+
+fn search_case(draft: &Draft, file: &[u8]) -> Case {
+    Case { lent: needed(Operation::Search, draft), ..Case::new(Operation::Search, file) }
+}
+
+/// A file, the draft it was made from, and calls of all operations on it.
+struct Subject {
+    draft: Draft,
+    file: Vec<u8>,
+}
+
+/// A case of any operation, from its own random numbers.
+pub fn random_case(random: &mut Random) -> Case {
+    let draft = random_draft(random);
+    let mut file = draft.bytes();
+    if random.one_in(8) {
+        spoil_file(random, &mut file);
+    }
+    let subject = Subject { draft, file };
+    match random.below(20) {
+        0..2 => Case::new(Operation::Accept, &subject.file),
+        2..7 => subject.random_run(random),
+        7..11 => subject.random_judge(random),
+        11..15 => subject.random_check(random),
+        15..19 => subject.random_search(random),
+        _ => subject.random_panel(random),
+    }
+}
+
+impl Subject {
+    fn facts(&self) -> usize {
+        usize::from(self.draft.facts)
+    }
+
+    fn shuffled_exceptions(&self, random: &mut Random) -> Vec<usize> {
+        let mut exceptions = self.draft.exceptions();
+        random.shuffle(&mut exceptions);
+        exceptions
+    }
+
+    fn random_run(&self, random: &mut Random) -> Case {
+        let mut case = run_case(&self.draft, &self.file, &self.shuffled_exceptions(random));
+        if random.one_in(5) {
+            self.spoil_rule_numbers(random, &mut case.rules);
+        }
+        spoil_lengths(random, &mut case.lent);
+        case
+    }
+
+    fn random_search(&self, random: &mut Random) -> Case {
+        let mut case = search_case(&self.draft, &self.file);
+        spoil_lengths(random, &mut case.lent);
+        case
+    }
+
+    fn random_panel(&self, random: &mut Random) -> Case {
+        let mut lent = vec![reference::panel(&self.file).len()];
+        spoil_lengths(random, &mut lent);
+        Case { lent, ..Case::new(Operation::Panel, &self.file) }
+    }
+
+    /// The end of a run or of the search, with the list that makes it stable.
+    fn random_end(&self, random: &mut Random) -> Option<End> {
+        let searched = random.one_in(2).then(|| End::of(&search_case(&self.draft, &self.file)));
+        searched.flatten().or_else(|| {
+            let order = self.shuffled_exceptions(random);
+            End::of(&run_case(&self.draft, &self.file, &order))
+        })
+    }
+
+    fn random_set(&self, random: &mut Random) -> Vec<u8> {
+        (0..self.facts()).map(|_| random.below(2) as u8).collect()
+    }
+
+    fn random_judge(&self, random: &mut Random) -> Case {
+        let mut case = Case::new(Operation::Judge, &self.file);
+        let end = if random.one_in(4) { None } else { self.random_end(random) };
+        if let Some(end) = end {
+            case.rules = rule_numbers(&end.set_aside);
+            case.set = end.set;
+        } else {
+            let mut list = self.shuffled_exceptions(random);
+            list.truncate(random.below(list.len() + 1));
+            case.rules = rule_numbers(&list);
+            case.set = self.random_set(random);
+        }
+        if random.one_in(8) {
+            self.spoil_rule_numbers(random, &mut case.rules);
+        }
+        if random.one_in(8) {
+            spoil_set(random, &mut case.set);
+        } else if random.one_in(4) {
+            flip_fact(random, &mut case.set);
+        }
+        case
+    }
+
+    fn random_check(&self, random: &mut Random) -> Case {
+        let mut case = Case::new(Operation::Check, &self.file);
+        match self.random_end(random) {
+            Some(end) if !end.steps.is_empty() => {
+                let last = random.below(end.steps.len() / STEP_BYTES);
+                case.proof = end.steps[..STEP_BYTES * (last + 1)].to_vec();
+                case.asked = u32::from(case.proof[STEP_BYTES * last + 1]);
+                case.set = end.set;
+            }
+            _ => {
+                case.set = self.random_set(random);
+                let steps = random.below(4);
+                case.proof = (0..steps).flat_map(|_| self.random_step(random)).collect();
+                case.asked = random.below(self.facts() + 1) as u32;
+            }
+        }
+        self.spoil_check(random, &mut case);
+        case
+    }
+
+    fn random_step(&self, random: &mut Random) -> [u8; STEP_BYTES] {
+        let rule = random.below(self.draft.rules.len() + 1);
+        let fact = match self.draft.rules.get(rule) {
+            Some(rule) if !random.one_in(4) => rule.conclusion,
+            _ => random.below(self.facts() + 1) as u8,
+        };
+        [kind::STEP, fact, (rule >> 8) as u8, rule as u8]
+    }
+
+    fn spoil_check(&self, random: &mut Random, case: &mut Case) {
+        match random.below(12) {
+            0 => spoil_set(random, &mut case.set),
+            1 => flip_fact(random, &mut case.set),
+            2 => case.set = self.random_set(random),
+            _ => {}
+        }
+        if random.one_in(12) {
+            case.asked = self.odd_fact(random);
+        }
+        match random.below(12) {
+            0 => spoil_items(random, &mut case.proof, STEP_BYTES),
+            1..4 => self.spoil_steps(random, &mut case.proof),
+            _ => {}
+        }
+    }
+
+    /// A fact number that is mostly not in the file.
+    fn odd_fact(&self, random: &mut Random) -> u32 {
+        match random.below(4) {
+            0 => self.facts() as u32,
+            1 => 256 + random.below(self.facts() + 1) as u32,
+            2 => u32::MAX - random.below(300) as u32,
+            _ => random.below(self.facts() + 2) as u32,
+        }
+    }
+
+    /// Changes whole steps, so that the row stays a row of steps.
+    fn spoil_steps(&self, random: &mut Random, proof: &mut Vec<u8>) {
+        let step = random.below(proof.len() / STEP_BYTES);
+        let start = STEP_BYTES * step;
+        match random.below(5) {
+            0 if !proof.is_empty() => {
+                proof.drain(start..start + STEP_BYTES);
+            }
+            1 if !proof.is_empty() => {
+                let place = start + random.within(1, STEP_BYTES - 1);
+                proof[place] ^= 1 << random.below(8);
+            }
+            2 if !proof.is_empty() => {
+                let other = STEP_BYTES * random.below(proof.len() / STEP_BYTES);
+                for byte in 0..STEP_BYTES {
+                    proof.swap(start + byte, other + byte);
+                }
+            }
+            3 => {
+                let inserted = self.random_step(random);
+                proof.splice(start..start, inserted);
+            }
+            _ => {
+                let repeated: Vec<u8> = proof.iter().copied().take(STEP_BYTES).collect();
+                proof.splice(start..start, repeated);
+            }
+        }
+    }
+
+    fn spoil_rule_numbers(&self, random: &mut Random, row: &mut Vec<u8>) {
+        let items = row.len() / RULE_NUMBER_BYTES;
+        let start = RULE_NUMBER_BYTES * random.below(items);
+        match random.below(5) {
+            0 if items > 0 => {
+                row.drain(start..start + RULE_NUMBER_BYTES);
+            }
+            1 if items > 0 => {
+                let from = RULE_NUMBER_BYTES * random.below(items);
+                let repeated = row[from..from + RULE_NUMBER_BYTES].to_vec();
+                row.splice(start..start, repeated);
+            }
+            2 => {
+                let any = rule_numbers(&[random.below(self.draft.rules.len() + 2)]);
+                row.splice(start..start, any);
+            }
+            3 => {
+                let beyond = rule_numbers(&[random.below(65_536)]);
+                row.splice(start..start, beyond);
+            }
+            _ => spoil_items(random, row, RULE_NUMBER_BYTES),
+        }
+    }
+}
+
+/// Breaks a row of items: a cut, a byte too many, or another kind.
+fn spoil_items(random: &mut Random, row: &mut Vec<u8>, item_bytes: usize) {
+    match random.below(4) {
+        0 => row.truncate(row.len().saturating_sub(random.within(1, item_bytes - 1))),
+        1 => row.push(if random.one_in(2) { kind::STEP } else { kind::RULE_NUMBER }),
+        2 if !row.is_empty() => {
+            let start = item_bytes * random.below(row.len() / item_bytes);
+            row[start] = random.below(8) as u8;
+        }
+        _ => row.insert(0, random.below(256) as u8),
+    }
+}
+
+fn flip_fact(random: &mut Random, set: &mut [u8]) {
+    if !set.is_empty() {
+        set[random.below(set.len())] ^= 1;
+    }
+}
+
+fn spoil_set(random: &mut Random, set: &mut Vec<u8>) {
+    match random.below(4) {
+        0 => set.push(random.below(2) as u8),
+        1 if !set.is_empty() => {
+            set.pop();
+        }
+        2 if !set.is_empty() => {
+            let place = random.below(set.len());
+            set[place] = random.within(2, 255) as u8;
+        }
+        _ => set.extend([random.below(3) as u8, 1]),
+    }
+}
+
+/// Makes some buffers longer than needed, and at times some too short.
+fn spoil_lengths(random: &mut Random, lengths: &mut [usize]) {
+    let all_enough = !random.one_in(8);
+    for length in lengths {
+        if all_enough || random.one_in(2) {
+            *length += if random.one_in(3) { random.below(9) } else { 0 };
+        } else if random.one_in(3) {
+            *length = random.below(*length);
+        } else {
+            *length = length.saturating_sub(1);
+        }
+    }
+}

@@ -1,0 +1,255 @@
+//! Cases made on purpose: the specification's examples, every refusal of every
+//! operation, and calls that could be refused for two reasons at once.
+
+use crate::cases::{Case, Operation, rule_numbers};
+use crate::draft::Draft;
+use reference::{RuleFile, STEP_BYTES};
+
+/// The longest file that is accepted.
+const LONGEST: usize = 32_767;
+
+type PlainRule<'a> = (usize, &'a [usize], &'a [usize]);
+
+/// Fact 0, from nothing.
+const ALWAYS: PlainRule = (0, &[], &[]);
+
+fn example(facts: usize, rules: &[PlainRule]) -> Draft {
+    let mut draft = Draft::new(facts);
+    for (conclusion, premises, constraints) in rules {
+        draft.rule(*conclusion, premises, constraints);
+    }
+    draft
+}
+
+/// The examples A to F.
+pub fn examples() -> Vec<Draft> {
+    vec![
+        example(4, &[(0, &[], &[]), (1, &[0], &[2]), (2, &[0], &[1]), (3, &[2], &[])]),
+        example(1, &[(0, &[], &[0])]),
+        example(3, &[(0, &[], &[1]), (1, &[], &[2])]),
+        example(2, &[(1, &[0], &[]), (0, &[], &[1])]),
+        example(0, &[]),
+        example(1, &[(0, &[0], &[])]),
+    ]
+}
+
+/// One more fact than constraint facts; every rule number from 0 to 511.
+fn constraint_facts(count: usize) -> Draft {
+    let mut draft = Draft::new(count + 1);
+    for rule in 0..512 {
+        draft.rule(count, &[], &[rule % count]);
+    }
+    draft
+}
+
+/// Constraint facts that all can be chosen, and an odd loop that ends every
+/// choice: the search looks at all of them and finds nothing.
+fn pairs_with_odd_loop(pairs: usize) -> Draft {
+    let mut draft = Draft::new(2 * pairs + 1);
+    draft.rule(0, &[], &[0]);
+    for pair in 0..pairs {
+        draft.rule(2 * pair + 1, &[], &[2 * pair + 2]);
+        draft.rule(2 * pair + 2, &[], &[2 * pair + 1]);
+    }
+    draft
+}
+
+/// Only rules numbered 256 and more are applied, or set aside.
+fn late_rules() -> Draft {
+    let mut draft = Draft::new(4);
+    (0..300).for_each(|_| draft.rule(1, &[1], &[]));
+    draft.rule(0, &[], &[2]);
+    draft.rule(1, &[0], &[1]);
+    draft.rule(3, &[0], &[]);
+    draft
+}
+
+/// A file of 511 rules and the longest length, by premises repeated.
+fn longest_file() -> Vec<u8> {
+    let mut draft = example(2, &[ALWAYS; 511]);
+    let missing = (LONGEST - draft.bytes().len()) / 2;
+    let last = draft.rules.last_mut().expect("there are rules");
+    last.items.extend(std::iter::repeat_n((reference::kind::PREMISE, 1), missing));
+    draft.bytes()
+}
+
+/// The files that are refused; many would get a no to a later question too.
+fn refused_files() -> Vec<Vec<u8>> {
+    let mut empty_and_more = Draft::new(0).bytes();
+    empty_and_more.push(0);
+    let full = &example(1, &[ALWAYS; 512]).bytes()[..2 + 2 * 512];
+    vec![
+        [full, &[1, 1]].concat(),
+        [full, &[1]].concat(),
+        [full, &[3, 1]].concat(),
+        [full, &[0x1F, 2, 1]].concat(),
+        vec![],
+        vec![0x10],
+        vec![0x1F, 0, 0],
+        vec![0x10, 1],
+        vec![0x10, 1, 5],
+        vec![0x10, 1, 0x10, 1],
+        vec![0x10, 1, 1],
+        vec![0x10, 1, 0x1F, 0],
+        vec![0x10, 1, 1, 1],
+        vec![0x10, 1, 2, 1],
+        vec![0x10, 1, 2, 0],
+        vec![0x10, 1, 3, 0],
+        example(1, &[ALWAYS; 513]).bytes(),
+        vec![0x10, 0, 0x1F, 0, 1],
+        vec![0x10, 0, 0x1F, 0, 1, 7],
+        vec![0x10, 0, 0x1F, 1, 0],
+        empty_and_more,
+    ]
+}
+
+/// One call of each operation, answered where the file is accepted: the run in
+/// ascending order, its last set with the rules set aside judged and its whole
+/// row of steps checked, which both say yes.
+pub fn all_operations(file: &[u8]) -> Vec<Case> {
+    let run = ascending_run(file);
+    let reply = run.expected(|_| 0);
+    let steps = STEP_BYTES * reply.numbers[2] as usize;
+    let proof = reply.buffers[2][..steps].to_vec();
+    let set: Vec<u8> = reply.buffers[0].iter().map(|&mark| u8::from(mark == 1)).collect();
+    let rule_marks = &reply.buffers[1];
+    let set_aside: Vec<usize> =
+        (0..rule_marks.len()).filter(|&rule| rule_marks[rule] == 2).collect();
+    let asked = if proof.is_empty() { 0 } else { u32::from(proof[steps - STEP_BYTES + 1]) };
+    let with_order = [&run.lent[..], &[run.rules.len()]].concat();
+    let panel_bytes = vec![reference::panel(file).len()];
+    let bare = Case { rules: vec![], lent: vec![], ..run.clone() };
+    vec![
+        Case { operation: Operation::Accept, ..bare.clone() },
+        run,
+        Case {
+            operation: Operation::Judge,
+            rules: rule_numbers(&set_aside),
+            set: set.clone(),
+            ..bare.clone()
+        },
+        Case { operation: Operation::Check, set, asked, proof, ..bare.clone() },
+        Case { operation: Operation::Search, lent: with_order, ..bare.clone() },
+        Case { operation: Operation::Panel, lent: panel_bytes, ..bare },
+    ]
+}
+
+fn ascending_run(file: &[u8]) -> Case {
+    let (facts, rules, exceptions) = match RuleFile::parse(file) {
+        Ok(parsed) => (parsed.facts, parsed.rules.len(), parsed.exceptions().collect()),
+        Err(_) => (0, 0, vec![]),
+    };
+    Case {
+        operation: Operation::Run,
+        file: file.to_vec(),
+        rules: rule_numbers(&exceptions),
+        set: vec![],
+        asked: 0,
+        proof: vec![],
+        lent: vec![facts, rules, STEP_BYTES * facts],
+    }
+}
+
+fn call_of(operation: Operation, file: &[u8]) -> Case {
+    all_operations(file).swap_remove(operation as usize)
+}
+
+/// Runs and judges of example A with orders and lists, right and wrong.
+fn rule_number_cases(a: &[u8]) -> Vec<Case> {
+    let rows: [Vec<u8>; 13] = [
+        rule_numbers(&[1, 2]),
+        rule_numbers(&[2, 1]),
+        rule_numbers(&[0]),
+        rule_numbers(&[1, 1]),
+        rule_numbers(&[1]),
+        rule_numbers(&[]),
+        rule_numbers(&[1, 1, 0]),
+        rule_numbers(&[0, 1, 1]),
+        rule_numbers(&[1, 2, 4]),
+        rule_numbers(&[257, 2]),
+        vec![5],
+        vec![5, 0, 0, 5, 0],
+        vec![5, 0, 0, 6, 0, 1],
+    ];
+    let mut cases = Vec::new();
+    for row in rows {
+        let right = call_of(Operation::Run, a);
+        let short = vec![3, right.lent[1], right.lent[2]];
+        cases.push(Case { rules: row.clone(), lent: short, ..right.clone() });
+        cases.push(Case { rules: row.clone(), ..right });
+        for set in [vec![1, 1, 0, 0], vec![1, 0, 1, 1], vec![1, 0, 2], vec![1, 2, 0, 0]] {
+            cases.push(Case { rules: row.clone(), set, ..call_of(Operation::Judge, a) });
+        }
+    }
+    cases
+}
+
+/// Checks of example A, with one thing wrong or two.
+fn check_cases(a: &[u8]) -> Vec<Case> {
+    let proof = [6, 0, 0, 0, 6, 2, 0, 2, 6, 3, 0, 3];
+    let sets = [vec![1, 0, 1, 1], vec![1, 1, 1, 1], vec![1, 0, 3], vec![1, 0, 1, 3], vec![0; 4]];
+    let mut cases = Vec::new();
+    for set in sets {
+        for asked in [3, 2, 0, 4, 255, 256, 259, u32::MAX] {
+            for row in [&proof[..], &proof[..8], &proof[4..], &proof[..11], &proof[1..], &[]] {
+                let (set, proof) = (set.clone(), row.to_vec());
+                cases.push(Case { set, asked, proof, ..call_of(Operation::Check, a) });
+            }
+        }
+    }
+    cases
+}
+
+/// Every choice of buffers one byte too short, each buffer one byte longer, and
+/// all buffers empty.
+fn buffer_cases(file: &[u8]) -> Vec<Case> {
+    let mut cases = Vec::new();
+    for operation in [Operation::Run, Operation::Search, Operation::Panel] {
+        let right = call_of(operation, file);
+        let buffers = right.lent.len();
+        for chosen in 1..1 << buffers {
+            let mut short = right.clone();
+            for buffer in (0..buffers).filter(|buffer| chosen >> buffer & 1 == 1) {
+                short.lent[buffer] = short.lent[buffer].saturating_sub(1);
+            }
+            cases.push(short);
+        }
+        for buffer in 0..buffers {
+            let mut long = right.clone();
+            long.lent[buffer] += 1;
+            cases.push(long);
+        }
+        cases.push(Case { lent: vec![0; buffers], ..right });
+    }
+    cases
+}
+
+pub fn directed_cases() -> Vec<Case> {
+    let files: Vec<Vec<u8>> = examples().iter().map(Draft::bytes).collect();
+    let a = &files[0];
+    let sixteen = constraint_facts(16).bytes();
+    let seventeen = constraint_facts(17).bytes();
+    let mut cases = Vec::new();
+    for file in &files {
+        cases.extend(all_operations(file));
+        cases.extend(buffer_cases(file));
+    }
+    for file in refused_files() {
+        cases.extend(all_operations(&file));
+    }
+    cases.extend(all_operations(&[0; LONGEST + 1]));
+    cases.extend(all_operations(&late_rules().bytes()));
+    cases.push(call_of(Operation::Accept, &longest_file()));
+    cases.extend(rule_number_cases(a));
+    cases.extend(check_cases(a));
+    cases.extend(all_operations(&sixteen));
+    cases.extend(buffer_cases(&seventeen));
+    cases.push(call_of(Operation::Search, &seventeen));
+    cases.push(call_of(Operation::Search, &pairs_with_odd_loop(4).bytes()));
+    for set in [vec![0], vec![1]] {
+        cases.push(Case { set: set.clone(), ..call_of(Operation::Judge, &files[5]) });
+        // The rule of B against itself: its constraint is the step's own fact.
+        cases.push(Case { set, proof: vec![6, 0, 0, 0], ..call_of(Operation::Check, &files[1]) });
+    }
+    cases
+}

@@ -1,0 +1,57 @@
+//! A rule file before it is written out.
+
+use reference::kind;
+
+/// A rule as its items stand in the file.
+#[derive(Clone)]
+pub struct DraftRule {
+    pub conclusion: u8,
+    pub items: Vec<(u8, u8)>,
+}
+
+/// A rule file before it is written out.
+#[derive(Clone, Default)]
+pub struct Draft {
+    pub facts: u8,
+    pub rules: Vec<DraftRule>,
+}
+
+impl Draft {
+    pub fn new(facts: usize) -> Draft {
+        Draft { facts: facts as u8, rules: Vec::new() }
+    }
+
+    pub fn rule(&mut self, conclusion: usize, premises: &[usize], constraints: &[usize]) {
+        let premises = premises.iter().map(|&fact| (kind::PREMISE, fact as u8));
+        let constraints = constraints.iter().map(|&fact| (kind::CONSTRAINT, fact as u8));
+        self.rules.push(DraftRule {
+            conclusion: conclusion as u8,
+            items: premises.chain(constraints).collect(),
+        });
+    }
+
+    pub fn bytes(&self) -> Vec<u8> {
+        let mut bytes = vec![kind::FACT_COUNT, self.facts];
+        for rule in &self.rules {
+            bytes.extend([kind::CONCLUSION, rule.conclusion]);
+            bytes.extend(rule.items.iter().flat_map(|&(kind, fact)| [kind, fact]));
+        }
+        let [high, low] = (self.rules.len() as u16).to_be_bytes();
+        bytes.extend([kind::RULE_COUNT, high, low]);
+        bytes
+    }
+
+    /// The numbers of the exception rules, ascending.
+    pub fn exceptions(&self) -> Vec<usize> {
+        let is_exception =
+            |rule: &DraftRule| rule.items.iter().any(|&(kind, _)| kind == kind::CONSTRAINT);
+        (0..self.rules.len()).filter(|&rule| is_exception(&self.rules[rule])).collect()
+    }
+}
+
+/// Plain rules that lead from one fact to the next.
+pub fn chain(draft: &mut Draft, facts: &[usize]) {
+    for pair in facts.windows(2) {
+        draft.rule(pair[1], &[pair[0]], &[]);
+    }
+}

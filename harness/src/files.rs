@@ -1,0 +1,243 @@
+//! Random rule files of many shapes, valid and spoilt.
+
+use crate::draft::{Draft, chain};
+use crate::random::Random;
+use reference::kind;
+
+/// A valid draft of a random shape. Most are small; few are large.
+pub fn random_draft(random: &mut Random) -> Draft {
+    match random.below(1000) {
+        0..400 => scattered(random, 10, 14),
+        400..700 => choices(random),
+        700..850 => guarded_chain(random),
+        850..900 => scattered(random, 4, 30),
+        900..993 => stacked(random),
+        993..996 => many_rules(random),
+        996..999 => many_facts(random),
+        _ => crowded(random),
+    }
+}
+
+fn some_facts(random: &mut Random, facts: usize, most: usize) -> Vec<usize> {
+    (0..random.below(most + 1)).map(|_| random.below(facts)).collect()
+}
+
+/// Rules with random premises and constraints.
+fn scattered(random: &mut Random, most_facts: usize, most_rules: usize) -> Draft {
+    let facts = random.below(most_facts + 1);
+    let mut draft = Draft::new(facts);
+    if facts == 0 {
+        return draft;
+    }
+    let (most_premises, most_constraints) = (random.below(4), random.below(4));
+    for _ in 0..random.below(most_rules + 1) {
+        let conclusion = random.below(facts);
+        let premises = some_facts(random, facts, most_premises);
+        let constraints =
+            if random.one_in(2) { some_facts(random, facts, most_constraints) } else { vec![] };
+        draft.rule(conclusion, &premises, &constraints);
+    }
+    draft
+}
+
+/// Pairs that exclude each other, so that there are several stable sets; some
+/// members lead by plain rules to constraint facts, and odd loops that a member
+/// guards take stable sets away again, at times all of them.
+fn choices(random: &mut Random) -> Draft {
+    let pairs = random.within(1, 4);
+    let loops = random.below(3);
+    let links = random.below(4);
+    let mut draft = Draft::new(2 * pairs + loops + links);
+    for pair in 0..pairs {
+        draft.rule(2 * pair, &[], &[2 * pair + 1]);
+        draft.rule(2 * pair + 1, &[], &[2 * pair]);
+    }
+    for odd in 0..loops {
+        let guard = random.below(2 * pairs);
+        draft.rule(2 * pairs + odd, &[guard], &[2 * pairs + odd]);
+    }
+    for link in 0..links {
+        let middle = 2 * pairs + loops + link;
+        draft.rule(middle, &[random.below(2 * pairs)], &[]);
+        draft.rule(random.below(2 * pairs + loops), &[middle], &[]);
+    }
+    finish(random, draft)
+}
+
+/// A chain of plain rules, forward, backward or shuffled, that starts with an
+/// exception rule and may end in one of its own constraints.
+fn guarded_chain(random: &mut Random) -> Draft {
+    let length = random.within(2, 12);
+    let mut draft = Draft::new(length);
+    draft.rule(0, &[], &[random.within(1, length - 1)]);
+    if random.one_in(2) {
+        draft.rule(random.below(length), &[random.below(length)], &[random.below(length)]);
+    }
+    let mut facts: Vec<usize> = (0..length).collect();
+    if random.one_in(2) {
+        facts.pop();
+    }
+    chain(&mut draft, &facts);
+    match random.below(3) {
+        0 => draft.rules.reverse(),
+        1 => random.shuffle(&mut draft.rules),
+        _ => {}
+    }
+    finish(random, draft)
+}
+
+/// A stratified file: each fact rests on lower ones, so one stable set exists.
+fn stacked(random: &mut Random) -> Draft {
+    let facts = random.within(2, 14);
+    let mut draft = Draft::new(facts);
+    for _ in 0..random.within(1, 20) {
+        let conclusion = random.within(1, facts - 1);
+        let premises = some_facts(random, conclusion, 2);
+        let constraints = some_facts(random, conclusion, 2);
+        draft.rule(conclusion, &premises, &constraints);
+    }
+    finish(random, draft)
+}
+
+/// Rule numbers of 256 and more, few facts.
+fn many_rules(random: &mut Random) -> Draft {
+    let mut draft = if random.one_in(2) { choices(random) } else { scattered(random, 12, 60) };
+    if draft.rules.is_empty() {
+        return draft;
+    }
+    let copies = random.within(257, 512) - draft.rules.len();
+    repeat_rules(random, &mut draft, copies);
+    draft
+}
+
+/// High fact numbers, few rules that matter, long chains.
+fn many_facts(random: &mut Random) -> Draft {
+    let facts = random.within(100, 255);
+    let mut draft = Draft::new(facts);
+    let constraints: Vec<usize> = (0..8).map(|_| random.below(facts)).collect();
+    for _ in 0..random.within(2, 12) {
+        let constraint = constraints[random.below(constraints.len())];
+        draft.rule(constraints[random.below(8)], &[], &[constraint]);
+        let premise = random.below(facts);
+        draft.rule(random.below(facts), &[premise], &[constraint]);
+    }
+    let mut middle: Vec<usize> = (0..facts).collect();
+    random.shuffle(&mut middle);
+    chain(&mut draft, &middle);
+    if random.one_in(2) {
+        random.shuffle(&mut draft.rules);
+    }
+    draft
+}
+
+/// About as many constraint facts as the search takes, in pairs and longer rings.
+fn crowded(random: &mut Random) -> Draft {
+    let facts = random.within(14, 18);
+    let mut draft = Draft::new(facts + 1);
+    let mut first = 0;
+    while first < facts {
+        let ring = random.within(2, 6).min(facts - first);
+        for place in 0..ring {
+            draft.rule(first + place, &[], &[first + (place + 1) % ring]);
+        }
+        first += ring;
+    }
+    draft.rule(facts, &[random.below(facts)], &[random.below(facts)]);
+    finish(random, draft)
+}
+
+fn finish(random: &mut Random, mut draft: Draft) -> Draft {
+    if random.one_in(2) {
+        shuffle_facts(random, &mut draft);
+    }
+    if random.one_in(2) {
+        random.shuffle(&mut draft.rules);
+    }
+    if random.one_in(4) {
+        repeat_items(random, &mut draft);
+    }
+    if random.one_in(4) {
+        let copies = random.within(1, 3);
+        repeat_rules(random, &mut draft, copies);
+    }
+    draft
+}
+
+/// Renames the facts by a random permutation.
+fn shuffle_facts(random: &mut Random, draft: &mut Draft) {
+    let mut names: Vec<u8> = (0..draft.facts).collect();
+    random.shuffle(&mut names);
+    for rule in &mut draft.rules {
+        rule.conclusion = names[usize::from(rule.conclusion)];
+        for (_, fact) in &mut rule.items {
+            *fact = names[usize::from(*fact)];
+        }
+    }
+}
+
+/// Repeats some items, and mixes premises with constraints.
+fn repeat_items(random: &mut Random, draft: &mut Draft) {
+    for rule in &mut draft.rules {
+        if !rule.items.is_empty() && random.one_in(2) {
+            let again = rule.items[random.below(rule.items.len())];
+            rule.items.push(again);
+            random.shuffle(&mut rule.items);
+        }
+    }
+}
+
+fn repeat_rules(random: &mut Random, draft: &mut Draft, copies: usize) {
+    for _ in 0..copies {
+        if !draft.rules.is_empty() {
+            let copy = draft.rules[random.below(draft.rules.len())].clone();
+            draft.rules.insert(random.below(draft.rules.len() + 1), copy);
+        }
+    }
+}
+
+/// Changes the bytes of a file in one place; mostly it is then refused.
+pub fn spoil_file(random: &mut Random, bytes: &mut Vec<u8>) {
+    if random.one_in(500) {
+        *bytes = oversized(random);
+        return;
+    }
+    let place = random.below(bytes.len());
+    match random.below(8) {
+        0 => bytes.truncate(place),
+        1 | 2 => change_byte(random, bytes, place),
+        3 => bytes.insert(place, random.below(256) as u8),
+        4 => bytes.push(random.below(256) as u8),
+        5 => {
+            bytes.remove(place);
+        }
+        6 => {
+            let end = bytes.len() - 1;
+            bytes[end] = bytes[end].wrapping_add(1);
+        }
+        _ => {
+            let item = [random.within(1, 3) as u8, random.below(12) as u8];
+            bytes.splice(2..2, item);
+        }
+    }
+}
+
+/// More rules or more bytes than a file may have, by a little. Some are refused
+/// for an unknown fact before that.
+fn oversized(random: &mut Random) -> Vec<u8> {
+    let mut draft = Draft::new(1);
+    let rules = if random.one_in(2) { random.within(511, 515) } else { 16_382 };
+    (0..rules).for_each(|_| draft.rule(0, &[], &[]));
+    if random.one_in(2) {
+        let unknown = random.within(510, 512);
+        draft.rules.get_mut(unknown).into_iter().for_each(|rule| rule.conclusion = 1);
+    }
+    draft.bytes()
+}
+
+/// Often another kind, since a random byte is rarely one.
+fn change_byte(random: &mut Random, bytes: &mut [u8], place: usize) {
+    const KINDS: [u8; 5] =
+        [kind::CONCLUSION, kind::PREMISE, kind::CONSTRAINT, kind::RULE_COUNT, kind::FACT_COUNT];
+    bytes[place] =
+        if random.one_in(2) { KINDS[random.below(KINDS.len())] } else { random.below(256) as u8 };
+}

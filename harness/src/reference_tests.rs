@@ -1,0 +1,335 @@
+//! The specification's examples, and a comparison with definitions copied
+//! word by word from it, on small random files.
+
+use super::*;
+
+#[path = "random.rs"]
+mod random;
+
+use random::Random;
+
+type PlainRule<'a> = (usize, &'a [usize], &'a [usize]);
+
+/// Fact 0, from nothing.
+const ALWAYS: PlainRule = (0, &[], &[]);
+
+fn file_of(facts: u8, rules: &[PlainRule]) -> Vec<u8> {
+    let mut bytes = vec![kind::FACT_COUNT, facts];
+    for (conclusion, premises, constraints) in rules {
+        bytes.extend([kind::CONCLUSION, *conclusion as u8]);
+        bytes.extend(premises.iter().flat_map(|&fact| [kind::PREMISE, fact as u8]));
+        bytes.extend(constraints.iter().flat_map(|&fact| [kind::CONSTRAINT, fact as u8]));
+    }
+    let [high, low] = (rules.len() as u16).to_be_bytes();
+    bytes.extend([kind::RULE_COUNT, high, low]);
+    bytes
+}
+
+fn example_a() -> Vec<u8> {
+    file_of(4, &[(0, &[], &[]), (1, &[0], &[2]), (2, &[0], &[1]), (3, &[2], &[])])
+}
+
+fn example_c() -> Vec<u8> {
+    file_of(3, &[(0, &[], &[1]), (1, &[], &[2])])
+}
+
+fn order_of(rules: &[usize]) -> Vec<u8> {
+    let item = |&rule: &usize| [kind::RULE_NUMBER, (rule >> 8) as u8, rule as u8];
+    rules.iter().flat_map(item).collect()
+}
+
+/// Everything that a run or a search writes, without the bytes past it.
+#[derive(Debug, PartialEq, Eq)]
+struct Written {
+    fact_marks: Vec<u8>,
+    rule_marks: Vec<u8>,
+    steps: Vec<Step>,
+    stages: usize,
+    order: Vec<u8>,
+}
+
+fn written(
+    file: &[u8],
+    order: Vec<u8>,
+    call: impl FnOnce(Lent, &mut [u8]) -> Result<Counts, Refusal>,
+) -> Result<Written, Refusal> {
+    let counts = accept(file)?;
+    let mut fact_marks = vec![9; counts.facts];
+    let mut rule_marks = vec![9; counts.rules];
+    let mut steps = vec![9; STEP_BYTES * counts.facts];
+    let mut order = order;
+    let lent = Lent { fact_marks: &mut fact_marks, rule_marks: &mut rule_marks, steps: &mut steps };
+    let Counts { stages, steps: step_count } = call(lent, &mut order)?;
+    let steps = read_steps(&steps[..STEP_BYTES * step_count]).unwrap();
+    Ok(Written { fact_marks, rule_marks, steps, stages, order })
+}
+
+fn run_of(file: &[u8], order: &[usize]) -> Result<Written, Refusal> {
+    written(file, order_of(order), |lent, order| run(file, order, lent))
+}
+
+fn search_of(file: &[u8]) -> Result<Written, Refusal> {
+    let exceptions = accept(file)?.exceptions;
+    let order = vec![9; RULE_NUMBER_BYTES * exceptions];
+    written(file, order, |lent, order| search(file, lent, order))
+}
+
+fn step(fact: usize, rule: usize) -> Step {
+    Step { fact, rule }
+}
+
+#[test]
+fn example_a_under_both_orders_and_the_search() {
+    let a = example_a();
+    let first = run_of(&a, &[1, 2]).unwrap();
+    assert_eq!(first.fact_marks, [1, 1, 2, 0]);
+    assert_eq!(first.rule_marks, [0, 1, 3, 0]);
+    let second = run_of(&a, &[2, 1]).unwrap();
+    assert_eq!(second.fact_marks, [1, 2, 1, 1]);
+    assert_eq!(second.rule_marks, [0, 3, 1, 0]);
+    assert_eq!(second.steps, [step(0, 0), step(2, 2), step(3, 3)]);
+    let found = search_of(&a).unwrap();
+    assert_eq!(found.fact_marks, [1, 1, 2, 0]);
+    assert_eq!(found.order, order_of(&[1, 2]));
+}
+
+#[test]
+fn example_b_has_no_stable_set() {
+    let b = file_of(1, &[(0, &[], &[0])]);
+    let end = run_of(&b, &[0]).unwrap();
+    assert_eq!((end.fact_marks, end.rule_marks, end.stages), (vec![0], vec![2], 0));
+    assert_eq!(search_of(&b), Err(Refusal::NoStableSet));
+}
+
+#[test]
+fn example_c_under_both_orders_and_the_search() {
+    let c = example_c();
+    let first = run_of(&c, &[0, 1]).unwrap();
+    assert_eq!((first.fact_marks, first.rule_marks), (vec![1, 2, 0], vec![1, 2]));
+    let second = run_of(&c, &[1, 0]).unwrap();
+    assert_eq!((second.fact_marks, second.rule_marks), (vec![0, 1, 2], vec![3, 1]));
+    assert_eq!(search_of(&c).unwrap().order, order_of(&[1, 0]));
+    assert_eq!(panel(&c), "F 3 R 2 S 1\nD 0 0\nX 1\nA 1\nN\n");
+    assert_eq!(panel(&[]), "E 2\n");
+}
+
+#[test]
+fn examples_d_e_and_f() {
+    let d = file_of(2, &[(1, &[0], &[]), (0, &[], &[1])]);
+    assert_eq!(run_of(&d, &[1]).unwrap().rule_marks, [0, 2]);
+    assert_eq!(search_of(&d), Err(Refusal::NoStableSet));
+    let e = search_of(&[0x10, 0, 0x1F, 0, 0]).unwrap();
+    assert_eq!((e.fact_marks, e.order), (vec![], vec![]));
+    let f = file_of(1, &[(0, &[0], &[])]);
+    assert_eq!(judge(&f, &[], &[1]), Ok(false));
+    assert_eq!(judge(&f, &[], &[0]), Ok(true));
+}
+
+#[test]
+fn orders_that_are_refused() {
+    let a = example_a();
+    assert_eq!(run_of(&a, &[0]), Err(Refusal::NotAnException));
+    assert_eq!(run_of(&a, &[1, 1]), Err(Refusal::NamedBefore));
+    assert_eq!(run_of(&a, &[1]), Err(Refusal::ExceptionNotNamed));
+}
+
+#[test]
+fn files_that_are_refused() {
+    let refusal = |bytes: &[u8]| accept(bytes).unwrap_err();
+    assert_eq!(refusal(&[]), Refusal::NoFactCount);
+    assert_eq!(refusal(&[0x10, 1]), Refusal::NoNextItem);
+    assert_eq!(refusal(&[0x10, 1, 5]), Refusal::UnknownKind);
+    assert_eq!(refusal(&[0x10, 1, 1]), Refusal::BodyCut);
+    assert_eq!(refusal(&[0x10, 1, 1, 1]), Refusal::UnknownFact);
+    assert_eq!(refusal(&[0x10, 1, 2, 0]), Refusal::NoRuleOpened);
+    assert_eq!(refusal(&file_of(1, &[ALWAYS; 513])), Refusal::TooManyRules);
+    assert_eq!(refusal(&[0x10, 0, 0x1F, 0, 1]), Refusal::WrongRuleCount);
+    assert_eq!(refusal(&[0x10, 0, 0x1F, 0, 0, 0]), Refusal::BytesAfterEnd);
+    assert_eq!(refusal(&[0; 32_768]), Refusal::FileTooLong);
+    assert!(accept(&file_of(1, &[ALWAYS; 512])).is_ok());
+}
+
+#[test]
+fn sixteen_constraint_facts_pass_and_seventeen_do_not() {
+    let pairs = |count: usize| {
+        let constraints: Vec<[usize; 1]> = (0..count).map(|fact| [fact]).collect();
+        let rule = |fact: usize| -> PlainRule { (count, &[], &constraints[fact]) };
+        file_of(count as u8 + 1, &(0..512).map(|number| rule(number % count)).collect::<Vec<_>>())
+    };
+    assert!(search_of(&pairs(16)).is_ok());
+    assert_eq!(search_of(&pairs(17)), Err(Refusal::TooManyConstraintFacts));
+}
+
+#[test]
+fn checks_that_say_yes_and_no() {
+    let a = example_a();
+    let proof = [6, 0, 0, 0, 6, 1, 0, 1];
+    assert_eq!(check(&a, &[1, 1, 0, 0], 1, &proof), Ok(true));
+    assert_eq!(check(&a, &[1, 1, 1, 0], 1, &proof), Ok(false));
+    assert_eq!(check(&a, &[1, 1, 0, 0], 0, &proof), Ok(false));
+    assert_eq!(check(&a, &[1, 1, 0, 0], 1, &proof[4..]), Ok(false));
+    assert_eq!(check(&a, &[1, 1, 0, 0], 1, &[]), Ok(false));
+    assert_eq!(check(&a, &[1, 1, 0, 0], 1, &[6, 0, 2, 0]), Ok(false));
+    assert_eq!(check(&a, &[1, 1, 0, 0], 4, &[1]), Err(Refusal::AskedFactUnknown));
+    assert_eq!(check(&a, &[1, 1, 0, 0], 1, &proof[..7]), Err(Refusal::NotSteps));
+}
+
+/// The definitions, without any care for time.
+mod naive {
+    use super::super::{FactSet, RuleFile, Step};
+
+    fn close(file: &RuleFile, set: &mut FactSet, steps: &mut Vec<Step>) {
+        let next = |set: &FactSet| {
+            file.rules.iter().position(|rule| {
+                !rule.is_exception()
+                    && rule.premises.is_within(set)
+                    && !set.contains(rule.conclusion)
+            })
+        };
+        while let Some(rule) = next(set) {
+            let fact = file.rules[rule].conclusion;
+            set.insert(fact);
+            steps.push(Step { fact, rule });
+        }
+    }
+
+    pub struct End {
+        pub derived: FactSet,
+        pub ruled_out: FactSet,
+        pub applied: Vec<usize>,
+        pub steps: Vec<Step>,
+    }
+
+    pub fn run(file: &RuleFile, order: &[usize]) -> End {
+        let mut end = End {
+            derived: FactSet::EMPTY,
+            ruled_out: FactSet::EMPTY,
+            applied: Vec::new(),
+            steps: Vec::new(),
+        };
+        close(file, &mut end.derived, &mut end.steps);
+        while let Some(&number) = order.iter().find(|&&number| eligible(file, &end, number)) {
+            let rule = &file.rules[number];
+            end.derived.insert(rule.conclusion);
+            end.steps.push(Step { fact: rule.conclusion, rule: number });
+            close(file, &mut end.derived, &mut end.steps);
+            end.ruled_out = end.ruled_out.union(&rule.constraints);
+            end.applied.push(number);
+        }
+        end
+    }
+
+    fn eligible(file: &RuleFile, end: &End, number: usize) -> bool {
+        let rule = &file.rules[number];
+        let mut closure = end.derived;
+        closure.insert(rule.conclusion);
+        close(file, &mut closure, &mut Vec::new());
+        rule.is_exception()
+            && !end.derived.contains(rule.conclusion)
+            && rule.premises.is_within(&end.derived)
+            && !closure.meets(&rule.constraints)
+            && !closure.meets(&end.ruled_out)
+    }
+
+    /// The least set closed under the reduct by the set, listed rules dropped.
+    pub fn least_of_reduct(file: &RuleFile, listed: &[usize], set: &FactSet) -> FactSet {
+        let mut least = FactSet::EMPTY;
+        loop {
+            let before = least;
+            for (number, rule) in file.rules.iter().enumerate() {
+                let kept = !listed.contains(&number) && !rule.constraints.meets(set);
+                if kept && rule.premises.is_within(&least) {
+                    least.insert(rule.conclusion);
+                }
+            }
+            if least == before {
+                return least;
+            }
+        }
+    }
+
+    /// Every subset of the constraint facts, the earliest first.
+    pub fn earliest_stable_set(file: &RuleFile) -> Option<FactSet> {
+        let facts: Vec<usize> = file.constraint_facts().iter().collect();
+        assert!(facts.len() <= 16);
+        (0..1usize << facts.len()).find_map(|subset| {
+            let chosen = |&place: &usize| subset >> place & 1 == 1;
+            let guess = (0..facts.len()).filter(chosen).map(|place| facts[place]).collect();
+            let set = least_of_reduct(file, &[], &guess);
+            (least_of_reduct(file, &[], &set) == set
+                && set.intersection(&file.constraint_facts()) == guess)
+                .then_some(set)
+        })
+    }
+}
+
+fn random_file(random: &mut Random) -> RuleFile {
+    let facts = random.within(1, 8);
+    let some = |random: &mut Random, most: usize| -> FactSet {
+        (0..random.below(most + 1)).map(|_| random.below(facts)).collect()
+    };
+    let (most_premises, most_constraints) = (random.below(3), random.below(3));
+    let rule = |random: &mut Random| Rule {
+        conclusion: random.below(facts),
+        premises: some(random, most_premises),
+        constraints: some(random, most_constraints),
+    };
+    let rules = (0..random.within(1, 14)).map(|_| rule(random)).collect();
+    RuleFile { facts, rules }
+}
+
+#[test]
+fn the_run_agrees_with_its_definition() {
+    for stream in 0..20_000 {
+        let random = &mut Random::new(1, stream);
+        let file = random_file(random);
+        let mut order: Vec<usize> = file.exceptions().collect();
+        random.shuffle(&mut order);
+        let (run, end) = (Run::to_end(&file, &order), naive::run(&file, &order));
+        assert_eq!(run.steps, end.steps);
+        assert_eq!(run.derived.facts, end.derived);
+        assert_eq!(run.ruled_out, end.ruled_out);
+        assert_eq!(run.applied, end.applied.into_iter().collect());
+        assert!(!run.ruled_out.meets(&run.derived.facts));
+    }
+}
+
+#[test]
+fn the_run_ends_stable_for_the_file_less_the_rules_set_aside() {
+    for stream in 0..5_000 {
+        let file = random_file(&mut Random::new(2, stream));
+        let run = Run::to_end(&file, &file.exceptions().collect::<Vec<_>>());
+        let aside = (0..file.rules.len()).filter(|&number| run.rule_mark(number) == 2);
+        assert!(file.is_stable(&aside.collect(), &run.derived.facts));
+    }
+}
+
+#[test]
+fn the_judge_agrees_with_its_definition() {
+    let mut stable = 0;
+    for stream in 0..20_000 {
+        let random = &mut Random::new(3, stream);
+        let file = random_file(random);
+        let listed: Vec<usize> = file.exceptions().filter(|_| random.one_in(4)).collect();
+        let set = (0..file.facts).filter(|_| random.one_in(2)).collect();
+        let expected = naive::least_of_reduct(&file, &listed, &set) == set;
+        assert_eq!(file.is_stable(&listed.into_iter().collect(), &set), expected);
+        stable += usize::from(expected);
+    }
+    assert!(stable > 100);
+}
+
+#[test]
+fn the_search_agrees_with_plain_enumeration() {
+    let mut without = 0;
+    for stream in 0..20_000 {
+        let file = random_file(&mut Random::new(4, stream));
+        let found = Search::new(&file).earliest_stable_set();
+        assert_eq!(found, naive::earliest_stable_set(&file));
+        match found {
+            None => without += 1,
+            Some(set) => assert_eq!(Run::to_end(&file, &order_for(&file, &set)).derived.facts, set),
+        }
+    }
+    assert!(without > 100);
+}
