@@ -246,6 +246,92 @@ static void files(void)
     expect(refused(&searched, 40), "17 constraint facts: 40");
 }
 
+/* The steps from the first up to the fact's own, in bytes; 0 where it has none. */
+static size_t row_for(const outcome *found, size_t fact)
+{
+    for (size_t step = 0; step < found->counts.steps; step++)
+        if (found->steps[4 * step + 1] == fact)
+            return 4 * (step + 1);
+    return 0;
+}
+
+static int says(retention_verdict reply, uint32_t verdict)
+{
+    return reply.refusal == 0 && reply.verdict == verdict;
+}
+
+/* The check says yes to the row of each fact in the set that was found. */
+static int rows_pass(const uint8_t *file, size_t len, const outcome *found,
+                     const uint8_t *set, size_t facts)
+{
+    for (size_t fact = 0; fact < facts; fact++) {
+        size_t row = row_for(found, fact);
+        if ((row > 0) != (set[fact] == 1))
+            return 0;
+        if (row > 0 && !says(retention_check(file, len, set, facts, (uint32_t)fact,
+                                             found->steps, row), 1))
+            return 0;
+    }
+    return 1;
+}
+
+/* It says no to every fact outside the set, by all steps and then any rule. */
+static int attempts_fail(const uint8_t *file, size_t len, const outcome *found,
+                         const uint8_t *set, size_t facts, size_t rules)
+{
+    uint8_t row[4 * (MOST_FACTS + 1)];
+    size_t known = 4 * (size_t)found->counts.steps;
+    memcpy(row, found->steps, known);
+    for (size_t fact = 0; fact < facts; fact++) {
+        for (size_t rule = 0; set[fact] == 0 && rule < rules; rule++) {
+            row[known] = 6;
+            row[known + 1] = (uint8_t)fact;
+            row[known + 2] = (uint8_t)(rule >> 8);
+            row[known + 3] = (uint8_t)rule;
+            if (!says(retention_check(file, len, set, facts, (uint32_t)fact, row, known + 4), 0))
+                return 0;
+        }
+    }
+    return 1;
+}
+
+/* What a caller does with the answer of a search: all of it from its buffers. */
+static void as_a_caller(const uint8_t *file, size_t len, const char *name)
+{
+    char what[96];
+    uint8_t set[MOST_FACTS] = {0};
+    retention_file counts = retention_accept(file, len);
+    outcome found = search(file, len);
+    for (size_t fact = 0; fact < counts.facts; fact++)
+        set[fact] = found.fact_marks[fact] == 1;
+    snprintf(what, sizeof what, "%s: the set that the search found is stable", name);
+    expect(found.counts.refusal == 0
+               && says(retention_judge(file, len, NOTHING, set, counts.facts), 1), what);
+    snprintf(what, sizeof what, "%s: each of its facts has its row", name);
+    expect(rows_pass(file, len, &found, set, counts.facts), what);
+    snprintf(what, sizeof what, "%s: no other fact has one", name);
+    expect(attempts_fail(file, len, &found, set, counts.facts, counts.rules), what);
+    outcome again = run(file, len, found.order, 3 * (size_t)counts.exceptions);
+    snprintf(what, sizeof what, "%s: the run under its order leaves the same bytes", name);
+    expect(counted(&again, found.counts.stages, found.counts.steps)
+               && memcmp(again.fact_marks, found.fact_marks, sizeof again.fact_marks) == 0
+               && memcmp(again.rule_marks, found.rule_marks, sizeof again.rule_marks) == 0
+               && memcmp(again.steps, found.steps, sizeof again.steps) == 0, what);
+}
+
+/* Document 000, example 3.1: 6 facts; 0<; 1<2; 2<0,!3; 3<1,!2; 4<2,!5; 5<2,!4 */
+static const uint8_t TWO_STABLE[] = {0x10, 6, 1, 0, 1, 1, 2, 2, 1, 2, 2, 0, 3, 3, 1, 3, 2, 1,
+                                     3, 2, 1, 4, 2, 2, 3, 5, 1, 5, 2, 2, 3, 4, 0x1F, 0, 6};
+
+static void callers(void)
+{
+    static uint8_t large[32768];
+    as_a_caller(A, sizeof A, "A");
+    as_a_caller(C, sizeof C, "C");
+    as_a_caller(TWO_STABLE, sizeof TWO_STABLE, "example 3.1");
+    as_a_caller(large, constrained(large, 16), "512 rules, 16 constraint facts");
+}
+
 static int prints(const uint8_t *file, size_t len, const char *text)
 {
     uint8_t out[64];
@@ -272,6 +358,7 @@ int main(void)
     example_c();
     examples_d_e_f();
     files();
+    callers();
     panel();
     printf("%d failed\n", failures);
     return failures == 0 ? 0 : 1;

@@ -14,17 +14,45 @@ pub enum Operation {
     Check,
     Search,
     Panel,
+    AskOrder,
+    AskList,
+    AskSet,
+    AskRow,
 }
 
 impl Operation {
-    pub const ALL: [Operation; 6] = [
+    pub const ALL: [Operation; 10] = [
         Operation::Accept,
         Operation::Run,
         Operation::Judge,
         Operation::Check,
         Operation::Search,
         Operation::Panel,
+        Operation::AskOrder,
+        Operation::AskList,
+        Operation::AskSet,
+        Operation::AskRow,
     ];
+
+    pub fn name(self) -> &'static str {
+        match self {
+            Operation::Accept => "accept",
+            Operation::Run => "run",
+            Operation::Judge => "judge",
+            Operation::Check => "check",
+            Operation::Search => "search",
+            Operation::Panel => "panel",
+            Operation::AskOrder => "ask_order",
+            Operation::AskList => "ask_list",
+            Operation::AskSet => "ask_set",
+            Operation::AskRow => "ask_row",
+        }
+    }
+
+    /// A question by itself. The C interface has no function for these.
+    pub fn is_question(self) -> bool {
+        self as usize > Operation::Panel as usize
+    }
 
     /// The refusals that can come from this operation.
     pub fn own_refusals(self) -> Vec<u32> {
@@ -34,18 +62,23 @@ impl Operation {
             Operation::Judge => &[11, 12, 13, 21, 22],
             Operation::Check => &[21, 22, 24, 23],
             Operation::Search => &[31, 32, 33, 34, 40, 41],
+            Operation::AskOrder => &[11, 12, 13, 14],
+            Operation::AskList => &[11, 12, 13],
+            Operation::AskSet => &[21, 22],
+            Operation::AskRow => &[24, 23],
         };
         (1..=10).chain(beyond_file.iter().copied()).collect()
     }
 
     /// The names of its answers where nothing is refused.
-    pub fn answers(self) -> [&'static str; 2] {
+    pub fn answers(self) -> &'static [&'static str] {
         match self {
-            Operation::Accept => ["without exception", "with exceptions"],
-            Operation::Run | Operation::Search => ["no stage", "stages"],
-            Operation::Judge => ["not stable", "stable"],
-            Operation::Check => ["no", "yes"],
-            Operation::Panel => ["buffer short", "text"],
+            Operation::Accept => &["without exception", "with exceptions"],
+            Operation::Run | Operation::Search => &["no stage", "stages"],
+            Operation::Judge => &["not stable", "stable"],
+            Operation::Check => &["no", "yes"],
+            Operation::Panel => &["buffer short", "text"],
+            _ => &["yes"],
         }
     }
 }
@@ -54,7 +87,7 @@ impl Operation {
 pub struct Case {
     pub operation: Operation,
     pub file: Vec<u8>,
-    /// The order of a run, or the list of a judge.
+    /// The order or the list of rules.
     pub rules: Vec<u8>,
     pub set: Vec<u8>,
     pub asked: u32,
@@ -80,7 +113,7 @@ pub enum Met {
 }
 
 impl Case {
-    fn new(operation: Operation, file: &[u8]) -> Case {
+    pub fn new(operation: Operation, file: &[u8]) -> Case {
         Case {
             operation,
             file: file.to_vec(),
@@ -93,8 +126,8 @@ impl Case {
     }
 
     /// The reply of the reference, from buffers that hold `pattern(place)`.
-    pub fn expected(&self, pattern: fn(usize) -> u8) -> Reply {
-        let fill = |&length: &usize| (0..length).map(pattern).collect();
+    pub fn expected(&self, pattern: impl Fn(usize) -> u8) -> Reply {
+        let fill = |&length: &usize| (0..length).map(&pattern).collect();
         let mut buffers: Vec<Vec<u8>> = self.lent.iter().map(fill).collect();
         let numbers = self.call_reference(&mut buffers);
         Reply { numbers, buffers }
@@ -131,6 +164,12 @@ impl Case {
                 }
                 vec![text.len() as u32]
             }
+            (Operation::AskOrder, _) => answer_reply(reference::ask_order(file, &self.rules)),
+            (Operation::AskList, _) => answer_reply(reference::ask_list(file, &self.rules)),
+            (Operation::AskSet, _) => answer_reply(reference::ask_set(file, &self.set)),
+            (Operation::AskRow, _) => {
+                answer_reply(reference::ask_row(file, self.asked, &self.proof))
+            }
             _ => unreachable!("a case lends what its operation takes"),
         }
     }
@@ -145,6 +184,7 @@ impl Case {
             },
             _ if numbers[0] != 0 => Met::Refusal(numbers[0]),
             Operation::Accept => Met::Answer(usize::from(numbers[3] > 0)),
+            question if question.is_question() => Met::Answer(0),
             _ => Met::Answer(usize::from(numbers[1] > 0)),
         }
     }
@@ -164,19 +204,24 @@ fn verdict_reply(result: Result<bool, Refusal>) -> Vec<u32> {
     }
 }
 
+fn answer_reply(result: Result<(), Refusal>) -> Vec<u32> {
+    vec![result.map_or_else(|refusal| refusal as u32, |()| 0)]
+}
+
 /// The highest refusal number.
 const MOST_REFUSAL: usize = 41;
+const OPERATIONS: usize = Operation::ALL.len();
 
 /// How often each refusal and each answer was met, by operation.
 #[derive(Clone)]
 pub struct Tally {
-    refusals: [[u64; MOST_REFUSAL + 1]; 6],
-    answers: [[u64; 2]; 6],
+    refusals: [[u64; MOST_REFUSAL + 1]; OPERATIONS],
+    answers: [[u64; 2]; OPERATIONS],
 }
 
 impl Default for Tally {
     fn default() -> Tally {
-        Tally { refusals: [[0; MOST_REFUSAL + 1]; 6], answers: [[0; 2]; 6] }
+        Tally { refusals: [[0; MOST_REFUSAL + 1]; OPERATIONS], answers: [[0; 2]; OPERATIONS] }
     }
 }
 
@@ -188,12 +233,14 @@ impl Tally {
         }
     }
 
-    /// The table of counts, and whether every entry was met at least once.
-    pub fn table(&self) -> (String, bool) {
+    /// The table of counts, with the questions or without them, and whether every
+    /// entry was met at least once.
+    pub fn table(&self, with_questions: bool) -> (String, bool) {
         let mut text = String::new();
         let mut all_met = true;
-        for operation in Operation::ALL {
-            text += &format!("{operation:?}\n");
+        let shown = |operation: &Operation| with_questions || !operation.is_question();
+        for operation in Operation::ALL.into_iter().filter(shown) {
+            text += &format!("{}\n", operation.name());
             for (answer, count) in operation.answers().iter().zip(self.answers[operation as usize])
             {
                 text += &format!("  {answer:<18}{count:>10}\n");

@@ -174,6 +174,22 @@ fn checks_that_say_yes_and_no() {
     assert_eq!(check(&a, &[1, 1, 0, 0], 1, &proof[..7]), Err(Refusal::NotSteps));
 }
 
+#[test]
+fn questions_asked_by_themselves() {
+    let a = example_a();
+    assert_eq!(ask_order(&a, &order_of(&[2, 1])), Ok(()));
+    assert_eq!(ask_order(&a, &order_of(&[1])), Err(Refusal::ExceptionNotNamed));
+    assert_eq!(ask_list(&a, &order_of(&[1])), Ok(()));
+    assert_eq!(ask_list(&a, &order_of(&[0])), Err(Refusal::NotAnException));
+    assert_eq!(ask_set(&a, &[1, 0, 1, 1]), Ok(()));
+    assert_eq!(ask_set(&a, &[2, 0, 0]), Err(Refusal::SetLength));
+    assert_eq!(ask_set(&a, &[2, 0, 0, 0]), Err(Refusal::SetByte));
+    assert_eq!(ask_row(&a, 3, &[6, 9, 9, 9]), Ok(()));
+    assert_eq!(ask_row(&a, 4, &[6]), Err(Refusal::AskedFactUnknown));
+    assert_eq!(ask_row(&a, 3, &[6]), Err(Refusal::NotSteps));
+    assert_eq!(ask_row(&[], 4, &[6]), Err(Refusal::NoFactCount));
+}
+
 /// The definitions, without any care for time.
 mod naive {
     use super::super::{FactSet, RuleFile, Step};

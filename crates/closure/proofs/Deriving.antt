@@ -7,28 +7,26 @@ use mathlib.Core.Option.{Option, none, some}
 use native.Mathlib.Omega.{arith}
 use borrow.Author.Tests.{ne-eqb}
 use lib.ListN.{length, getD, set, length-set}
-use Rattle.theory.specs.Lists.{upTo}
-use Rattle.theory.specs.Rule.{Program, Mask, FactSet, Bounded, rule}
+use Rattle.theory.specs.Rule.{upTo, Program, Mask, FactSet, Bounded, rule, Step}
 use Rattle.theory.specs.Walk.{after}
-use Rattle.theory.specs.Derive.{Step, lowest, conclude, fired, derive, stepBy, steps}
+use Rattle.theory.specs.Derive.{lowest, conclude, fired, derive, stepBy, steps}
 use Rattle.theory.proofs.Bools.{not-of-false, or-false}
 use Rattle.theory.proofs.Lists.{howMany-less, upTo-mem}
 use Rattle.theory.proofs.Derive.{Fires, fires, fired-some, fired-none, adjoin-above, adjoin-has, out-below, missing, derive-above, derive-keeps}
 use Rattle.reader.specs.declared.item.FactId.{FactId}
 use Rattle.reader.specs.declared.item.RuleId.{RuleId}
 use Rattle.reader.specs.Item.{maxFacts, stepWidth, factId}
-use Rattle.reader.specs.Program.{programOf}
-use Rattle.reader.specs.Questions.{maxRules}
+use Rattle.reader.specs.Questions.{programOf, maxRules}
 use Rattle.reader.specs.Rules.{paint}
 use Rattle.reader.specs.Write.{stepItem, placed}
 use Rattle.reader.proofs.EachKind.{Bytes}
-use Rattle.rules.specs.Sets.{has}
+use Rattle.rules.specs.Questions.{has}
 use Rattle.rules.specs.RuleAt.{ruleAt}
-use Rattle.rules.proofs.Sets.{past-end, marked}
+use Rattle.rules.proofs.Sets.{past-end, has-set}
 use Rattle.closure.specs.declared.found.Found.the-variants.{At}
 use Rattle.closure.specs.Steps.{stepBytes, foundOf}
 use Rattle.closure.specs.Known.{Known, Room}
-use Rattle.rules.proofs.Putting.{placed-none, placed-length, placed-more}
+use Rattle.rules.proofs.BytesPut.{placed-none, placed-length, placed-more}
 use Rattle.closure.proofs.Painted.{paint-self, paint-marked, has-painted}
 use Rattle.closure.proofs.Ready.{found-at, rules-known, facts-bounded, read-conclusion, conclusion-few}
 
@@ -124,7 +122,7 @@ module _ {P : Program} {on : Mask} {set₀ steps₀ : List ℕ} {at : ℕ} {set-
       inside = omega (arith, w .set-length, b .conclusion-below i (fires P on (has set-now) i e .known))
 
       pub set-next : has (set set-now fact 1) ≡ next
-      set-next = marked set-now fact inside
+      set-next = has-set set-now fact inside
 
       pub one-derived : Deriving P on set₀ steps₀ at (set set-now fact 1) (placed (stepItem fact i) to steps-now) (to + stepWidth) (n + 1)
       one-derived =

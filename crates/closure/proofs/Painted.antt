@@ -13,7 +13,7 @@ use Rattle.theory.specs.Rule.{FactSet, Sub}
 use Rattle.theory.proofs.Bools.{either, never, false-of}
 use Rattle.reader.specs.Rules.{paintFrom, paint}
 use Rattle.reader.proofs.Marks.{both-tests, same-test, one-mark}
-use Rattle.rules.specs.Sets.{has}
+use Rattle.rules.specs.Questions.{has}
 use Rattle.rules.proofs.Sets.{past-end, length-paint}
 
 painted-self : (i : ℕ) (p : ℕ → Bool) (xs : List ℕ) → ((j : ℕ) → p (i + j) ≡ eqb (getD xs j 0) 1) → paintFrom i p xs ≡ xs

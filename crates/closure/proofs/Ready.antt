@@ -7,20 +7,18 @@ use mathlib.Core.Option.{Option, none, some}
 use native.Mathlib.Omega.{arith}
 use borrow.Author.Tests.{eq-eqb, ne-eqb}
 use lib.ListN.{getD}
-use Rattle.theory.specs.Lists.{all, seek, range, upTo}
-use Rattle.theory.specs.Rule.{Rule, Program, Bounded, count, rule}
+use Rattle.theory.specs.Rule.{all, seek, range, upTo, Rule, Program, Bounded, count, rule}
 use Rattle.theory.specs.Derive.{ready, lowest}
 use Rattle.theory.proofs.Bools.{and-both, and-false, not-of-false}
 use Rattle.reader.specs.declared.item.FactId.{FactId}
 use Rattle.reader.specs.declared.item.RuleId.{RuleId}
 use Rattle.reader.specs.Item.{maxFacts, factId, ruleId}
-use Rattle.reader.specs.Program.{programOf}
-use Rattle.reader.specs.Questions.{maxRules}
+use Rattle.reader.specs.Questions.{programOf, maxRules}
 use Rattle.reader.proofs.EachKind.{Bytes}
 use Rattle.reader.proofs.Accepted.{accepted-file, rules-few, facts-below, bounded}
-use Rattle.rules.specs.Sets.{has}
+use Rattle.rules.specs.Questions.{has}
 use Rattle.rules.specs.RuleAt.{ruleAt}
-use Rattle.rules.proofs.Walks.{range-all, range-cons, range-end}
+use Rattle.rules.proofs.ItemWalks.{range-all, range-cons, range-end}
 use Rattle.closure.specs.declared.found.Found.the-variants.{At, Nothing}
 use Rattle.closure.specs.Steps.{foundOf}
 use Rattle.closure.specs.Known.{Known}

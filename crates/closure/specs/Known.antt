@@ -1,21 +1,19 @@
--- What an operation knows of an accepted file beforehand.
+-- Internal: what an operation knows of an accepted file beforehand.
 use Prim.Native.Nat.{ℕ, _+_, _*_, _≤_}
 use mathlib.Core.Path.{_≡_}
 use mathlib.Core.Bool.{not}
 use mathlib.Core.List.{List}
 use mathlib.Core.Option.{none}
 use lib.ListN.{length}
-use Rattle.theory.specs.Lists.{howMany, upTo}
-use Rattle.theory.specs.Rule.{count}
+use Rattle.theory.specs.Rule.{howMany, upTo, count}
 use Rattle.reader.specs.Item.{stepWidth}
-use Rattle.reader.specs.Program.{programOf}
-use Rattle.reader.specs.Questions.{firstNo}
-use Rattle.rules.specs.Sets.{has}
+use Rattle.reader.specs.Questions.{programOf, fileNo}
+use Rattle.rules.specs.Questions.{has}
 use Rattle.rules.specs.RuleAt.{Indexed}
 
 -- The file is accepted, and starts has the place of each of its rules.
 pub record Known (file starts : List ℕ) (rules : ℕ) : Type 0 where
-  pub accepted : firstNo file ≡ none
+  pub accepted : fileNo file ≡ none
   pub counted : rules ≡ count (programOf file)
   pub indexed : Indexed file (programOf file) starts
 

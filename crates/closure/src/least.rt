@@ -2,10 +2,10 @@
 ghost use mathlib.Core.Path.{_≡_};
 ghost use lib.ListN.{length};
 ghost use Rattle.theory.specs.Derive.{lowest, fired, derive as derived, steps as stepsOf};
-ghost use Rattle.reader.specs.Program.{programOf};
+ghost use Rattle.reader.specs.Questions.{programOf};
 ghost use Rattle.reader.specs.Rules.{paint};
 ghost use Rattle.reader.specs.Write.{placed};
-ghost use Rattle.rules.specs.Sets.{has};
+ghost use Rattle.rules.specs.Questions.{has};
 ghost use Rattle.closure.specs.Steps.{stepBytes, foundOf};
 ghost use Rattle.closure.specs.Known.{Known, Room};
 use crate::found::Found;

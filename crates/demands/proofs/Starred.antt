@@ -1,114 +1,112 @@
--- The starred examples of document 01, from their bytes, as one joint lemma.
-use Prim.Native.Nat.{ℕ, _*_}
-use mathlib.Core.Path.{_≡_, refl}
+-- The starred examples of document 01 as one joint lemma: what is computed is by computing, and what it means by the theorems on the run, the judge,
+-- the proof check and the search.
+use Prim.Native.Nat.{ℕ}
+use native.Mathlib.Omega.{arith}
+use mathlib.Core.Path.{_≡_, refl, sym, _∙_, ap, subst}
 use mathlib.Core.List.{List, [], _∷_}
-use lib.ListN.{replicate}
-use Rattle.theory.specs.Rule.{plain, exception, constraintFact}
-use Rattle.theory.specs.Derive.{fired, derive, steps, plainRules}
-use Rattle.theory.specs.Stable.{isStable, leastOf, reduct}
-use Rattle.theory.specs.Check.{stepHolds, isProof}
-use Rattle.theory.specs.Search.{guessed, fits, search, orderFor}
+use Rattle.theory.specs.Rule.{FactSet, everyRule, plain, exception, constraintFact, plainRules}
+use Rattle.theory.specs.Derive.{fired, derive, steps}
+use Rattle.theory.specs.Check.{isStable, leastOf, stepHolds, isProof}
+use Rattle.theory.specs.Stable.{Stable, reduct, Earliest, anySet, orderFor}
+use Rattle.theory.specs.Search.{guessed, fits, search}
 use Rattle.theory.specs.Run.{rejected, spares, eligible, run, setAside, factMark, ruleMark}
 use Rattle.reader.specs.Item.{bodyLength, itemOf}
 use Rattle.reader.specs.Cursor.{front, itemsAt}
-use Rattle.reader.specs.Questions.{firstNo, parse}
-use Rattle.reader.specs.Accept.{exceptions, constraintFacts}
-use Rattle.reader.specs.declared.refusal.Refusal.the-variants.{NoStableSet}
-use Rattle.rules.specs.Sets.{has}
-use Rattle.rules.specs.Questions.{listNo, orderNo, setNo, rowNo}
-use Rattle.rules.specs.Orders.{naming}
-use Rattle.run.specs.Outcome.{Outcome, outcome, written, runNo, buffersNo}
-use Rattle.run.specs.declared.answer.Ran.the-variants.{Done}
-use Rattle.judge.specs.Judged.{judged, judgeNo}
-use Rattle.judge.specs.declared.answer.Judged.the-variants.{Stable, NotStable}
-use Rattle.proofcheck.specs.Verdict.{checked, checkNo}
-use Rattle.proofcheck.specs.declared.answer.Checked.the-variants.{Yes}
-use Rattle.search.specs.Searched.{searched, searchNo, limitsNo, refusedWith}
-use Rattle.search.specs.Searched as searching
-use Rattle.search.specs.declared.answer.Searched.the-variants.{Found}
+use Rattle.reader.specs.Questions.{programOf, fileQuestions, exceptions, constraintFacts}
+use Rattle.rules.specs.Questions.{has, listQuestions, orderQuestions, setQuestions, rowQuestions, bufferQuestions, runQuestions, marked, judgeQuestions, checkQuestions, someStable, limitQuestions, earlyQuestions, searchQuestions, naming}
+use Rattle.rules.proofs.Orders.{naming-names}
+use Rattle.run.specs.Outcome.{runWritten, runOutcome}
+use Rattle.run.specs.Outcome as running
+use Rattle.run.proofs.ReadMarks.{marked-past}
+use Rattle.judge.specs.declared.answer.Judged.the-variants as judgement
+use Rattle.judge.specs.Judged.{judged}
+use Rattle.judge.specs.Judged as judge
+use Rattle.judge.proofs.Meaning.{judged-means}
+use Rattle.proofcheck.specs.declared.answer.Checked.the-variants as checking
+use Rattle.proofcheck.specs.Checked.{checked}
+use Rattle.proofcheck.specs.Checked as check
+use Rattle.proofcheck.proofs.Meaning.{checked-means}
+use Rattle.search.specs.Outcome.{searchWritten, takenSet, searchOutcome}
+use Rattle.search.specs.Outcome as searching
+use Rattle.demands.specs.Results.{foundSet, setOf, RunIs, SearchIs}
+use Rattle.search.proofs.SearchMeaning.{searched-means}
 use Rattle.demands.specs.Examples.{A, B, C, D, E, F}
+use Rattle.demands.specs.Starred.{factRoom, ruleRoom, stepRoom, orderRoom, runs, searches, less, IsStable, IsNotStable, IsProof, Starred}
+use Rattle.demands.proofs.SetsReadBack.{set-back}
+use Rattle.demands.proofs.RunIs.{run-is}
+use Rattle.demands.proofs.SearchIs.{search-is}
 
--- the run of a file under an order, in buffers that just suffice
-abbrev pub runs : List ℕ → List ℕ → ℕ → ℕ → Outcome
-runs file order facts rules = outcome file (naming order) (replicate facts 9) (replicate rules 9) (replicate (4 * facts) 9)
+-- What the bytes mean, by the theorems.
+ran-so : (file order : List ℕ) → running.number (runs file order .answer) ≡ 0 → RunIs file (naming order) (factRoom file) (ruleRoom file) (stepRoom file) (runs file order)
+ran-so file order e = run-is file (naming order) (factRoom file) (ruleRoom file) (stepRoom file) e
 
-abbrev pub gives : ℕ → ℕ → List ℕ → List ℕ → List ℕ → Outcome
-gives stages n facts rules steps =
-    record { answer = Done stages n; fact-marks = facts; rule-marks = rules; steps = steps }
+stable-so : (file rs set : List ℕ) → judged file (naming rs) set ≡ judgement.Stable → IsStable file rs set
+stable-so file rs set e =
+    record {
+      says = e;
+      is =
+          subst (λ (named : List ℕ). Stable (programOf file) (less named) (has set)) (naming-names rs)
+          (judged-means file (naming rs) set .stable-exactly (ap judge.number e) .0 (ap judge.verdict e));
+    }
 
--- the search of a file with this many facts, rules and exception rules, likewise
-abbrev pub searches : List ℕ → ℕ → ℕ → ℕ → searching.Outcome
-searches file facts rules exceptions =
-    searched file (replicate facts 9) (replicate rules 9) (replicate (4 * facts) 9) (replicate (3 * exceptions) 9)
+not-stable-so : (file rs set : List ℕ) → judged file (naming rs) set ≡ judgement.NotStable → IsNotStable file rs set
+not-stable-so file rs set e = record { says = e; is-not = not-so }
+  where
+    not-so : Stable (programOf file) (less rs) (has set) → ⊥
+    not-so m =
+        let listed : Stable (programOf file) (judge.unlisted (naming rs)) (has set) = subst (λ (named : List ℕ). Stable (programOf file) (less named) (has set)) (sym (naming-names rs)) m in
+        let one : judge.verdict (judged file (naming rs) set) ≡ 1 = judged-means file (naming rs) set .stable-exactly (ap judge.number e) .1 listed in
+        let zero : judge.verdict (judged file (naming rs) set) ≡ 0 = ap judge.verdict e in
+        omega arith
 
-abbrev pub finds : ℕ → ℕ → List ℕ → List ℕ → List ℕ → List ℕ → searching.Outcome
-finds stages n facts rules steps order =
-    record { answer = Found stages n; fact-marks = facts; rule-marks = rules; steps = steps; order = order }
+proof-so : (file set : List ℕ) (fact : ℕ) (row : List ℕ) → checked file set fact row ≡ checking.Yes → IsProof file set fact row
+proof-so file set fact row e =
+    let t = checked-means file set fact row .yes-exactly (ap check.number e) .0 (ap check.verdict e) in
+    record { says = e; proves = t .0; admitted = t .1 }
 
--- What the starred examples say. Of the run: A, A2, B, C, C2, D, E. Of the search: A3 takes {0,1}, C3 writes the order 1 0, B and D get 41, E has
--- the empty set and an empty order. Of sets: those runs' facts are stable for the file less the rules that they set aside, and of F the empty
--- set is stable and {0} is not.
-abbrev pub Starred : Type 0
-Starred =
-    (runs A (1 ∷ 2 ∷ []) 4 4
-    ≡ gives 1 2 (1 ∷ 1 ∷ 2 ∷ 0 ∷ []) (0 ∷ 1 ∷ 3 ∷ 0 ∷ []) (6 ∷ 0 ∷ 0 ∷ 0 ∷ 6 ∷ 1 ∷ 0 ∷ 1 ∷ 9 ∷ 9 ∷ 9 ∷ 9 ∷ 9 ∷ 9 ∷ 9 ∷ 9 ∷ []))
-    × (runs A (2 ∷ 1 ∷ []) 4 4
-    ≡ gives 1 3 (1 ∷ 2 ∷ 1 ∷ 1 ∷ []) (0 ∷ 3 ∷ 1 ∷ 0 ∷ []) (6 ∷ 0 ∷ 0 ∷ 0 ∷ 6 ∷ 2 ∷ 0 ∷ 2 ∷ 6 ∷ 3 ∷ 0 ∷ 3 ∷ 9 ∷ 9 ∷ 9 ∷ 9 ∷ []))
-    × (runs B (0 ∷ []) 1 1 ≡ gives 0 0 (0 ∷ []) (2 ∷ []) (9 ∷ 9 ∷ 9 ∷ 9 ∷ []))
-    × (runs C (0 ∷ 1 ∷ []) 3 2
-    ≡ gives 1 1 (1 ∷ 2 ∷ 0 ∷ []) (1 ∷ 2 ∷ []) (6 ∷ 0 ∷ 0 ∷ 0 ∷ 9 ∷ 9 ∷ 9 ∷ 9 ∷ 9 ∷ 9 ∷ 9 ∷ 9 ∷ []))
-    × (runs C (1 ∷ 0 ∷ []) 3 2
-    ≡ gives 1 1 (0 ∷ 1 ∷ 2 ∷ []) (3 ∷ 1 ∷ []) (6 ∷ 1 ∷ 0 ∷ 1 ∷ 9 ∷ 9 ∷ 9 ∷ 9 ∷ 9 ∷ 9 ∷ 9 ∷ 9 ∷ []))
-    × (runs D (1 ∷ []) 2 2 ≡ gives 0 0 (0 ∷ 0 ∷ []) (0 ∷ 2 ∷ []) (9 ∷ 9 ∷ 9 ∷ 9 ∷ 9 ∷ 9 ∷ 9 ∷ 9 ∷ []))
-    × (runs E [] 0 0 ≡ gives 0 0 [] [] [])
-    × (searches A 4 4 2
-    ≡ finds 1 2 (1 ∷ 1 ∷ 2 ∷ 0 ∷ []) (0 ∷ 1 ∷ 3 ∷ 0 ∷ []) (6 ∷ 0 ∷ 0 ∷ 0 ∷ 6 ∷ 1 ∷ 0 ∷ 1 ∷ 9 ∷ 9 ∷ 9 ∷ 9 ∷ 9 ∷ 9 ∷ 9 ∷ 9 ∷ []) (5 ∷ 0 ∷ 1 ∷ 5 ∷ 0 ∷ 2 ∷ []))
-    × (searches B 1 1 1 ≡ refusedWith NoStableSet (9 ∷ []) (9 ∷ []) (9 ∷ 9 ∷ 9 ∷ 9 ∷ []) (9 ∷ 9 ∷ 9 ∷ []))
-    × (searches C 3 2 2
-    ≡ finds 1 1 (0 ∷ 1 ∷ 2 ∷ []) (3 ∷ 1 ∷ []) (6 ∷ 1 ∷ 0 ∷ 1 ∷ 9 ∷ 9 ∷ 9 ∷ 9 ∷ 9 ∷ 9 ∷ 9 ∷ 9 ∷ []) (5 ∷ 0 ∷ 1 ∷ 5 ∷ 0 ∷ 0 ∷ []))
-    × (searches D 2 2 1
-    ≡ refusedWith NoStableSet (9 ∷ 9 ∷ []) (9 ∷ 9 ∷ []) (9 ∷ 9 ∷ 9 ∷ 9 ∷ 9 ∷ 9 ∷ 9 ∷ 9 ∷ []) (9 ∷ 9 ∷ 9 ∷ []))
-    × (searching.number (searches B 1 1 1 .answer) ≡ 41)
-    × (searching.number (searches D 2 2 1 .answer) ≡ 41)
-    × (searches E 0 0 0 ≡ finds 0 0 [] [] [] [])
-    × (judged A [] (1 ∷ 1 ∷ 0 ∷ 0 ∷ []) ≡ Stable)
-    × (judged A [] (1 ∷ 0 ∷ 1 ∷ 1 ∷ []) ≡ Stable)
-    × (judged B (naming (0 ∷ [])) (0 ∷ []) ≡ Stable)
-    × (judged C (naming (1 ∷ [])) (1 ∷ 0 ∷ 0 ∷ []) ≡ Stable)
-    × (judged C [] (1 ∷ 0 ∷ 0 ∷ []) ≡ NotStable)
-    × (judged C [] (0 ∷ 1 ∷ 0 ∷ []) ≡ Stable)
-    × (judged D (naming (1 ∷ [])) (0 ∷ 0 ∷ []) ≡ Stable)
-    × (judged E [] [] ≡ Stable)
-    × (judged F [] (1 ∷ []) ≡ NotStable)
-    × (judged F [] (0 ∷ []) ≡ Stable)
-    × (checked A (1 ∷ 0 ∷ 1 ∷ 1 ∷ []) 3 (6 ∷ 0 ∷ 0 ∷ 0 ∷ 6 ∷ 2 ∷ 0 ∷ 2 ∷ 6 ∷ 3 ∷ 0 ∷ 3 ∷ []) ≡ Yes)
+taken-so : (file : List ℕ) → searching.number (searches file .answer) ≡ 0 → SearchIs file (factRoom file) (ruleRoom file) (stepRoom file) (orderRoom file) (searches file)
+taken-so file e = search-is file (factRoom file) (ruleRoom file) (stepRoom file) (orderRoom file) e
+
+earliest-so : (file set : List ℕ) → setOf (programOf file .facts) (foundSet file (searches file)) ≡ set → searching.number (searches file .answer) ≡ 0 → Earliest (programOf file) everyRule anySet (has set)
+earliest-so file set r e =
+    let back : has set ≡ foundSet file (searches file) = ap has (sym r) ∙ set-back (programOf file .facts) (foundSet file (searches file)) (marked-past (programOf file .facts) 1 (searches file .fact-marks)) in
+    rw back (taken-so file e .earliest)
+
+none-so : (file : List ℕ) → searching.number (searches file .answer) ≡ 41 → (M : FactSet) → Stable (programOf file) everyRule M → ⊥
+none-so file e = searched-means file (factRoom file) (ruleRoom file) (stepRoom file) (orderRoom file) .none-stable e
 
 pub starred : Starred
-unfolding searched searching.written searchNo limitsNo exceptions constraintFacts constraintFact guessed fits search orderFor outcome written runNo buffersNo judged judgeNo checked checkNo setNo rowNo isStable leastOf reduct isProof stepHolds has listNo orderNo parse firstNo itemsAt front bodyLength itemOf run eligible rejected spares setAside factMark ruleMark fired derive steps plainRules plain exception
-starred = (
-  refl,
-  refl,
-  refl,
-  refl,
-  refl,
-  refl,
-  refl,
-  refl,
-  refl,
-  refl,
-  refl,
-  refl,
-  refl,
-  refl,
-  refl,
-  refl,
-  refl,
-  refl,
-  refl,
-  refl,
-  refl,
-  refl,
-  refl,
-  refl,
-  refl,
-)
+unfolding searchOutcome searchWritten searchQuestions earlyQuestions limitQuestions someStable takenSet exceptions constraintFacts constraintFact guessed fits search orderFor runOutcome runWritten runQuestions bufferQuestions judged judgeQuestions checked checkQuestions setQuestions rowQuestions isStable leastOf reduct isProof stepHolds has marked listQuestions orderQuestions fileQuestions itemsAt front bodyLength itemOf run eligible rejected spares setAside factMark ruleMark fired derive steps plainRules plain exception
+starred =
+    record {
+      A = (record { leaves = refl; is = ran-so A (1 ∷ 2 ∷ []) refl }, stable-so A [] (1 ∷ 1 ∷ 0 ∷ 0 ∷ []) refl);
+      A2 = (
+        record { leaves = refl; is = ran-so A (2 ∷ 1 ∷ []) refl },
+        stable-so A [] (1 ∷ 0 ∷ 1 ∷ 1 ∷ []) refl,
+        proof-so A (1 ∷ 0 ∷ 1 ∷ 1 ∷ []) 3 (6 ∷ 0 ∷ 0 ∷ 0 ∷ 6 ∷ 2 ∷ 0 ∷ 2 ∷ 6 ∷ 3 ∷ 0 ∷ 3 ∷ []) refl,
+      );
+      A3 = record { leaves = refl; reads = refl; earliest = earliest-so A (1 ∷ 1 ∷ 0 ∷ 0 ∷ []) refl refl; is = taken-so A refl };
+      B = (
+        record { leaves = refl; is = ran-so B (0 ∷ []) refl },
+        stable-so B (0 ∷ []) (0 ∷ []) refl,
+        record { leaves = refl; number = refl; none-stable = none-so B refl },
+      );
+      C = (
+        record { leaves = refl; is = ran-so C (0 ∷ 1 ∷ []) refl },
+        stable-so C (1 ∷ []) (1 ∷ 0 ∷ 0 ∷ []) refl,
+        not-stable-so C [] (1 ∷ 0 ∷ 0 ∷ []) refl,
+      );
+      C2 = (record { leaves = refl; is = ran-so C (1 ∷ 0 ∷ []) refl }, stable-so C [] (0 ∷ 1 ∷ 0 ∷ []) refl);
+      C3 = record { leaves = refl; reads = refl; earliest = earliest-so C (0 ∷ 1 ∷ 0 ∷ []) refl refl; is = taken-so C refl };
+      D = (
+        record { leaves = refl; is = ran-so D (1 ∷ []) refl },
+        stable-so D (1 ∷ []) (0 ∷ 0 ∷ []) refl,
+        record { leaves = refl; number = refl; none-stable = none-so D refl },
+      );
+      E = (
+        record { leaves = refl; is = ran-so E [] refl },
+        stable-so E [] [] refl,
+        record { leaves = refl; reads = refl; earliest = earliest-so E [] refl refl; is = taken-so E refl },
+      );
+      F = (not-stable-so F [] (1 ∷ []) refl, stable-so F [] (0 ∷ []) refl);
+    }

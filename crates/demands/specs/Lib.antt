@@ -1,3 +1,6 @@
-pub mod Asked
-pub mod Read
+-- What is promised.
+pub mod Calls
+pub mod Results
+pub mod Demands
 pub mod Examples
+pub mod Starred

@@ -10,9 +10,8 @@ use borrow.Author.Tests.{eqb-true}
 use lib.Dec.{eqb}
 use lib.ListN.{length, getD, take, drop, replicate, take-append-drop}
 use lib.Seq.{take-length}
-use Rattle.theory.specs.Lists.{all, mem}
-use Rattle.theory.specs.Rule.{Program, FactSet, everyRule, adjoin, Bounded}
-use Rattle.theory.specs.Stable.{leastOf}
+use Rattle.theory.specs.Rule.{all, mem, Program, FactSet, everyRule, adjoin, Bounded}
+use Rattle.theory.specs.Check.{leastOf}
 use Rattle.theory.specs.Search.{guessed}
 use Rattle.theory.specs.Bounds.{undecided, alive}
 use Rattle.theory.proofs.Bools.{never, and-true, or-none, or-right, or-cases, or-false, false-of}
@@ -21,7 +20,7 @@ use Rattle.theory.proofs.Run.{NoRepeat}
 use Rattle.theory.proofs.Stable.{leastOf-agrees}
 use Rattle.theory.proofs.Search.{constraint-guessed}
 use Rattle.reader.specs.Item.{maxFacts}
-use Rattle.rules.specs.Sets.{has}
+use Rattle.rules.specs.Questions.{has}
 use Rattle.rules.proofs.Sets.{unmarked}
 use Rattle.literals.specs.Literal.{outside, literals}
 use Rattle.propagation.specs.State.{Settled, HeldToo, notHeldOut}

@@ -9,14 +9,14 @@ use mathlib.Core.Option.{Option, none, some, Option·map}
 use borrow.Author.Tests.{ltb-true, ltb-false}
 use lib.Dec.{ltb}
 use Rattle.theory.specs.Rule.{Program, FactSet, everyRule, nothing, adjoin, Bounded}
-use Rattle.theory.specs.Stable.{leastOf}
+use Rattle.theory.specs.Check.{leastOf}
 use Rattle.theory.specs.Search.{guessed, fits, hunt, search}
 use Rattle.theory.specs.Bounds.{alive, huntAlive}
 use Rattle.theory.proofs.Bools.{either, never}
 use Rattle.theory.proofs.Stable.{leastOf-least, least-within}
 use Rattle.theory.proofs.Bounds.{hunt-alive}
 use Rattle.reader.specs.Item.{maxFacts}
-use Rattle.rules.specs.Sets.{has}
+use Rattle.rules.specs.Questions.{has}
 use Rattle.rules.proofs.Sets.{past-end}
 use Rattle.earliest.specs.Branch.{Shown, Kept}
 

@@ -7,13 +7,12 @@ use mathlib.Core.List.{List, [], _∷_}
 use borrow.Author.Tests.{lt-ltb}
 use lib.Dec.{ltb}
 use lib.ListN.{length, take, drop, replicate, drop-of-length-le}
-use Rattle.theory.specs.Lists.{all}
-use Rattle.theory.specs.Rule.{FactSet, Bounded, everyRule, nothing}
+use Rattle.theory.specs.Rule.{all, FactSet, Bounded, everyRule, nothing}
 use Rattle.theory.specs.Search.{guessed, search}
 use Rattle.theory.specs.Bounds.{alive}
 use Rattle.theory.proofs.Lists.{all-of}
 use Rattle.reader.specs.Item.{maxFacts}
-use Rattle.reader.specs.Program.{programOf}
+use Rattle.reader.specs.Questions.{programOf}
 use Rattle.reader.proofs.EachKind.{Bytes}
 use Rattle.reader.proofs.Accepted.{accepted-file, facts-below, bounded}
 use Rattle.literals.specs.Literal.{literals}

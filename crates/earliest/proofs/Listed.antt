@@ -9,8 +9,7 @@ use mathlib.Core.Logic.{⊎-elim}
 use lib.Dec.{eqb}
 use lib.ListN.{length, getD, take, drop, take-append-drop}
 use lib.Seq.{take-suc, drop-cons}
-use Rattle.theory.specs.Lists.{mem, keep, downFrom}
-use Rattle.theory.specs.Rule.{Program, everyRule, constraintFact}
+use Rattle.theory.specs.Rule.{mem, keep, downFrom, Program, everyRule, constraintFact}
 use Rattle.theory.specs.Search.{guessed}
 use Rattle.theory.proofs.Bools.{never, and-left, false-of, or-none}
 use Rattle.theory.proofs.Lists.{mem-append, mem-cases, mem-there, mem-keep, mem-downFrom}

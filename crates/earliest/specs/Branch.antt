@@ -1,22 +1,17 @@
--- A branch of the search for the earliest stable set, as the tables show it.
+-- Internal: a branch of the search for the earliest stable set, as the tables show it.
 use Prim.Native.Nat.{ℕ, _<_, _≤_}
 use mathlib.Core.Path.{_≡_}
 use mathlib.Core.Bool.{Bool, true, false, not, _&&_}
 use mathlib.Core.List.{List}
 use mathlib.Core.Option.{Option, none, some}
 use lib.ListN.{length, take, drop}
-use Rattle.theory.specs.Lists.{mem}
-use Rattle.theory.specs.Rule.{Program, FactSet, everyRule}
-use Rattle.theory.specs.Stable.{leastOf}
+use Rattle.theory.specs.Rule.{mem, Program, FactSet, everyRule}
+use Rattle.theory.specs.Check.{leastOf}
 use Rattle.theory.specs.Search.{guessed}
 use Rattle.reader.specs.Item.{maxFacts}
-use Rattle.rules.specs.Sets.{has}
+use Rattle.rules.specs.Questions.{has}
 use Rattle.literals.specs.Literal.{outside}
 use Rattle.propagation.specs.State.{Settled}
-
--- The most constraint facts that are guessed (question 40).
-abbrev pub maxGuessed : ℕ
-maxGuessed = 16
 
 -- the facts of the row that are decided and not held out
 abbrev pub heldIn : List ℕ → ℕ → List ℕ → FactSet

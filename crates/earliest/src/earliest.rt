@@ -1,23 +1,23 @@
 // The search for the earliest stable set, from the file. Internal.
 ghost use mathlib.Core.Path.{_≡_};
-ghost use mathlib.Core.Option.{none};
 ghost use lib.ListN.{length};
-ghost use Rattle.theory.specs.Rule.{everyRule, count};
+ghost use Rattle.theory.specs.Rule.{everyRule};
 ghost use Rattle.theory.specs.Search.{guessed, search};
 ghost use Rattle.reader.specs.Item.{maxFacts};
-ghost use Rattle.reader.specs.Program.{programOf};
-ghost use Rattle.reader.specs.Questions.{firstNo};
+ghost use Rattle.reader.specs.Questions.{programOf};
+ghost use Rattle.reader.specs.Accepted.{Accepted};
 ghost use Rattle.earliest.specs.Branch.{Shown};
 use crate::hunt::hunt;
 use literals::tables::LITERALS;
 use literals::tables::SLOTS;
 use propagation::hold::hold_out;
+use reader::answer::FileCounts;
 use reader::rules::MAX_FACTS;
 use rules::index::MAX_RULES;
 
 // Whether an accepted file has a stable set, and the earliest one. The row has its constraint facts from the highest-numbered down.
-pub fn earliest(file: &[u8], rules: usize, row: &[u16], found: &mut [u8; MAX_FACTS]) -> bool
-    requires { ⌜ (firstNo (now file) ≡ none) × (rules ≡ count (programOf (now file))) × (now row ≡ guessed (programOf (now file)) everyRule) × (length (now found) ≡ maxFacts) ⌝ }
+pub fn earliest(file: &[u8], counts: FileCounts, row: &[u16], found: &mut [u8; MAX_FACTS]) -> bool
+    requires { ⌜ Accepted (now file) counts × (now row ≡ guessed (programOf (now file)) everyRule) × (length (now found) ≡ maxFacts) ⌝ }
     ensures { λ r. ⌜ Shown (search (programOf (now (file .entry))) everyRule) r (now (found .exit)) ⌝ }
 {
     let mut starts = [0u16; MAX_RULES];
@@ -34,7 +34,7 @@ pub fn earliest(file: &[u8], rules: usize, row: &[u16], found: &mut [u8; MAX_FAC
         &heads,
         &links,
         &owners,
-        rules,
+        counts.rules as usize,
         &mut low,
         &mut missing,
     );

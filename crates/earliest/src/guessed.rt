@@ -2,10 +2,10 @@
 ghost use Prim.Native.Nat.{_≤_};
 ghost use mathlib.Core.Path.{_≡_};
 ghost use lib.ListN.{length, take};
-ghost use Rattle.theory.specs.Lists.{howMany, keep, upTo, downFrom};
+ghost use Rattle.reader.specs.Questions.{maxGuessed};
+ghost use Rattle.theory.specs.Rule.{howMany, keep, upTo, downFrom};
 ghost use Rattle.reader.specs.Item.{maxFacts};
-ghost use Rattle.rules.specs.Sets.{has};
-ghost use Rattle.earliest.specs.Branch.{maxGuessed};
+ghost use Rattle.rules.specs.Questions.{has};
 use reader::rules::MAX_FACTS;
 
 // The most constraint facts that are guessed.

@@ -2,4 +2,4 @@
 // left as soon as it can hold no stable set. Internal.
 pub mod earliest;
 pub mod guessed;
-pub mod hunt;
+mod hunt;

@@ -1,4 +1,5 @@
-pub mod Listing
-pub mod Reducing
-pub mod Least
-pub mod Answering
+pub mod ListAsked
+pub mod ReductMask
+pub mod LeastTested
+pub mod JudgeAnswers
+pub mod Meaning

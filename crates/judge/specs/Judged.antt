@@ -1,22 +1,19 @@
 -- What the judge answers (document 01, "Judge and proof check").
 use Prim.Native.Nat.{ℕ}
+use mathlib.Core.Path.{_≡_}
 use mathlib.Core.Bool.{not, cond}
 use mathlib.Core.List.{List}
-use mathlib.Core.Option.{Option, none, some}
-use Rattle.theory.specs.Lists.{mem}
-use Rattle.theory.specs.Rule.{Mask, exception}
-use Rattle.theory.specs.Stable.{isStable}
-use Rattle.reader.specs.declared.refusal.Refusal.{Refusal}
-use Rattle.reader.specs.Refusal as refusal
-use Rattle.reader.specs.Program.{programOf}
-use Rattle.rules.specs.Sets.{has}
-use Rattle.rules.specs.Questions.{namedIn, firstOf, ofFile, listNo, setNo}
+use mathlib.Core.Logic.{_↔_}
+use mathlib.Core.Option.{none, some}
+use Rattle.theory.specs.Rule.{mem, Mask}
+use Rattle.theory.specs.Stable as theory
+use Rattle.theory.specs.Check.{isStable}
+use Rattle.reader.specs.Question as refusal
+use Rattle.reader.specs.Question.{noNumber}
+use Rattle.reader.specs.Questions.{programOf}
+use Rattle.rules.specs.Questions.{judgeNo, has, namedIn}
 use Rattle.judge.specs.declared.answer.Judged.{Judged}
 use Rattle.judge.specs.declared.answer.Judged.the-variants.{Stable, NotStable, Refused}
-
--- The questions of the file, then of the list, then of the set.
-unfoldable pub judgeNo : List ℕ → List ℕ → List ℕ → Option Refusal
-judgeNo file list set = ofFile file (λ P. firstOf (listNo (exception P) list) (setNo (P .facts) set))
 
 -- The rules in force: all but the listed ones.
 abbrev pub unlisted : List ℕ → Mask
@@ -40,3 +37,9 @@ abbrev pub verdict : Judged → ℕ
 verdict Stable = 1
 verdict NotStable = 0
 verdict (Refused r) = 0
+
+-- What an answer means: its number is that of the first no; where no question got no, the verdict is stable exactly where the set is stable for
+-- the file less the listed rules.
+pub record JudgeMeans (file list set : List ℕ) (r : Judged) : Type 0 where
+  pub numbered : number r ≡ noNumber (judgeNo file list set)
+  pub stable-exactly : number r ≡ 0 → (verdict r ≡ 1) ↔ theory.Stable (programOf file) (unlisted list) (has set)

@@ -1,2 +1,4 @@
+-- What is promised.
 pub mod Judged
-pub mod Beforehand
+-- What only code and proofs use.
+pub mod Listed

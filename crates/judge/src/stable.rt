@@ -1,17 +1,16 @@
 // The test of stability: the least set closed under the reduct has the facts of the set. Internal.
 ghost use mathlib.Core.Path.{_≡_};
 ghost use mathlib.Core.Bool.{not, Bool·beq};
-ghost use Rattle.theory.specs.Lists.{all, upTo};
-ghost use Rattle.theory.specs.Rule.{nothing};
+ghost use Rattle.theory.specs.Rule.{all, upTo, nothing};
 ghost use Rattle.theory.specs.Derive.{derive as derived};
-ghost use Rattle.theory.specs.Stable.{isStable};
-ghost use Rattle.reader.specs.Program.{programOf};
-ghost use Rattle.rules.specs.Sets.{has};
+ghost use Rattle.theory.specs.Check.{isStable};
+ghost use Rattle.reader.specs.Questions.{programOf};
+ghost use Rattle.rules.specs.Questions.{has};
 ghost use Rattle.closure.specs.Known.{Known};
-ghost use Rattle.judge.specs.Beforehand.{Counted};
+ghost use Rattle.reader.specs.Accepted.{Accepted};
 use crate::reduct::reduct_mask;
+use reader::answer::FileCounts;
 use reader::item::FactId;
-use reader::questions::Seen;
 use reader::rules::MAX_FACTS;
 use reader::write::STEP_WIDTH;
 use rules::fact_set::in_set;
@@ -51,14 +50,14 @@ fn same_facts(a: &[u8], b: &[u8], facts: u16) -> bool
 }
 
 // Is the set stable for the rules that are not listed?
-pub fn is_stable(file: &[u8], seen: Seen, listed: &[u8; MAX_RULES], set: &[u8]) -> bool
-    requires { ⌜ Counted (now file) seen ⌝ }
+pub fn is_stable(file: &[u8], counts: FileCounts, listed: &[u8; MAX_RULES], set: &[u8]) -> bool
+    requires { ⌜ Accepted (now file) counts ⌝ }
     ensures { λ r. ⌜ r ≡ isStable (programOf (now (file .entry))) (λ i. not (has (now (listed .entry)) i)) (has (now (set .entry))) ⌝ }
 {
-    let rules = seen.rules as usize;
+    let rules = counts.rules as usize;
     let mut starts = [0u16; MAX_RULES];
     rules::index::index_rules(file, &mut starts);
     let mask = reduct_mask(file, &starts, rules, listed, set);
     let least = least_set(file, &starts, rules, &mask);
-    same_facts(&least, set, seen.facts)
+    same_facts(&least, set, counts.facts)
 }

@@ -9,8 +9,7 @@ use borrow.Author.Tests.{eqb-true, eqb-false, lt-ltb}
 use lib.ListN.{length, getD, set, replicate, length-set, length-replicate}
 use lib.Seq.{getD-set-same, getD-set-other}
 use lib.Dec.{eqb, ltb}
-use Rattle.theory.specs.Lists.{all, howMany}
-use Rattle.theory.specs.Rule.{Program, count, rule}
+use Rattle.theory.specs.Rule.{all, howMany, Program, count, rule}
 use Rattle.theory.proofs.Bools.{either, and-both, and-false}
 use Rattle.theory.proofs.Lists.{eqb-self, howMany-every}
 use Rattle.reader.specs.Questions.{maxRules}

@@ -11,8 +11,7 @@ use types.Run.{OneOf, miss}
 use denote.Enum.Declared.{tagOf}
 use lib.ListN.{length, getD, set}
 use lib.Dec.{eqb, ltb}
-use Rattle.theory.specs.Lists.{howMany}
-use Rattle.theory.specs.Rule.{Program, count, rule}
+use Rattle.theory.specs.Rule.{howMany, Program, count, rule}
 use Rattle.theory.proofs.Bools.{either}
 use Rattle.theory.proofs.Lists.{howMany-append}
 use Rattle.reader.specs.declared.refusal.Refusal.{Refusal}
@@ -20,17 +19,16 @@ use Rattle.reader.specs.declared.item.FactId.{FactId}
 use Rattle.reader.specs.declared.item.Item.{Item}
 use Rattle.reader.specs.declared.item.Item.the-variants.{Facts, Opens, Premise, Constraint, Rules, Names, Step}
 use Rattle.reader.specs.declared.cursor.Cursor.{Cursor}
-use Rattle.reader.specs.declared.cursor.Read.the-variants.{Found, Refused}
-use Rattle.reader.specs.declared.questions.Seen.{Seen}
-use Rattle.reader.specs.Cursor.{Token, item, bad, nextAt, itemsAt, start}
-use Rattle.reader.specs.Program.{premisesOf, constraintsOf, ruleOf, rulesOf, programOf}
-use Rattle.reader.specs.Questions.{maxRules, firstNo}
+use Rattle.reader.specs.declared.cursor.Read.the-variants.{Found, Refused, Ended}
+use Rattle.reader.specs.declared.questions.Scan.{Scan}
+use Rattle.reader.specs.Cursor.{Token, item, bad, nextAt, itemsAt, fileStart}
+use Rattle.reader.specs.Questions.{premisesOf, constraintsOf, ruleOf, rulesOf, programOf, maxRules, fileNo}
 use Rattle.reader.proofs.item.Item.{the-type}
-use Rattle.reader.proofs.Items.{found}
+use Rattle.reader.proofs.Items.{found, row-ended}
 use Rattle.reader.proofs.EachKind.{Bytes, width-of-item, narrow-item}
 use Rattle.reader.proofs.Accepted.{GoodBody, opens, premise, constraint, last, AcceptedFile, accepted-file, rules-few}
-use Rattle.rules.proofs.Walks.{headed, none-read}
-use Rattle.rules.proofs.Indexing.{Passed, RuleNext, all-passed, next-passed}
+use Rattle.rules.proofs.ItemWalks.{headed, none-read}
+use Rattle.rules.proofs.RulesIndexed.{Passed, RuleNext, all-passed, next-passed}
 use Rattle.literals.specs.Literal.{outside, literals, slots, body}
 use Rattle.literals.specs.Rows.{Linked, Sized, Blank}
 use Rattle.literals.proofs.Filling.{Filling, none-filled, nothing-added, all-linked, all-sized, literal-added}
@@ -46,7 +44,7 @@ aheadOf P n ts i = cond (ltb i n) (cond (eqb (i + 1) n) (bodyOf ts) []) (body (r
 -- A premise and a constraint follow a rule that was opened, the count of facts stands before all rules, and the count of rules ends the file.
 abbrev pub InOrder : ℕ → List Token → Type 0
 InOrder n [] = Unit {0}
-InOrder n (bad r ∷ ts) = Unit {0}
+InOrder n (bad fault ∷ ts) = Unit {0}
 InOrder n (item (Facts k) ∷ ts) = (n ≡ 0) × InOrder n ts
 InOrder n (item (Opens f) ∷ ts) = InOrder (n + 1) ts
 InOrder n (item (Premise f) ∷ ts) = (0 < n) × InOrder n ts
@@ -55,13 +53,13 @@ InOrder n (item (Rules k) ∷ ts) = ts ≡ []
 InOrder n (item (Names r) ∷ ts) = ⊥
 InOrder n (item (Step f r) ∷ ts) = ⊥
 
-body-in-order : {seen : Seen} {ts : List Token} → GoodBody seen ts → InOrder (seen .rules) ts
+body-in-order : {scan : Scan} {ts : List Token} → GoodBody scan ts → InOrder (scan .rules) ts
 body-in-order (opens below room g) = body-in-order g
 body-in-order (premise below first g) = (first, body-in-order g)
 body-in-order (constraint below first g) = (first, body-in-order g)
 body-in-order (last e) = refl
 
-file-in-order : (s : List ℕ) → AcceptedFile s → InOrder 0 (itemsAt s start)
+file-in-order : (s : List ℕ) → AcceptedFile s → InOrder 0 (itemsAt s fileStart)
 file-in-order s a = rw (a .first .items) (refl, body-in-order (a .good))
 
 -- One literal of the last rule opened.
@@ -133,7 +131,7 @@ pub record Linking (s missing heads links owners : List ℕ) (c : Cursor) (n slo
 abbrev NotOfRule : Item → Type 0
 NotOfRule i = OneOf (0 ∷ 4 ∷ 5 ∷ 6 ∷ []) (tagOf the-type i)
 
-pub none-linked : {s missing heads links owners : List ℕ} → _≡_ {A = Option Refusal} (firstNo s) none → Blank missing heads links owners → Linking s missing heads links owners start 0 1
+pub none-linked : {s missing heads links owners : List ℕ} → _≡_ {A = Option Refusal} (fileNo s) none → Blank missing heads links owners → Linking s missing heads links owners fileStart 0 1
 none-linked {s} y b =
     record {
       passed = record { rest = refl };
@@ -153,12 +151,22 @@ pub record OwnRead (s : List ℕ) (c d : Cursor) (n literal : ℕ) : Type 0 wher
   pub width : d .at ≡ c .at + 2
   pub inside : d .at ≤ length s
 
+-- No item is left, and no rule either.
+pub record AllRead (s : List ℕ) (c : Cursor) : Type 0 where
+  pub no-rule : rulesOf (itemsAt s c) ≡ []
+  pub no-own : bodyOf (itemsAt s c) ≡ []
+
+module _ (s : List ℕ) (c d : Cursor) where
+  pub read-refused : (r : Refusal) → nextAt s c ≡ Refused r d → AllRead s c
+  read-refused r e = record { no-rule = none-read s c d rulesOf r e (λ fault. refl); no-own = none-read s c d bodyOf r e (λ fault. refl) }
+
+  pub read-ended : nextAt s c ≡ Ended d → AllRead s c
+  read-ended e = record { no-rule = ap rulesOf (row-ended s c d e); no-own = ap bodyOf (row-ended s c d e) }
+
 module _ {s missing heads links owners : List ℕ} {c : Cursor} {n slot : ℕ} (w : Linking s missing heads links owners c n slot) where
-  -- No item is left.
-  module _ (y : _≡_ {A = Option Refusal} (firstNo s) none) (d : Cursor) (r : Refusal) (e : nextAt s c ≡ Refused r d) where
+  module _ (y : _≡_ {A = Option Refusal} (fileNo s) none) (a : AllRead s c) where
     none-ahead : (i : ℕ) → i < count (programOf s) → aheadOf (programOf s) n (itemsAt s c) i ≡ []
-    none-ahead i h =
-        rw (lt-ltb i n (omega (arith, all-passed (w .passed) (none-read s c d rulesOf r e refl))), none-read s c d bodyOf r e refl) (nil (eqb (i + 1) n))
+    none-ahead i h = rw (lt-ltb i n (omega (arith, all-passed (w .passed) (a .no-rule))), a .no-own) (nil (eqb (i + 1) n))
 
     pub file-linked : Linked (programOf s) heads links owners
     file-linked = all-linked (w .filled) none-ahead (rules-few (accepted-file s y))
@@ -175,7 +183,7 @@ module _ {s missing heads links owners : List ℕ} {c : Cursor} {n slot : ℕ} (
       a-rule : RuleNext s n (ruleOf f (itemsAt s d)) d
       a-rule = next-passed (w .passed) (ruleOf f (itemsAt s d)) d (ap rulesOf (headed s c d i (Opens f) e q))
 
-      pub rule-below : _≡_ {A = Option Refusal} (firstNo s) none → n < maxRules
+      pub rule-below : _≡_ {A = Option Refusal} (fileNo s) none → n < maxRules
       rule-below y = omega (arith, a-rule .below, rules-few (accepted-file s y))
 
       pub rule-opened : Linking s missing heads links owners d (n + 1) slot
@@ -251,7 +259,7 @@ module _ {s missing heads links owners : List ℕ} {c : Cursor} {n slot : ℕ} (
         by-item (Step f r) q k = absurd (ordered (Step f r) q)
 
   -- The literal gets its slot.
-  module _ (y : _≡_ {A = Option Refusal} (firstNo s) none) (d : Cursor) (literal : ℕ) (o : OwnRead s c d n literal) where
+  module _ (y : _≡_ {A = Option Refusal} (fileNo s) none) (d : Cursor) (literal : ℕ) (o : OwnRead s c d n literal) where
     pub slot-below : slot < slots
     slot-below = omega (arith, w .spent, o .width, o .inside, accepted-file s y .short)
 

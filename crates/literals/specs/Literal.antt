@@ -1,4 +1,4 @@
--- Literals as numbers. A rule's body asks some facts to be in and some to be out: "f is in" is the number f, "k is out" stands past the facts.
+-- Internal: literals as numbers. A rule's body asks some facts to be in and some to be out: "f is in" is the number f, "k is out" stands past the facts.
 use Prim.Native.Nat.{ℕ, _+_}
 use mathlib.Core.List.{List, _++_, map}
 use Rattle.theory.specs.Rule.{Rule}

@@ -1,12 +1,11 @@
--- The rules by literal: for each literal a chain of slots, one slot for each time that the literal stands in the body of a rule.
+-- Internal: the rules by literal. For each literal a chain of slots, one slot for each time that the literal stands in the body of a rule.
 use Prim.Native.Nat.{ℕ, _<_, _≤_}
 use mathlib.Core.Path.{_≡_}
 use mathlib.Core.Bool.{true}
 use mathlib.Core.List.{List, [], _∷_}
 use lib.ListN.{length, getD, replicate}
 use lib.Dec.{eqb, ltb}
-use Rattle.theory.specs.Lists.{all, howMany}
-use Rattle.theory.specs.Rule.{Program, count, rule}
+use Rattle.theory.specs.Rule.{all, howMany, Program, count, rule}
 use Rattle.reader.specs.Questions.{maxRules}
 use Rattle.literals.specs.Literal.{literals, slots, body}
 

@@ -3,8 +3,7 @@ ghost use Prim.Native.Nat.{_+_, _<_};
 ghost use mathlib.Core.Path.{_≡_};
 ghost use mathlib.Core.Option.{none};
 ghost use lib.ListN.{getD, set};
-ghost use Rattle.reader.specs.Program.{programOf};
-ghost use Rattle.reader.specs.Questions.{firstNo, maxRules};
+ghost use Rattle.reader.specs.Questions.{programOf, fileNo, maxRules};
 ghost use Rattle.literals.specs.Literal.{literals, slots};
 ghost use Rattle.literals.specs.Rows.{Linked, Sized, Blank};
 use reader::cursor::Cursor;
@@ -50,7 +49,7 @@ pub fn link_rules(
     links: &mut [u16; SLOTS],
     owners: &mut [u16; SLOTS],
 )
-    requires { ⌜ firstNo (now file) ≡ none ⌝ }
+    requires { ⌜ fileNo (now file) ≡ none ⌝ }
     requires { ⌜ Blank (now missing) (now heads) (now links) (now owners) ⌝ }
     ensures { λ _. ⌜ Linked (programOf (now (file .entry))) (now (heads .exit)) (now (links .exit)) (now (owners .exit)) ⌝ }
     ensures { λ _. ⌜ Sized (programOf (now (file .entry))) (now (missing .exit)) ⌝ }
@@ -84,6 +83,9 @@ pub fn link_rules(
                     _ => {}
                 }
                 cursor = next;
+            }
+            Read::Ended(_) => {
+                return;
             }
         }
     }

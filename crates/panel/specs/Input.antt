@@ -1,4 +1,4 @@
--- What was read lies inside the room.
+-- Internal: what was read lies inside the room.
 use Prim.Native.Nat.{ℕ, _≤_}
 use Rattle.panel.specs.declared.Input.{Input}
 use Rattle.panel.specs.declared.Input.the-variants.{Bytes, Failed}

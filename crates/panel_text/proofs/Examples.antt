@@ -1,12 +1,12 @@
 -- The panel's text for document 01's examples, from the bytes of the files and the definitions alone.
 use mathlib.Core.Path.{_≡_, refl}
 use mathlib.Core.List.{[], _∷_}
-use Rattle.theory.specs.Rule.{plain, exception}
-use Rattle.theory.specs.Derive.{fired, derive, steps, plainRules}
+use Rattle.theory.specs.Rule.{plain, exception, plainRules}
+use Rattle.theory.specs.Derive.{fired, derive, steps}
 use Rattle.theory.specs.Run.{run, eligible, rejected, spares, setAside, factMark}
 use Rattle.reader.specs.Item.{bodyLength, itemOf}
 use Rattle.reader.specs.Cursor.{front, itemsAt}
-use Rattle.reader.specs.Questions.{firstNo}
+use Rattle.reader.specs.Questions.{fileQuestions}
 use Rattle.panel_text.specs.Text.{decimal, spaced, field, line, headLine, stepLine, runText, panelText}
 
 pub record Texts : Type 0 where
@@ -18,5 +18,5 @@ pub record Texts : Type 0 where
   pub two-exceptions : panelText (0x10 ∷ 0x03 ∷ 0x01 ∷ 0x00 ∷ 0x03 ∷ 0x01 ∷ 0x01 ∷ 0x01 ∷ 0x03 ∷ 0x02 ∷ 0x1F ∷ 0x00 ∷ 0x02 ∷ []) ≡ 0x46 ∷ 0x20 ∷ 0x33 ∷ 0x20 ∷ 0x52 ∷ 0x20 ∷ 0x32 ∷ 0x20 ∷ 0x53 ∷ 0x20 ∷ 0x31 ∷ 0x0A ∷ 0x44 ∷ 0x20 ∷ 0x30 ∷ 0x20 ∷ 0x30 ∷ 0x0A ∷ 0x58 ∷ 0x20 ∷ 0x31 ∷ 0x0A ∷ 0x41 ∷ 0x20 ∷ 0x31 ∷ 0x0A ∷ 0x4E ∷ 0x0A ∷ []
 
 pub texts : Texts
-unfolding panelText runText headLine stepLine line field spaced decimal firstNo itemsAt front bodyLength itemOf run eligible rejected spares setAside factMark fired derive steps plainRules plain exception
+unfolding panelText runText headLine stepLine line field spaced decimal fileQuestions itemsAt front bodyLength itemOf run eligible rejected spares setAside factMark fired derive steps plainRules plain exception
 texts = record { nothing = refl; one-byte-more = refl; two-exceptions = refl }

@@ -9,21 +9,18 @@ use mathlib.Core.Option.{Option, none}
 use borrow.Author.Tests.{eq-eqb, ne-eqb}
 use lib.ListN.{length, replicate, length-append, length-replicate}
 use lib.Dec.{eqb}
-use Rattle.theory.specs.Lists.{keep, range, upTo}
-use Rattle.theory.specs.Rule.{Program, Mask, FactSet, Bounded, everyRule, null, adjoin, nothing, count, rule, exception}
-use Rattle.theory.specs.Derive.{Step}
+use Rattle.theory.specs.Rule.{keep, range, upTo, Program, Mask, FactSet, Bounded, everyRule, null, adjoin, nothing, count, rule, exception, Step}
 use Rattle.theory.specs.Run.{Stand, run, stageCount, stepCount}
 use Rattle.theory.proofs.Grounds.{Grounds}
 use Rattle.theory.proofs.Run.{granted, run-sound}
 use Rattle.reader.specs.declared.refusal.Refusal.{Refusal}
 use Rattle.reader.specs.Item.{nameWidth, maxFacts}
-use Rattle.reader.specs.Program.{programOf}
-use Rattle.reader.specs.Questions.{maxRules, firstNo}
+use Rattle.reader.specs.Questions.{programOf, maxRules, fileNo}
 use Rattle.reader.specs.Write.{ruleItem}
 use Rattle.reader.proofs.EachKind.{Bytes}
 use Rattle.reader.proofs.Accepted.{accepted-file, rules-few, facts-below, bounded}
-use Rattle.run.proofs.Paced.{Paced, run-paced}
-use Rattle.rules.specs.Orders.{each, naming}
+use Rattle.run.proofs.FewSteps.{Paced, run-paced}
+use Rattle.rules.specs.Questions.{each, naming}
 use Rattle.panel_text.specs.Text.{newline, spaced, field, line, headLine, stepLine, lastLine, rejectedFacts, asideRules, runText, ascending, textRoom}
 use Rattle.rules.specs.Put.{Fits, Put}
 use Rattle.panel_text.proofs.Decimal.{three-digits}
@@ -75,7 +72,7 @@ none-written l (n ∷ ns) at before next after p =
 pub order-length : (p : ℕ → Bool) (n : ℕ) → length (naming (keep p (upTo n))) ≤ n * nameWidth
 order-length p n = kept-length ruleItem nameWidth p 0 n (λ i l. omega arith)
 
-pub order-fits : (s : List ℕ) → _≡_ {A = Option Refusal} (firstNo s) none → Fits (naming (ascending (programOf s))) 0 (replicate (maxRules * nameWidth) 0)
+pub order-fits : (s : List ℕ) → _≡_ {A = Option Refusal} (fileNo s) none → Fits (naming (ascending (programOf s))) 0 (replicate (maxRules * nameWidth) 0)
 order-fits s a =
     record {
       inside = omega (arith, order-length (exception (programOf s)) (count (programOf s)), rules-few (accepted-file s a), length-replicate {A = ℕ} (maxRules * nameWidth) 0);
@@ -107,7 +104,7 @@ module _ (P : Program) (b : Bounded P) (f : P .facts < maxFacts) (r : count P �
       simp length-append (omega (arith, head, steps, facts, rules, taken))
 
 -- The text of every accepted file has room.
-pub text-fits : (s : List ℕ) → Bytes s → _≡_ {A = Option Refusal} (firstNo s) none → (order : List ℕ) → length (runText (programOf s) (run (programOf s) everyRule order)) ≤ textRoom
+pub text-fits : (s : List ℕ) → Bytes s → _≡_ {A = Option Refusal} (fileNo s) none → (order : List ℕ) → length (runText (programOf s) (run (programOf s) everyRule order)) ≤ textRoom
 text-fits s b a order =
     let t = accepted-file s a in
     text-length (programOf s) (bounded t) (facts-below t b) (rules-few t) order

@@ -1,7 +1,8 @@
 pub mod Decimal
-pub mod Stepping
-pub mod Showing
-pub mod Ascending
+pub mod StepLines
+pub mod TextShown
+pub mod AscendingOrder
 pub mod Lengths
-pub mod Ended
+pub mod RunLines
+pub mod RefusalText
 pub mod Examples

@@ -1,11 +1,11 @@
--- The text by the bytes that a run leaves.
+-- Internal: the text by the bytes that a run leaves.
 use Prim.Native.Nat.{ℕ, _≤_}
 use mathlib.Core.List.{List, _++_}
 use lib.ListN.{length}
 use Rattle.theory.specs.Rule.{null}
 use Rattle.reader.specs.Questions.{maxRules}
-use Rattle.rules.specs.Rows.{rowOf}
-use Rattle.rules.specs.Orders.{each, marked}
+use Rattle.rules.specs.Questions.{rowOf, each}
+use Rattle.rules.specs.Orders.{placesMarked}
 use Rattle.panel_text.specs.Text.{headLine, stepLine, line, lastLine}
 
 -- The lines by the counts, the marks and the row of steps.
@@ -13,9 +13,9 @@ unfoldable pub leftText : ℕ → ℕ → ℕ → List ℕ → List ℕ → List
 leftText facts rules stages fact-marks rule-marks row =
     headLine facts rules stages
     ++ (each stepLine (rowOf row)
-    ++ (each (line 0x58) (marked 2 fact-marks facts)
-    ++ (each (line 0x41) (marked 2 rule-marks rules)
-    ++ lastLine (null (marked 2 rule-marks rules)))))
+    ++ (each (line 0x58) (placesMarked 2 fact-marks facts)
+    ++ (each (line 0x41) (placesMarked 2 rule-marks rules)
+    ++ lastLine (null (placesMarked 2 rule-marks rules)))))
 
 -- The marks have a place for each fact and each rule, and there are no more of these than numbers.
 pub record Tables (facts rules : ℕ) (fact-marks rule-marks : List ℕ) : Type 0 where

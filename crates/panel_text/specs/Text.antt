@@ -5,14 +5,11 @@ use mathlib.Core.List.{List, [], _∷_, _++_}
 use mathlib.Core.Option.{none, some}
 use lib.ListN.{length}
 use lib.Dec.{ltb, leb, eqb}
-use Rattle.theory.specs.Lists.{keep, upTo}
-use Rattle.theory.specs.Rule.{Program, everyRule, null, count, exception}
-use Rattle.theory.specs.Derive.{Step}
+use Rattle.theory.specs.Rule.{keep, upTo, Program, everyRule, null, count, exception, Step}
 use Rattle.theory.specs.Run.{Stand, run, factMark, setAside, stageCount}
-use Rattle.reader.specs.Refusal as refusal
-use Rattle.reader.specs.Program.{programOf}
-use Rattle.reader.specs.Questions.{firstNo}
-use Rattle.rules.specs.Orders.{each}
+use Rattle.reader.specs.Question as refusal
+use Rattle.reader.specs.Questions.{programOf, fileNo}
+use Rattle.rules.specs.Questions.{each}
 use Rattle.run.specs.Outcome.{over}
 
 -- A digit, and a number in decimal digits. No number n has more than n + 1 digits, so k from n up is enough.
@@ -80,7 +77,7 @@ ascending P = keep (exception P) (upTo (count P))
 -- The text for a file: run in ascending order, or only the line E and the number of the refusal.
 unfoldable pub panelText : List ℕ → List ℕ
 panelText file =
-    elim (firstNo file) [
+    elim (fileNo file) [
       | none ↦ runText (programOf file) (run (programOf file) everyRule (ascending (programOf file)))
       | some r ↦ line 0x45 (refusal.number r)
     ]

@@ -4,9 +4,9 @@ ghost use Prim.Native.Nat.{_≤_};
 ghost use lib.ListN.{length};
 ghost use Rattle.panel_text.specs.Text.{panelText, shown, textRoom};
 
-pub mod lines;
-pub mod order;
-pub mod put;
+mod lines;
+mod order;
+mod put;
 pub mod text;
 
 use text::TEXT_ROOM;

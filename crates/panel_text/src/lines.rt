@@ -2,9 +2,9 @@
 ghost use Prim.Native.Nat.{_≤_};
 ghost use lib.ListN.{length};
 ghost use Rattle.reader.specs.Questions.{maxRules};
-ghost use Rattle.rules.specs.Orders.{each, marked};
+ghost use Rattle.rules.specs.Questions.{each, rowOf};
+ghost use Rattle.rules.specs.Orders.{placesMarked};
 ghost use Rattle.panel_text.specs.Text.{line, stepLine};
-ghost use Rattle.rules.specs.Rows.{rowOf};
 ghost use Rattle.panel_text.specs.Left.{leftText, Tables};
 ghost use Rattle.rules.specs.Put.{Fits, Put};
 use crate::put::put_head;
@@ -42,6 +42,9 @@ fn put_steps(out: &mut [u8], from: usize, row: &[u8]) -> usize
                 }
                 cursor = next;
             }
+            Read::Ended(_) => {
+                return at;
+            }
         }
     }
 }
@@ -56,8 +59,8 @@ fn put_marked(
     mark: u8,
 ) -> usize
     requires { ⌜ (count ≤ length (now marks)) × (count ≤ maxRules) ⌝ }
-    requires { ⌜ Fits (each (line letter) (marked mark (now marks) count)) from (now out) ⌝ }
-    ensures { λ r. ⌜ Put (each (line letter) (marked mark (now (marks .entry)) count)) from (now (out .entry)) r (now (out .exit)) ⌝ }
+    requires { ⌜ Fits (each (line letter) (placesMarked mark (now marks) count)) from (now out) ⌝ }
+    ensures { λ r. ⌜ Put (each (line letter) (placesMarked mark (now (marks .entry)) count)) from (now (out .entry)) r (now (out .exit)) ⌝ }
 {
     let mut at = from;
     let mut i: usize = 0;

@@ -2,7 +2,7 @@
 // behind what it wrote.
 ghost use mathlib.Core.List.{[], _∷_};
 ghost use Rattle.panel_text.specs.Text.{decimal, spaced, field, line, headLine, stepLine, lastLine};
-ghost use Rattle.rules.specs.Rows.{stepOf};
+ghost use Rattle.rules.specs.Questions.{stepOf};
 ghost use Rattle.rules.specs.Put.{Fits, Put};
 use reader::item::FactId;
 use reader::item::RuleId;

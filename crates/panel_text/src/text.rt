@@ -1,17 +1,15 @@
 // The text for a file, into a buffer that is large enough. Internal.
 ghost use Prim.Native.Nat.{_≤_};
 ghost use mathlib.Core.Path.{_≡_};
-ghost use mathlib.Core.Option.{none};
 ghost use lib.ListN.{length};
 ghost use Rattle.theory.specs.Rule.{everyRule};
 ghost use Rattle.theory.specs.Run.{run as runOf};
-ghost use Rattle.reader.specs.Program.{programOf};
-ghost use Rattle.reader.specs.Questions.{firstNo};
-ghost use Rattle.run.specs.Checked.{countsOf};
+ghost use Rattle.reader.specs.Questions.{programOf};
+ghost use Rattle.reader.specs.Accepted.{Accepted};
 ghost use Rattle.panel_text.specs.Text.{ascending, runText, panelText, shown, textRoom};
 ghost use Rattle.rules.specs.Put.{Put};
-use reader::questions::Seen;
-use reader::questions::Verdict;
+use reader::answer::Asked;
+use reader::answer::FileCounts;
 use reader::rules::MAX_FACTS;
 use reader::write::NAME_WIDTH;
 use reader::write::STEP_WIDTH;
@@ -23,13 +21,13 @@ pub const TEXT_ROOM: usize = 8192;
 
 // The lines of the run of an accepted file, in ascending order. The order gets yes to its questions and the buffers are large enough, so the
 // run refuses nothing.
-fn put_run(file: &[u8], seen: Seen, out: &mut [u8]) -> usize
-    requires { ⌜ (firstNo (now file) ≡ none) × (seen ≡ countsOf (programOf (now file))) ⌝ }
+fn put_run(file: &[u8], counts: FileCounts, out: &mut [u8]) -> usize
+    requires { ⌜ Accepted (now file) counts ⌝ }
     requires { ⌜ textRoom ≤ length (now out) ⌝ }
     ensures { λ r. ⌜ Put (runText (programOf (now (file .entry))) (runOf (programOf (now (file .entry))) everyRule (ascending (programOf (now (file .entry)))))) 0 (now (out .entry)) r (now (out .exit)) ⌝ }
 {
     let mut order = [0u8; MAX_RULES * NAME_WIDTH];
-    let named = crate::order::put_order(file, seen.rules as usize, &mut order);
+    let named = crate::order::put_order(file, counts, &mut order);
     let mut fact_marks = [0u8; MAX_FACTS];
     let mut rule_marks = [0u8; MAX_RULES];
     let mut steps = [0u8; MAX_FACTS * STEP_WIDTH];
@@ -48,8 +46,8 @@ fn put_run(file: &[u8], seen: Seen, out: &mut [u8]) -> usize
             let used = (taken as usize) * STEP_WIDTH;
             crate::lines::put_left(
                 out,
-                seen.facts,
-                seen.rules,
+                counts.facts,
+                counts.rules,
                 stages,
                 &fact_marks,
                 &rule_marks,
@@ -65,9 +63,9 @@ pub fn put_text(file: &[u8], out: &mut [u8]) -> usize
     ensures { λ r. ⌜ Put (panelText (now (file .entry))) 0 (now (out .entry)) r (now (out .exit)) ⌝ }
     ensures { λ r. ⌜ r ≤ textRoom ⌝ }
 {
-    match reader::questions::judge_file(file) {
-        Verdict::Failed(r) => crate::put::put_line(out, 0, b'E', r.number() as u16),
-        Verdict::Passed(seen) => put_run(file, seen, out),
+    match reader::questions::ask_file(file) {
+        Asked::No(r) => crate::put::put_line(out, 0, b'E', r.number() as u16),
+        Asked::Yes(counts) => put_run(file, counts, out),
     }
 }
 

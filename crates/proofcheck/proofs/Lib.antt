@@ -1,5 +1,7 @@
-pub mod Ending
-pub mod Holding
-pub mod Clearing
-pub mod Viewing
-pub mod Answering
+pub mod ReadByView
+pub mod RowEnds
+pub mod StepsHold
+pub mod RowClear
+pub mod RowTested
+pub mod CheckAsked
+pub mod Meaning

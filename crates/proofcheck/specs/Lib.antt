@@ -1,3 +1,4 @@
-pub mod Verdict
+-- What is promised.
+pub mod Checked
+-- What only code and proofs use.
 pub mod Steps
-pub mod Accepted

@@ -1,14 +1,12 @@
--- What a walk along a row of steps relies on, and what it leaves.
+-- Internal: what a walk along a row of steps relies on, and what it leaves.
 use Prim.Native.Nat.{ℕ}
 use mathlib.Core.Path.{_≡_}
 use mathlib.Core.Bool.{Bool, true, false, _||_}
 use mathlib.Core.List.{List, map}
 use lib.Dec.{ltb}
-use Rattle.theory.specs.Lists.{all}
-use Rattle.theory.specs.Rule.{Program, count}
-use Rattle.theory.specs.Derive.{Step}
-use Rattle.theory.specs.Proof.{factsOf}
-use Rattle.rules.specs.Sets.{has}
+use Rattle.theory.specs.Rule.{all, Program, count, Step}
+use Rattle.theory.specs.Stable.{factsOf}
+use Rattle.rules.specs.Questions.{has}
 
 -- each step's rule is one of the program
 abbrev pub rulesKnown : Program → List Step → Bool

@@ -3,11 +3,10 @@ ghost use mathlib.Core.Path.{_≡_};
 ghost use mathlib.Core.Bool.{true, _&&_};
 ghost use Rattle.theory.specs.Rule.{count};
 ghost use Rattle.theory.specs.Check.{rowClear};
-ghost use Rattle.reader.specs.Program.{programOf};
-ghost use Rattle.rules.specs.Sets.{has};
+ghost use Rattle.reader.specs.Questions.{programOf};
+ghost use Rattle.rules.specs.Questions.{has, rowOf};
 ghost use Rattle.closure.specs.Known.{Known};
 ghost use Rattle.proofcheck.specs.Steps.{rulesKnown};
-ghost use Rattle.rules.specs.Rows.{rowOf};
 use crate::own::constraints_clear;
 use closure::place::start_of;
 use reader::cursor::Cursor;
@@ -48,6 +47,9 @@ pub fn row_clear(
                     }
                 }
                 cursor = next;
+            }
+            Read::Ended(_) => {
+                return true;
             }
         }
     }

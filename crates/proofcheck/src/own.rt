@@ -1,7 +1,7 @@
 // What a rule says of a set, read item after item through the rule's view. Internal.
 ghost use mathlib.Core.Path.{_≡_};
-ghost use Rattle.theory.specs.Lists.{all, clear};
-ghost use Rattle.rules.specs.Sets.{has};
+ghost use Rattle.theory.specs.Rule.{all, clear};
+ghost use Rattle.rules.specs.Questions.{has};
 ghost use Rattle.rules.specs.RuleAt.{ruleAt};
 use rules::fact_set::in_set;
 use view::items::Own;

@@ -4,11 +4,10 @@ ghost use lib.ListN.{length};
 ghost use Rattle.theory.specs.Rule.{everyRule};
 ghost use Rattle.theory.specs.Check.{stepHolds, stepsHold, endsWith};
 ghost use Rattle.reader.specs.Item.{maxFacts};
-ghost use Rattle.reader.specs.Program.{programOf};
-ghost use Rattle.rules.specs.Sets.{has};
+ghost use Rattle.reader.specs.Questions.{programOf};
+ghost use Rattle.rules.specs.Questions.{has, rowOf};
 ghost use Rattle.closure.specs.Known.{Known};
 ghost use Rattle.proofcheck.specs.Steps.{Marked};
-ghost use Rattle.rules.specs.Rows.{rowOf};
 use closure::place::start_of;
 use reader::cursor::Cursor;
 use reader::cursor::Read;
@@ -38,6 +37,9 @@ pub fn ends_with(proof: &[u8], fact: FactId) -> bool
                     ends = f.0 == fact.0;
                 }
                 cursor = next;
+            }
+            Read::Ended(_) => {
+                return ends;
             }
         }
     }
@@ -98,6 +100,9 @@ pub fn steps_hold(
                     facts[number] = 1;
                 }
                 cursor = next;
+            }
+            Read::Ended(_) => {
+                return true;
             }
         }
     }

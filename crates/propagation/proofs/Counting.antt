@@ -7,7 +7,7 @@ use mathlib.Core.List.{List, [], _∷_, map}
 use mathlib.Core.Logic.{⊎-elim}
 use borrow.Author.Tests.{eqb-true}
 use lib.Dec.{eqb}
-use Rattle.theory.specs.Lists.{mem, howMany, upTo}
+use Rattle.theory.specs.Rule.{mem, howMany, upTo}
 use Rattle.theory.proofs.Bools.{never}
 use Rattle.theory.proofs.Lists.{mem-here, mem-there, mem-cases, upTo-mem, length-range, howMany-le, howMany-less, howMany-every}
 

@@ -7,9 +7,7 @@ use mathlib.Core.List.{map}
 use mathlib.Core.Logic.{⊎-elim}
 use borrow.Author.Tests.{not-false, ltb-true}
 use lib.Dec.{ltb}
-use Rattle.theory.specs.Lists.{all, clear, mem, howMany}
-use Rattle.theory.specs.Rule.{Program, FactSet, Bounded, Sub, everyRule, count, rule}
-use Rattle.theory.specs.Derive.{Closed}
+use Rattle.theory.specs.Rule.{all, clear, mem, howMany, Program, FactSet, Bounded, Sub, everyRule, count, rule, Closed}
 use Rattle.theory.specs.Stable.{reduct}
 use Rattle.theory.proofs.Bools.{or-right, or-cases}
 use Rattle.theory.proofs.Lists.{all-elem, all-of, clear-elem, clear-of, clear-anti, mem-left, mem-append}

@@ -10,12 +10,11 @@ use borrow.Author.Tests.{eqb-true, eqb-false, eq-eqb, lt-ltb, ltb-true}
 use lib.ListN.{length, getD, take, drop, replicate, length-replicate, drop-of-length-le}
 use lib.Seq.{drop-cons, getD-take, length-take-le}
 use lib.Dec.{eqb, ltb}
-use Rattle.theory.specs.Lists.{all, mem, howMany}
-use Rattle.theory.specs.Rule.{Program, everyRule, count, rule}
+use Rattle.theory.specs.Rule.{all, mem, howMany, Program, everyRule, count, rule}
 use Rattle.theory.proofs.Bools.{either, never, or-none, or-cases, both-ways}
 use Rattle.theory.proofs.Lists.{all-elem, getD-mem, howMany-ext, howMany-every}
 use Rattle.reader.specs.Item.{maxFacts}
-use Rattle.rules.specs.Sets.{has}
+use Rattle.rules.specs.Questions.{has}
 use Rattle.literals.specs.Literal.{outside, literals, body}
 use Rattle.literals.specs.Rows.{Sized}
 use Rattle.propagation.specs.State.{told, Spreading, Between, Waited, Concluded, Settled, HeldToo}

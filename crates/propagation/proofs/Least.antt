@@ -2,13 +2,13 @@
 use Prim.Native.Nat.{ℕ, _<_}
 use mathlib.Core.Path.{_≡_, refl, _∙_}
 use mathlib.Core.List.{List}
-use Rattle.theory.specs.Rule.{Program, everyRule}
-use Rattle.theory.specs.Derive.{Closed}
-use Rattle.theory.specs.Stable.{reduct, leastOf}
+use Rattle.theory.specs.Rule.{Program, everyRule, Closed}
+use Rattle.theory.specs.Check.{leastOf}
+use Rattle.theory.specs.Stable.{reduct}
 use Rattle.theory.proofs.Bools.{never, both-ways}
 use Rattle.theory.proofs.Stable.{leastOf-least, reduct-clear}
 use Rattle.reader.specs.Item.{maxFacts}
-use Rattle.rules.specs.Sets.{has}
+use Rattle.rules.specs.Questions.{has}
 use Rattle.propagation.specs.State.{notHeldOut, Settled}
 use Rattle.propagation.proofs.Grounds.{none-missing}
 

@@ -8,18 +8,16 @@ use mathlib.Core.Logic.{⊎-elim}
 use borrow.Author.Tests.{eqb-true, ne-eqb, ltb-true, ltb-false}
 use lib.ListN.{length, getD, set, length-set, List·getD-eq-default}
 use lib.Dec.{eqb, ltb}
-use Rattle.theory.specs.Lists.{all, howMany}
-use Rattle.theory.specs.Rule.{Program, Mask, Sub, everyRule, adjoin, count, rule}
+use Rattle.theory.specs.Rule.{all, howMany, Program, Mask, Sub, everyRule, adjoin, count, rule}
 use Rattle.theory.proofs.Bools.{either, never, and-left, and-right, or-right, or-cases, not-of-false}
 use Rattle.theory.proofs.Lists.{eqb-self, eqb-sym}
 use Rattle.reader.specs.declared.item.FactId.{FactId}
 use Rattle.reader.specs.Item.{maxFacts, factId}
-use Rattle.reader.specs.Program.{programOf}
-use Rattle.reader.specs.Questions.{maxRules}
+use Rattle.reader.specs.Questions.{programOf, maxRules}
 use Rattle.reader.proofs.EachKind.{Bytes}
-use Rattle.rules.specs.Sets.{has}
+use Rattle.rules.specs.Questions.{has}
 use Rattle.rules.specs.RuleAt.{ruleAt}
-use Rattle.rules.proofs.Sets.{marked}
+use Rattle.rules.proofs.Sets.{has-set}
 use Rattle.closure.specs.Known.{Known}
 use Rattle.closure.proofs.Ready.{facts-bounded, facts-few, read-conclusion, conclusion-few}
 use Rattle.literals.specs.Literal.{outside, literals, slots, body}
@@ -232,7 +230,7 @@ module _ {P : Program} {marks missing stack : List ℕ} {rest : ℕ} (w : Betwee
     as-told = same-told (w .on-stack) e
 
     true-now : has (set marks last 1) ≡ adjoin (has marks) last
-    true-now = marked marks last (omega (arith, w .on-stack .literal-places, last-literal))
+    true-now = has-set marks last (omega (arith, w .on-stack .literal-places, last-literal))
 
     -- a literal that is true is missing no more
     fewer : (xs : List ℕ) → howMany (λ l. not (has marks l)) xs ≡ howMany (λ l. not (has (set marks last 1) l)) xs + howMany (eqb last) xs

@@ -10,11 +10,10 @@ use borrow.Author.Tests.{eqb-true, eqb-false, ne-eqb, lt-ltb, ltb-true}
 use lib.ListN.{length, getD, set, take, length-set}
 use lib.Seq.{getD-set-same, getD-set-other, take-suc, take-suc-set}
 use lib.Dec.{eqb, ltb}
-use Rattle.theory.specs.Lists.{all, mem, howMany, upTo}
-use Rattle.theory.specs.Rule.{adjoin}
+use Rattle.theory.specs.Rule.{all, mem, howMany, upTo, adjoin}
 use Rattle.theory.proofs.Bools.{either, never, and-left, and-right, and-both, or-left, or-right, or-cases, or-none}
 use Rattle.theory.proofs.Lists.{eqb-self, mem-left, mem-append, all-append, upTo-mem, howMany-less}
-use Rattle.rules.specs.Sets.{has}
+use Rattle.rules.specs.Questions.{has}
 use Rattle.literals.specs.Literal.{literals}
 use Rattle.propagation.specs.State.{waiting, told, toldCount, Stacked, Waited}
 use Rattle.propagation.proofs.Counting.{counted-below, counted-most}

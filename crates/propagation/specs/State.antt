@@ -1,4 +1,4 @@
--- What the rules derive from facts held out, kept up to date as more are held out.
+-- Internal: what the rules derive from facts held out, kept up to date as more are held out.
 --
 -- The marks have a byte for each literal: 1 where it is taken as true and every rule that asks it knows, 2 where it waits to be, 0 where it is
 -- not known to be true. For each rule it is kept how many literals of its body are missing, each as often as it stands there.
@@ -9,21 +9,18 @@ use mathlib.Core.List.{List, []}
 use mathlib.Core.Option.{none}
 use lib.ListN.{length, getD, take}
 use lib.Dec.{eqb, ltb}
-use Rattle.theory.specs.Lists.{all, mem, howMany, upTo}
-use Rattle.theory.specs.Rule.{Program, Mask, FactSet, Bounded, everyRule, adjoin, count, rule}
-use Rattle.theory.specs.Derive.{Closed}
+use Rattle.theory.specs.Rule.{all, mem, howMany, upTo, Program, Mask, FactSet, Bounded, everyRule, adjoin, count, rule, Closed}
 use Rattle.theory.specs.Stable.{reduct}
 use Rattle.reader.specs.Item.{maxFacts}
-use Rattle.reader.specs.Program.{programOf}
-use Rattle.reader.specs.Questions.{firstNo, maxRules}
-use Rattle.rules.specs.Sets.{has}
+use Rattle.reader.specs.Questions.{programOf, fileNo, maxRules}
+use Rattle.rules.specs.Questions.{has}
 use Rattle.rules.specs.RuleAt.{Indexed}
 use Rattle.literals.specs.Literal.{outside, literals, body}
 use Rattle.literals.specs.Rows.{Chain, Linked}
 
 -- What is known beforehand: the file is accepted, and the tables are those of its rules.
 pub record Ready (file starts heads links owners : List ℕ) : Type 0 where
-  pub accepted : firstNo file ≡ none
+  pub accepted : fileNo file ≡ none
   pub indexed : Indexed file (programOf file) starts
   pub linked : Linked (programOf file) heads links owners
 

@@ -2,9 +2,9 @@
 ghost use Prim.Native.Nat.{ℕ, _<_};
 ghost use mathlib.Core.Path.{_≡_};
 ghost use Rattle.theory.specs.Rule.{count};
-ghost use Rattle.reader.specs.Program.{programOf};
+ghost use Rattle.reader.specs.Questions.{programOf};
 ghost use Rattle.closure.specs.Known.{Known};
-ghost use Rattle.rules.specs.Sets.{has};
+ghost use Rattle.rules.specs.Questions.{has};
 ghost use Rattle.literals.specs.Literal.{literals, outside};
 ghost use Rattle.propagation.specs.State.{Ready, Stacked, Between, Telling, Waited, Concluded, Onward, Settled, told};
 use closure::place::start_of;

@@ -4,7 +4,7 @@ ghost use mathlib.Core.Path.{_≡_};
 ghost use mathlib.Core.List.{List, []};
 ghost use lib.ListN.{replicate};
 ghost use Rattle.theory.specs.Rule.{count};
-ghost use Rattle.reader.specs.Program.{programOf};
+ghost use Rattle.reader.specs.Questions.{programOf};
 ghost use Rattle.literals.specs.Literal.{literals};
 ghost use Rattle.literals.specs.Rows.{Sized};
 ghost use Rattle.propagation.specs.State.{Ready, Settled, HeldToo};

@@ -5,8 +5,8 @@ use Rattle.theory.specs.Rule.{exception, constraintFact}
 use Rattle.reader.specs.declared.answer.Accept.the-variants.{Accepted}
 use Rattle.reader.specs.Item.{bodyLength, itemOf}
 use Rattle.reader.specs.Cursor.{front, itemsAt}
-use Rattle.reader.specs.Questions.{firstNo, parse}
-use Rattle.reader.specs.Accept.{exceptions, constraintFacts, acceptOf, number}
+use Rattle.reader.specs.Questions.{fileQuestions, exceptions, constraintFacts}
+use Rattle.reader.specs.Accept.{acceptOf, number}
 
 pub record Files : Type 0 where
   pub nothing : number (acceptOf []) ≡ 2
@@ -24,7 +24,7 @@ pub record Files : Type 0 where
   pub two-exceptions : acceptOf (0x10 ∷ 0x03 ∷ 0x01 ∷ 0x00 ∷ 0x03 ∷ 0x01 ∷ 0x01 ∷ 0x01 ∷ 0x03 ∷ 0x02 ∷ 0x1F ∷ 0x00 ∷ 0x02 ∷ []) ≡ Accepted 3 2 2 2
 
 pub files : Files
-unfolding acceptOf exceptions constraintFacts exception constraintFact parse firstNo itemsAt front bodyLength itemOf
+unfolding acceptOf exceptions constraintFacts exception constraintFact fileQuestions itemsAt front bodyLength itemOf
 files =
     record {
       nothing = refl;

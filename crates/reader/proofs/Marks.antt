@@ -9,11 +9,10 @@ use native.Mathlib.Numerals.{add-one}
 use borrow.Author.Tests.{lt-ltb, eq-eqb, ne-eqb}
 use lib.ListN.{length, getD, set, replicate, getD-replicate, length-replicate}
 use lib.Dec.{eqb}
-use Rattle.theory.specs.Lists.{mem, any, howMany, range, upTo}
-use Rattle.theory.specs.Rule.{Rule, Program, count, rule, blank, null, exception, constraintFact, everyRule}
+use Rattle.theory.specs.Rule.{mem, any, howMany, range, upTo, Rule, Program, count, rule, blank, null, exception, constraintFact, everyRule}
 use Rattle.theory.proofs.Lists.{howMany-ext, howMany-le, length-range, mem-upTo}
 use Rattle.reader.specs.Rules.{paintFrom, paint}
-use Rattle.reader.specs.Accept.{exceptions, constraintFacts}
+use Rattle.reader.specs.Questions.{exceptions, constraintFacts}
 
 -- Painting by two tests is painting by one after the other.
 paint-or : (i : ℕ) (a b : ℕ → Bool) (xs : List ℕ) → paintFrom i (λ k. a k || b k) xs ≡ paintFrom i b (paintFrom i a xs)

@@ -1,26 +1,22 @@
 -- What `accept` answers.
 use Prim.Native.Nat.{ℕ}
+use mathlib.Core.Path.{_≡_}
 use mathlib.Core.List.{List}
-use Rattle.theory.specs.Lists.{howMany, upTo}
-use Rattle.theory.specs.Rule.{Program, count, exception, constraintFact, everyRule}
+use mathlib.Core.Option.{Option, none, some}
+use Rattle.theory.specs.Rule.{count}
+use Rattle.reader.specs.declared.refusal.Refusal.{Refusal}
 use Rattle.reader.specs.declared.answer.Accept.{Accept}
 use Rattle.reader.specs.declared.answer.Accept.the-variants.{Accepted, Refused}
-use Rattle.reader.specs.Refusal as refusal
-use Rattle.reader.specs.Questions.{parse, accepted, refused}
+use Rattle.reader.specs.Question as refusal
+use Rattle.reader.specs.Question.{noNumber}
+use Rattle.reader.specs.Questions.{exceptions, constraintFacts, programOf, fileNo}
 
--- How many exception rules a program has.
-unfoldable pub exceptions : Program → ℕ
-exceptions P = howMany (exception P) (upTo (count P))
-
--- How many constraint facts.
-unfoldable pub constraintFacts : Program → ℕ
-constraintFacts P = howMany (constraintFact P everyRule) (upTo (P .facts))
-
+-- What `accept` answers for a file.
 unfoldable pub acceptOf : List ℕ → Accept
 acceptOf s =
-    elim (parse s) [
-      | accepted P ↦ Accepted (P .facts) (count P) (exceptions P) (constraintFacts P)
-      | refused r ↦ Refused r
+    elim (fileNo s) [
+      | none ↦ Accepted (programOf s .facts) (count (programOf s)) (exceptions (programOf s)) (constraintFacts (programOf s))
+      | some r ↦ Refused r
     ]
 
 -- The answer's number, 0 where the file is accepted, and its counts, all 0 on a refusal.
@@ -43,3 +39,11 @@ exceptionRules (Refused r) = 0
 abbrev pub constraints : Accept → ℕ
 constraints (Accepted f r e k) = k
 constraints (Refused r) = 0
+
+-- The answer in numbers: the number of the file's first no, and the counts of an accepted file.
+pub record AcceptNumbers (file : List ℕ) (r : Accept) : Type 0 where
+  pub numbered : number r ≡ noNumber (fileNo file)
+  pub facts-counted : _≡_ {A = Option Refusal} (fileNo file) none → facts r ≡ programOf file .facts
+  pub rules-counted : _≡_ {A = Option Refusal} (fileNo file) none → rules r ≡ count (programOf file)
+  pub exceptions-counted : _≡_ {A = Option Refusal} (fileNo file) none → exceptionRules r ≡ exceptions (programOf file)
+  pub constraints-counted : _≡_ {A = Option Refusal} (fileNo file) none → constraints r ≡ constraintFacts (programOf file)

@@ -1,11 +1,15 @@
 -- One item read at a cursor, and all the items of a row from a cursor on.
-use Prim.Native.Nat.{ℕ, zero, suc, _+_}
-use mathlib.Core.Bool.{Bool, cond, _||_}
+use Prim.Native.Nat.{ℕ, zero, suc, _+_, _<_}
+use mathlib.Core.Path.{_≡_}
+use mathlib.Core.Bool.{Bool, true, false, cond, not, _||_}
 use mathlib.Core.List.{List, [], _∷_}
+use mathlib.Core.Option.{Option, none, some}
 use lib.ListN.{length, getD, take, drop}
 use lib.Dec.{eqb, leb}
 use Rattle.reader.specs.declared.refusal.Refusal.{Refusal}
 use Rattle.reader.specs.declared.refusal.Refusal.the-variants.{NoFactCount, FileCutOff, UnknownKind, BodyCutOff, NotRuleItems, NotStepItems}
+use Rattle.reader.specs.Question as refusal
+use Rattle.reader.specs.Question.{Question, ask, firstNo, noNumber}
 use Rattle.reader.specs.declared.item.Item.{Item}
 use Rattle.reader.specs.declared.cursor.Row.{Row}
 use Rattle.reader.specs.declared.cursor.Row.the-variants.{Opening, Body, Order, Steps}
@@ -13,18 +17,8 @@ use Rattle.reader.specs.declared.cursor.Fault.{Fault}
 use Rattle.reader.specs.declared.cursor.Fault.the-variants.{NoByte, OtherKind, ShortBody}
 use Rattle.reader.specs.declared.cursor.Cursor.{Cursor}
 use Rattle.reader.specs.declared.cursor.Read.{Read}
-use Rattle.reader.specs.declared.cursor.Read.the-variants.{Found, Refused}
+use Rattle.reader.specs.declared.cursor.Read.the-variants.{Found, Refused, Ended}
 use Rattle.reader.specs.Item.{factsKind, opensKind, premiseKind, constraintKind, rulesKind, namesKind, stepKind, bodyLength, widthOf, itemOf}
-
--- The refusal where a row has no next byte, a kind that is not of the row, or a body that is not whole: in the body of a file 3, 4 and 5,
--- in its opening 2, in an order or list 11, in a proof row 23.
-abbrev pub refusalOf : Row → Fault → Refusal
-refusalOf Opening fault = NoFactCount
-refusalOf Body NoByte = FileCutOff
-refusalOf Body OtherKind = UnknownKind
-refusalOf Body ShortBody = BodyCutOff
-refusalOf Order fault = NotRuleItems
-refusalOf Steps fault = NotStepItems
 
 -- The kinds of each row.
 abbrev pub ofRow : Row → ℕ → Bool
@@ -40,36 +34,86 @@ rowAfter Body = Body
 rowAfter Order = Order
 rowAfter Steps = Steps
 
--- A whole item, or why there is none.
+-- A whole item, or what is wrong where none stands.
 pub data Token : Type 0 where
   item : Item → Token
-  bad : Refusal → Token
+  bad : Fault → Token
 
 -- What stands at the front of the bytes that are left of a row: is there a byte, is its kind of the row, is the body whole?
 unfoldable pub front : Row → List ℕ → Token
-front row [] = bad (refusalOf row NoByte)
+front row [] = bad NoByte
 front row (k ∷ bs) =
     cond (ofRow row k)
-    (cond (leb (bodyLength k) (length bs)) (item (itemOf k (take (bodyLength k) bs))) (bad (refusalOf row ShortBody)))
-    (bad (refusalOf row OtherKind))
+    (cond (leb (bodyLength k) (length bs)) (item (itemOf k (take (bodyLength k) bs))) (bad ShortBody))
+    (bad OtherKind)
+
+-- The three answers. There is no kind without a byte, and no whole body without a kind of the row.
+abbrev pub hasByte : Token → Bool
+hasByte (item i) = true
+hasByte (bad NoByte) = false
+hasByte (bad OtherKind) = true
+hasByte (bad ShortBody) = true
+
+abbrev pub hasKind : Token → Bool
+hasKind (item i) = true
+hasKind (bad NoByte) = false
+hasKind (bad OtherKind) = false
+hasKind (bad ShortBody) = true
+
+abbrev pub hasBody : Token → Bool
+hasBody (item i) = true
+hasBody (bad fault) = false
+
+-- The questions on one place of a row: in the opening of a file 2, in its body 3, 4 and 5, in an order or list 11, in a proof row 23. Past the
+-- last whole item of an order, a list or a proof row nothing is wrong: it ends there.
+abbrev pub placeQuestions : Row → Token → List Question
+placeQuestions Opening t = ask NoFactCount (hasBody t) ∷ []
+placeQuestions Body t = ask FileCutOff (hasByte t) ∷ ask UnknownKind (hasKind t) ∷ ask BodyCutOff (hasBody t) ∷ []
+placeQuestions Order t = ask NotRuleItems (not (hasByte t) || hasBody t) ∷ []
+placeQuestions Steps t = ask NotStepItems (not (hasByte t) || hasBody t) ∷ []
 
 -- The cursor past the item that stands at it.
 abbrev pub past : List ℕ → Cursor → Cursor
 past s c = record { at = c .at + widthOf (getD s (c .at) 0); row = rowAfter (c .row) }
 
--- An item is handed out with the cursor past it, a refusal with the cursor as it was.
+-- Where no item is read the cursor stays: the row ends there, or the first no is the refusal.
+abbrev pub stayed : Option Refusal → Cursor → Read
+stayed none here = Ended here
+stayed (some r) here = Refused r here
+
+-- An item is handed out with the cursor past it.
 abbrev pub readOf : Token → Cursor → Cursor → Read
 readOf (item i) next here = Found i next
-readOf (bad r) next here = Refused r here
+readOf (bad fault) next here = stayed (firstNo (placeQuestions (here .row) (bad fault))) here
 
 -- What a read finds.
 unfoldable pub nextAt : List ℕ → Cursor → Read
 nextAt s c = readOf (front (c .row) (drop (c .at) s)) (past s c) c
 
--- Nothing is read after a refusal.
+-- The number of a read, 0 unless it is refused, and the cursor that it hands out.
+abbrev pub number : Read → ℕ
+number (Found i next) = 0
+number (Ended here) = 0
+number (Refused r here) = refusal.number r
+
+abbrev pub cursorOf : Read → Cursor
+cursorOf (Found i next) = next
+cursorOf (Ended here) = here
+cursorOf (Refused r here) = here
+
+-- The first no on the place where a cursor stands.
+abbrev pub placeNo : List ℕ → Cursor → Option Refusal
+placeNo s c = firstNo (placeQuestions (c .row) (front (c .row) (drop (c .at) s)))
+
+-- A read in numbers: the number of the first no on its place; and a refusal hands out the cursor as it was.
+pub record ReadNumbers (s : List ℕ) (c : Cursor) (r : Read) : Type 0 where
+  pub numbered : number r ≡ noNumber (placeNo s c)
+  pub kept : 0 < number r → cursorOf r ≡ c
+
+-- Nothing is read where no item stands.
 abbrev pub followed : Token → List Token → List Token
 followed (item i) rest = item i ∷ rest
-followed (bad r) rest = bad r ∷ []
+followed (bad fault) rest = bad fault ∷ []
 
 -- The items of a row; the first n bytes still belong to the item before.
 abbrev pub itemsIn : Row → ℕ → List ℕ → List Token
@@ -82,8 +126,8 @@ unfoldable pub itemsAt : List ℕ → Cursor → List Token
 itemsAt s c = itemsIn (c .row) 0 (drop (c .at) s)
 
 -- Where a file begins.
-abbrev pub start : Cursor
-start = record { at = 0; row = Opening }
+abbrev pub fileStart : Cursor
+fileStart = record { at = 0; row = Opening }
 
 -- Where an order, a list or a proof row begins.
 abbrev pub orderStart : Cursor

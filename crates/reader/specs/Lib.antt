@@ -1,9 +1,11 @@
-pub mod Refusal
+-- What is promised.
+pub mod Question
 pub mod Item
 pub mod Cursor
-pub mod Program
 pub mod Questions
-pub mod Rules
 pub mod Accept
-pub mod Verdict
 pub mod Write
+-- What only code and proofs use.
+pub mod Asked
+pub mod Accepted
+pub mod Rules

@@ -1,29 +1,94 @@
--- The questions on a file, 1 to 10, in the order of document 01 ("Questions before a result").
+-- The program that a file's items mean, and the questions on a file, 1 to 10, in the order of document 01 ("Questions before a result").
 use Prim.Native.Nat.{ℕ, _+_}
-use mathlib.Core.Bool.{Bool, true, false, cond}
-use mathlib.Core.List.{List, [], _∷_}
-use mathlib.Core.Option.{Option, none, some}
-use lib.ListN.{length}
-use lib.Dec.{eqb, ltb, leb}
-use Rattle.theory.specs.Rule.{Program}
-use Rattle.reader.specs.declared.refusal.Refusal.{Refusal}
-use Rattle.reader.specs.declared.refusal.Refusal.the-variants.{FileTooLong, NoFactCount, FileCutOff, UnknownKind, FactTooHigh, NoRuleOpened, TooManyRules, WrongRuleCount, BytesAfterEnd}
+use mathlib.Core.List.{List, [], _∷_, _++_}
+use Rattle.theory.specs.Rule.{Rule, Program, howMany, upTo, count, exception, constraintFact, everyRule}
 use Rattle.reader.specs.declared.item.FactId.{FactId}
 use Rattle.reader.specs.declared.item.Item.the-variants.{Facts, Opens, Premise, Constraint, Rules, Names, Step}
-use Rattle.reader.specs.declared.questions.Seen.{Seen}
-use Rattle.reader.specs.Cursor.{Token, item, bad, itemsAt, start}
-use Rattle.reader.specs.Program.{programOf}
+use Rattle.reader.specs.Cursor.{Token, item, bad, itemsAt, fileStart, placeQuestions}
+use mathlib.Core.Bool.{Bool, true, false}
+use mathlib.Core.Option.{Option}
+use lib.ListN.{length}
+use lib.Dec.{eqb, ltb, leb}
+use Rattle.reader.specs.declared.refusal.Refusal.{Refusal}
+use Rattle.reader.specs.declared.refusal.Refusal.the-variants.{FileTooLong, FactTooHigh, NoRuleOpened, TooManyRules, WrongRuleCount, BytesAfterEnd}
+use Rattle.reader.specs.declared.cursor.Row.the-variants.{Opening, Body}
+use Rattle.reader.specs.declared.cursor.Fault.the-variants.{NoByte, OtherKind}
+use Rattle.reader.specs.declared.questions.Scan.{Scan}
+use Rattle.reader.specs.Question.{Question, ask, firstNo}
 
--- The most bytes of a file, and the most rules.
+-- The premises of the rule just opened: those of the 02 items that stand before an item of another kind than 02 and 03.
+abbrev pub premisesOf : List Token → List ℕ
+premisesOf [] = []
+premisesOf (bad fault ∷ ts) = []
+premisesOf (item (Premise f) ∷ ts) = f .0 ∷ premisesOf ts
+premisesOf (item (Constraint f) ∷ ts) = premisesOf ts
+premisesOf (item (Facts n) ∷ ts) = []
+premisesOf (item (Opens f) ∷ ts) = []
+premisesOf (item (Rules n) ∷ ts) = []
+premisesOf (item (Names r) ∷ ts) = []
+premisesOf (item (Step f r) ∷ ts) = []
+
+-- Its constraints: the same of the 03 items.
+abbrev pub constraintsOf : List Token → List ℕ
+constraintsOf [] = []
+constraintsOf (bad fault ∷ ts) = []
+constraintsOf (item (Premise f) ∷ ts) = constraintsOf ts
+constraintsOf (item (Constraint f) ∷ ts) = f .0 ∷ constraintsOf ts
+constraintsOf (item (Facts n) ∷ ts) = []
+constraintsOf (item (Opens f) ∷ ts) = []
+constraintsOf (item (Rules n) ∷ ts) = []
+constraintsOf (item (Names r) ∷ ts) = []
+constraintsOf (item (Step f r) ∷ ts) = []
+
+-- The rule that an item opens, with the items after that one.
+abbrev pub ruleOf : FactId → List Token → Rule
+ruleOf f ts = record { conclusion = f .0; premises = premisesOf ts; constraints = constraintsOf ts }
+
+-- A rule for each item that opens one.
+abbrev pub rulesOf : List Token → List Rule
+rulesOf [] = []
+rulesOf (bad fault ∷ ts) = []
+rulesOf (item (Opens f) ∷ ts) = ruleOf f ts ∷ rulesOf ts
+rulesOf (item (Facts n) ∷ ts) = rulesOf ts
+rulesOf (item (Premise f) ∷ ts) = rulesOf ts
+rulesOf (item (Constraint f) ∷ ts) = rulesOf ts
+rulesOf (item (Rules n) ∷ ts) = rulesOf ts
+rulesOf (item (Names r) ∷ ts) = rulesOf ts
+rulesOf (item (Step f r) ∷ ts) = rulesOf ts
+
+-- The count of facts that the first item gives.
+abbrev pub factCount : List Token → ℕ
+factCount [] = 0
+factCount (bad fault ∷ ts) = 0
+factCount (item (Facts n) ∷ ts) = n
+factCount (item (Opens f) ∷ ts) = 0
+factCount (item (Premise f) ∷ ts) = 0
+factCount (item (Constraint f) ∷ ts) = 0
+factCount (item (Rules n) ∷ ts) = 0
+factCount (item (Names r) ∷ ts) = 0
+factCount (item (Step f r) ∷ ts) = 0
+
+-- The program of an accepted file.
+abbrev pub programOf : List ℕ → Program
+programOf s = record { facts = factCount (itemsAt s fileStart); rules = rulesOf (itemsAt s fileStart) }
+
+-- How many exception rules a program has.
+unfoldable pub exceptions : Program → ℕ
+exceptions P = howMany (exception P) (upTo (count P))
+
+-- How many constraint facts.
+unfoldable pub constraintFacts : Program → ℕ
+constraintFacts P = howMany (constraintFact P everyRule) (upTo (P .facts))
+
+-- The most bytes of a file (question 1), the most rules (question 8), and the most constraint facts that the search takes (question 40).
 abbrev pub maxBytes : ℕ
 maxBytes = 32767
 
 abbrev pub maxRules : ℕ
 maxRules = 512
 
--- One question: a no stops with its refusal, a yes goes on. `none` is a yes to all.
-abbrev pub asked : Refusal → Bool → Option Refusal → Option Refusal
-asked r answer rest = cond answer rest (some r)
+abbrev pub maxGuessed : ℕ
+maxGuessed = 16
 
 -- No item is left: the file ends there.
 abbrev pub ended : List Token → Bool
@@ -31,50 +96,60 @@ ended [] = true
 ended (t ∷ ts) = false
 
 -- What the questions need of the items before: the count of facts, and how many rules were opened.
-abbrev pub fresh : ℕ → Seen
+abbrev pub fresh : ℕ → Scan
 fresh n = record { facts = n; rules = 0 }
 
-abbrev pub opened : Seen → Seen
-opened seen = record { facts = seen .facts; rules = seen .rules + 1 }
+abbrev pub opened : Scan → Scan
+opened scan = record { facts = scan .facts; rules = scan .rules + 1 }
 
--- A premise or a constraint: fact below the count? Has a rule been opened?
-abbrev pub askedOwn : Seen → FactId → Option Refusal → Option Refusal
-askedOwn seen f rest = asked FactTooHigh (ltb (f .0) (seen .facts)) (asked NoRuleOpened (ltb 0 (seen .rules)) rest)
+-- Fact below the count? Has a rule been opened? Fewer rules than the most before it? Does it give the number of rules? Does the file end there?
+abbrev pub factQuestion : Scan → FactId → Question
+factQuestion scan f = ask FactTooHigh (ltb (f .0) (scan .facts))
 
--- Questions 3 to 10, of the items after the first. The cursor has asked 4 and 5. The items of other kinds are not of this row.
-abbrev pub judge : Seen → List Token → Option Refusal
-judge seen [] = some FileCutOff
-judge seen (bad r ∷ ts) = some r
-judge seen (item (Opens f) ∷ ts) =
-    asked FactTooHigh (ltb (f .0) (seen .facts)) (asked TooManyRules (ltb (seen .rules) maxRules) (judge (opened seen) ts))
-judge seen (item (Premise f) ∷ ts) = askedOwn seen f (judge seen ts)
-judge seen (item (Constraint f) ∷ ts) = askedOwn seen f (judge seen ts)
-judge seen (item (Rules n) ∷ ts) =
-    asked WrongRuleCount (eqb n (seen .rules)) (asked BytesAfterEnd (ended ts) none)
-judge seen (item (Facts n) ∷ ts) = some UnknownKind
-judge seen (item (Names r) ∷ ts) = some UnknownKind
-judge seen (item (Step f r) ∷ ts) = some UnknownKind
+abbrev pub ownerQuestion : Scan → Question
+ownerQuestion scan = ask NoRuleOpened (ltb 0 (scan .rules))
 
--- Question 2: does it begin with a whole 10 item? Then the others.
-abbrev pub opening : List Token → Option Refusal
-opening [] = some NoFactCount
-opening (bad r ∷ ts) = some r
-opening (item (Facts n) ∷ ts) = judge (fresh n) ts
-opening (item (Opens f) ∷ ts) = some NoFactCount
-opening (item (Premise f) ∷ ts) = some NoFactCount
-opening (item (Constraint f) ∷ ts) = some NoFactCount
-opening (item (Rules n) ∷ ts) = some NoFactCount
-opening (item (Names r) ∷ ts) = some NoFactCount
-opening (item (Step f r) ∷ ts) = some NoFactCount
+abbrev pub roomQuestion : Scan → Question
+roomQuestion scan = ask TooManyRules (ltb (scan .rules) maxRules)
 
--- The first no that a file gets, of the questions 1 to 10. An accepted file (document 01) gets none.
-unfoldable pub firstNo : List ℕ → Option Refusal
-firstNo s = asked FileTooLong (leb (length s) maxBytes) (opening (itemsAt s start))
+abbrev pub countQuestion : Scan → ℕ → Question
+countQuestion scan n = ask WrongRuleCount (eqb n (scan .rules))
 
-pub data Parsed : Type 0 where
-  accepted : Program → Parsed
-  refused : Refusal → Parsed
+abbrev pub endQuestion : List Token → Question
+endQuestion ts = ask BytesAfterEnd (ended ts)
 
--- The program of an accepted file, or the refusal.
-unfoldable pub parse : List ℕ → Parsed
-parse s = elim (firstNo s) [ none ↦ accepted (programOf s) | some r ↦ refused r ]
+-- Questions 3 to 10 of each item after the first, in a file of which so much has been seen. An item of another row's kind gets no to 4.
+abbrev pub bodyQuestions : Scan → List Token → List Question
+bodyQuestions scan [] = placeQuestions Body (bad NoByte)
+bodyQuestions scan (bad fault ∷ ts) = placeQuestions Body (bad fault)
+bodyQuestions scan (item (Opens f) ∷ ts) =
+    placeQuestions Body (item (Opens f)) ++ (factQuestion scan f ∷ roomQuestion scan ∷ bodyQuestions (opened scan) ts)
+bodyQuestions scan (item (Premise f) ∷ ts) =
+    placeQuestions Body (item (Premise f)) ++ (factQuestion scan f ∷ ownerQuestion scan ∷ bodyQuestions scan ts)
+bodyQuestions scan (item (Constraint f) ∷ ts) =
+    placeQuestions Body (item (Constraint f)) ++ (factQuestion scan f ∷ ownerQuestion scan ∷ bodyQuestions scan ts)
+bodyQuestions scan (item (Rules n) ∷ ts) =
+    placeQuestions Body (item (Rules n)) ++ (countQuestion scan n ∷ endQuestion ts ∷ [])
+bodyQuestions scan (item (Facts n) ∷ ts) = placeQuestions Body (bad OtherKind)
+bodyQuestions scan (item (Names r) ∷ ts) = placeQuestions Body (bad OtherKind)
+bodyQuestions scan (item (Step f r) ∷ ts) = placeQuestions Body (bad OtherKind)
+
+-- Question 2, and the others where it gets yes.
+abbrev pub openingQuestions : List Token → List Question
+openingQuestions [] = placeQuestions Opening (bad NoByte)
+openingQuestions (bad fault ∷ ts) = placeQuestions Opening (bad fault)
+openingQuestions (item (Facts n) ∷ ts) = placeQuestions Opening (item (Facts n)) ++ bodyQuestions (fresh n) ts
+openingQuestions (item (Opens f) ∷ ts) = placeQuestions Opening (bad OtherKind)
+openingQuestions (item (Premise f) ∷ ts) = placeQuestions Opening (bad OtherKind)
+openingQuestions (item (Constraint f) ∷ ts) = placeQuestions Opening (bad OtherKind)
+openingQuestions (item (Rules n) ∷ ts) = placeQuestions Opening (bad OtherKind)
+openingQuestions (item (Names r) ∷ ts) = placeQuestions Opening (bad OtherKind)
+openingQuestions (item (Step f r) ∷ ts) = placeQuestions Opening (bad OtherKind)
+
+-- The questions on a file, 1 to 10. A file is accepted (document 01) where each gets yes.
+unfoldable pub fileQuestions : List ℕ → List Question
+fileQuestions s = ask FileTooLong (leb (length s) maxBytes) ∷ openingQuestions (itemsAt s fileStart)
+
+-- The first no that a file gets.
+abbrev pub fileNo : List ℕ → Option Refusal
+fileNo s = firstNo (fileQuestions s)

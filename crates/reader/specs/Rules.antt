@@ -1,4 +1,4 @@
--- What the walks over a file's rules find.
+-- Internal: what the walks over a file's rules find.
 use Prim.Native.Nat.{ℕ, suc, _<_, _≤_}
 use mathlib.Core.Path.{_≡_}
 use mathlib.Core.Bool.{Bool, cond}
@@ -10,7 +10,7 @@ use Rattle.reader.specs.declared.cursor.Row.the-variants.{Body}
 use Rattle.reader.specs.declared.rules.NextRule.{NextRule}
 use Rattle.reader.specs.declared.rules.NextRule.the-variants.{Opened, Ended}
 use Rattle.reader.specs.Cursor.{itemsAt}
-use Rattle.reader.specs.Program.{ruleOf, rulesOf}
+use Rattle.reader.specs.Questions.{ruleOf, rulesOf}
 
 -- From c on, the next rule has the conclusion f, and its other items follow d.
 pub record RuleAfter (s : List ℕ) (c : Cursor) (f : FactId) (d : Cursor) : Type 0 where

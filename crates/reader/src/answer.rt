@@ -10,3 +10,15 @@ pub enum Accept {
     },
     Refused(Refusal),
 }
+
+// The counts of facts and rules of an accepted file.
+pub struct FileCounts {
+    pub facts: u16,
+    pub rules: u16,
+}
+
+// All questions got yes, with the counts of the file; or the first no.
+pub enum Asked {
+    Yes(FileCounts),
+    No(Refusal),
+}

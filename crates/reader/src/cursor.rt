@@ -1,5 +1,6 @@
 ghost use mathlib.Core.Path.{_≡_};
-ghost use Rattle.reader.specs.Cursor.{refusalOf, ofRow, rowAfter, nextAt};
+ghost use Rattle.reader.specs.Question.{firstNo};
+ghost use Rattle.reader.specs.Cursor.{bad, placeQuestions, stayed, ofRow, rowAfter, nextAt, ReadNumbers};
 use crate::item::CONSTRAINT_KIND;
 use crate::item::FACTS_KIND;
 use crate::item::Item;
@@ -34,25 +35,35 @@ pub struct Cursor {
     pub row: Row,
 }
 
-// A read gives the item and the cursor past it, or the refusal and the cursor as it was.
+// A read gives the item and the cursor past it, or the cursor as it was, with the refusal or past the last item of an order, a list or a
+// proof row.
 pub enum Read {
     Found(Item, Cursor),
     Refused(Refusal, Cursor),
+    Ended(Cursor),
 }
 
-// The refusal for a fault in a row.
-fn refusal_of(row: Row, fault: Fault) -> Refusal
-    ensures { λ r. ⌜ r ≡ refusalOf row fault ⌝ }
+// The read where no item stands.
+fn stay(row: Row, fault: Fault, here: Cursor) -> Read
+    ensures { λ r. ⌜ r ≡ stayed (firstNo (placeQuestions row (bad fault))) here ⌝ }
 {
     match row {
-        Row::Opening => Refusal::NoFactCount,
+        Row::Opening => Read::Refused(Refusal::NoFactCount, here),
         Row::Body => match fault {
-            Fault::NoByte => Refusal::FileCutOff,
-            Fault::OtherKind => Refusal::UnknownKind,
-            Fault::ShortBody => Refusal::BodyCutOff,
+            Fault::NoByte => Read::Refused(Refusal::FileCutOff, here),
+            Fault::OtherKind => Read::Refused(Refusal::UnknownKind, here),
+            Fault::ShortBody => Read::Refused(Refusal::BodyCutOff, here),
         },
-        Row::Order => Refusal::NotRuleItems,
-        Row::Steps => Refusal::NotStepItems,
+        Row::Order => match fault {
+            Fault::NoByte => Read::Ended(here),
+            Fault::OtherKind => Read::Refused(Refusal::NotRuleItems, here),
+            Fault::ShortBody => Read::Refused(Refusal::NotRuleItems, here),
+        },
+        Row::Steps => match fault {
+            Fault::NoByte => Read::Ended(here),
+            Fault::OtherKind => Read::Refused(Refusal::NotStepItems, here),
+            Fault::ShortBody => Read::Refused(Refusal::NotStepItems, here),
+        },
     }
 }
 
@@ -95,20 +106,21 @@ impl Cursor {
     // Moves past one whole item, or says why there is none.
     pub fn next(self, bytes: &[u8]) -> Read
         ensures { λ r. ⌜ r ≡ nextAt (now (bytes .entry)) self ⌝ }
+        ensures { λ r. ⌜ ReadNumbers (now (bytes .entry)) self r ⌝ }
     {
         let at = self.at;
         let row = self.row;
         if bytes.len() <= at {
-            return Read::Refused(refusal_of(row, Fault::NoByte), self);
+            return stay(row, Fault::NoByte, self);
         }
         let kind = bytes[at];
         if !of_row(row, kind) {
-            return Read::Refused(refusal_of(row, Fault::OtherKind), self);
+            return stay(row, Fault::OtherKind, self);
         }
         let length = crate::item::body_length(kind);
         let body = at + 1;
         if bytes.len() - body < length {
-            return Read::Refused(refusal_of(row, Fault::ShortBody), self);
+            return stay(row, Fault::ShortBody, self);
         }
         let item = crate::item::item_of(kind, bytes, body);
         Read::Found(

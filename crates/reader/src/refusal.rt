@@ -1,5 +1,5 @@
 ghost use mathlib.Core.Path.{_≡_};
-ghost use Rattle.reader.specs.Refusal.{number};
+ghost use Rattle.reader.specs.Question.{number};
 
 // Why an operation refuses: one case for each question of document 01 that can get a no.
 pub enum Refusal {

@@ -4,13 +4,11 @@ ghost use mathlib.Core.Bool.{not};
 ghost use Prim.Native.Nat.{_≤_};
 ghost use lib.ListN.{getD};
 ghost use lib.Dec.{eqb};
-ghost use Rattle.theory.specs.Lists.{howMany, mem, upTo};
-ghost use Rattle.theory.specs.Rule.{null, constraintFact, everyRule};
+ghost use Rattle.theory.specs.Rule.{howMany, mem, upTo, null, constraintFact, everyRule};
 ghost use Rattle.reader.specs.Item.{maxFacts};
 ghost use Rattle.reader.specs.Cursor.{itemsAt};
-ghost use Rattle.reader.specs.Program.{constraintsOf, programOf};
+ghost use Rattle.reader.specs.Questions.{constraintsOf, programOf, exceptions};
 ghost use Rattle.reader.specs.Rules.{Next, paint};
-ghost use Rattle.reader.specs.Accept.{exceptions};
 use crate::cursor::Cursor;
 use crate::cursor::Read;
 use crate::cursor::Row;
@@ -42,6 +40,9 @@ pub fn next_rule(file: &[u8], from: Cursor) -> NextRule
                 }
                 cursor = next;
             }
+            Read::Ended(_) => {
+                return NextRule::Ended;
+            }
         }
     }
 }
@@ -67,6 +68,9 @@ pub fn has_constraint(file: &[u8], from: Cursor) -> bool
                     return false;
                 }
             },
+            Read::Ended(_) => {
+                return false;
+            }
         }
     }
 }
@@ -118,6 +122,9 @@ pub fn mark_own_constraints(file: &[u8], from: Cursor, marks: &mut [u8; MAX_FACT
                     return;
                 }
             },
+            Read::Ended(_) => {
+                return;
+            }
         }
     }
 }

@@ -5,14 +5,14 @@ use mathlib.Core.List.{List}
 use Rattle.run.specs.declared.answer.Ran.{Ran}
 use Rattle.run.specs.Outcome as ran
 use Rattle.search.specs.declared.answer.Searched.{Searched}
-use Rattle.search.specs.Searched as searched
-use Rattle.retention.specs.declared.reply.Counts.{Counts}
+use Rattle.search.specs.Outcome as searched
+use Rattle.retention.specs.declared.reply.RunCounts.{RunCounts}
 use Rattle.retention.specs.Reply.{countsOfRan, countsOfSearched, RunReply, runReply, SearchReply, searchReply}
 
-pub run-replied : (a : Ran) (r : Counts) (facts rules steps : List ℕ) (o : ran.Outcome) → r ≡ countsOfRan a → _≡_ {A = ran.Outcome} (record { answer = a; fact-marks = facts; rule-marks = rules; steps = steps }) o → _≡_ {A = RunReply} (record { reply = r; fact-marks = facts; rule-marks = rules; steps = steps }) (runReply o)
+pub run-replied : (a : Ran) (r : RunCounts) (facts rules steps : List ℕ) (o : ran.RunOutcome) → r ≡ countsOfRan a → _≡_ {A = ran.RunOutcome} (record { answer = a; fact-marks = facts; rule-marks = rules; steps = steps }) o → _≡_ {A = RunReply} (record { reply = r; fact-marks = facts; rule-marks = rules; steps = steps }) (runReply o)
 unfolding runReply
 run-replied a r facts rules steps o said left = rw (said, ← left, runReply)
 
-pub search-replied : (a : Searched) (r : Counts) (facts rules steps order : List ℕ) (o : searched.Outcome) → r ≡ countsOfSearched a → _≡_ {A = searched.Outcome} (record { answer = a; fact-marks = facts; rule-marks = rules; steps = steps; order = order }) o → _≡_ {A = SearchReply} (record { reply = r; fact-marks = facts; rule-marks = rules; steps = steps; order = order }) (searchReply o)
+pub search-replied : (a : Searched) (r : RunCounts) (facts rules steps order : List ℕ) (o : searched.SearchOutcome) → r ≡ countsOfSearched a → _≡_ {A = searched.SearchOutcome} (record { answer = a; fact-marks = facts; rule-marks = rules; steps = steps; order = order }) o → _≡_ {A = SearchReply} (record { reply = r; fact-marks = facts; rule-marks = rules; steps = steps; order = order }) (searchReply o)
 unfolding searchReply
 search-replied a r facts rules steps order o said left = rw (said, ← left, searchReply)

@@ -10,17 +10,17 @@ use Rattle.run.specs.Outcome as ran
 use Rattle.judge.specs.declared.answer.Judged.{Judged}
 use Rattle.judge.specs.Judged as judged
 use Rattle.proofcheck.specs.declared.answer.Checked.{Checked}
-use Rattle.proofcheck.specs.Verdict as checked
+use Rattle.proofcheck.specs.Checked as checked
 use Rattle.search.specs.declared.answer.Searched.{Searched}
-use Rattle.search.specs.Searched as searched
+use Rattle.search.specs.Outcome as searched
 use Rattle.retention.specs.declared.reply.FileCounts.{FileCounts}
-use Rattle.retention.specs.declared.reply.Counts.{Counts}
+use Rattle.retention.specs.declared.reply.RunCounts.{RunCounts}
 use Rattle.retention.specs.declared.reply.Verdict.{Verdict}
 
 -- The bytes of one step.
-abbrev pub stepBytes : Accept → ℕ
-stepBytes (Accepted f r e k) = stepWidth
-stepBytes (Refused r) = 0
+abbrev pub bytesOfStep : Accept → ℕ
+bytesOfStep (Accepted f r e k) = stepWidth
+bytesOfStep (Refused r) = 0
 
 unfoldable pub fileOf : Accept → FileCounts
 fileOf a =
@@ -30,13 +30,13 @@ fileOf a =
       rules = accept.rules a;
       exceptions = accept.exceptionRules a;
       constraints = accept.constraints a;
-      «step_bytes» = stepBytes a;
+      «step_bytes» = bytesOfStep a;
     }
 
-unfoldable pub countsOfRan : Ran → Counts
+unfoldable pub countsOfRan : Ran → RunCounts
 countsOfRan a = record { refusal = ran.number a; stages = ran.stages a; steps = ran.steps a }
 
-unfoldable pub countsOfSearched : Searched → Counts
+unfoldable pub countsOfSearched : Searched → RunCounts
 countsOfSearched a = record { refusal = searched.number a; stages = searched.stages a; steps = searched.steps a }
 
 unfoldable pub verdictOfJudged : Judged → Verdict
@@ -47,12 +47,12 @@ verdictOfChecked a = record { refusal = checked.number a; verdict = checked.verd
 
 -- The reply of a run and the three buffers, from the run's outcome.
 pub record RunReply : Type 0 where
-  pub reply : Counts
+  pub reply : RunCounts
   pub fact-marks : List ℕ
   pub rule-marks : List ℕ
   pub steps : List ℕ
 
-unfoldable pub runReply : ran.Outcome → RunReply
+unfoldable pub runReply : ran.RunOutcome → RunReply
 runReply o =
     record {
       reply = countsOfRan (o .answer);
@@ -63,13 +63,13 @@ runReply o =
 
 -- The reply of a search and the four buffers, from the search's outcome.
 pub record SearchReply : Type 0 where
-  pub reply : Counts
+  pub reply : RunCounts
   pub fact-marks : List ℕ
   pub rule-marks : List ℕ
   pub steps : List ℕ
   pub order : List ℕ
 
-unfoldable pub searchReply : searched.Outcome → SearchReply
+unfoldable pub searchReply : searched.SearchOutcome → SearchReply
 searchReply o =
     record {
       reply = countsOfSearched (o .answer);

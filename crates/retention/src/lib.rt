@@ -3,17 +3,17 @@
 ghost use mathlib.Core.Path.{_≡_};
 ghost use lib.ListN.{length};
 ghost use Rattle.reader.specs.Accept.{acceptOf};
-ghost use Rattle.run.specs.Outcome.{outcome};
+ghost use Rattle.run.specs.Outcome.{runOutcome};
 ghost use Rattle.judge.specs.Judged.{judged};
-ghost use Rattle.proofcheck.specs.Verdict.{checked};
-ghost use Rattle.search.specs.Searched.{searched};
+ghost use Rattle.proofcheck.specs.Checked.{checked};
+ghost use Rattle.search.specs.Outcome.{searchOutcome};
 ghost use Rattle.panel_text.specs.Text.{panelText, shown};
 ghost use Rattle.retention.specs.Reply.{fileOf, verdictOfJudged, verdictOfChecked, RunReply, runReply, SearchReply, searchReply};
 
 pub mod reply;
 
-use reply::Counts;
 use reply::FileCounts;
+use reply::RunCounts;
 use reply::Verdict;
 
 // Is the file accepted, and what does it count?
@@ -32,8 +32,8 @@ pub extern "C" fn retention_run(
     fact_marks: &mut [u8],
     rule_marks: &mut [u8],
     steps: &mut [u8],
-) -> Counts
-    ensures { λ r. ⌜ _≡_ {A = RunReply} (record { reply = r; fact-marks = now («fact_marks» .exit); rule-marks = now («rule_marks» .exit); steps = now (steps .exit) }) (runReply (outcome (now (file .entry)) (now (order .entry)) (now («fact_marks» .entry)) (now («rule_marks» .entry)) (now (steps .entry)))) ⌝ }
+) -> RunCounts
+    ensures { λ r. ⌜ _≡_ {A = RunReply} (record { reply = r; fact-marks = now («fact_marks» .exit); rule-marks = now («rule_marks» .exit); steps = now (steps .exit) }) (runReply (runOutcome (now (file .entry)) (now (order .entry)) (now («fact_marks» .entry)) (now («rule_marks» .entry)) (now (steps .entry)))) ⌝ }
 {
     reply::of_ran(run::run(file, order, fact_marks, rule_marks, steps))
 }
@@ -62,8 +62,8 @@ pub extern "C" fn retention_search(
     rule_marks: &mut [u8],
     steps: &mut [u8],
     order: &mut [u8],
-) -> Counts
-    ensures { λ r. ⌜ _≡_ {A = SearchReply} (record { reply = r; fact-marks = now («fact_marks» .exit); rule-marks = now («rule_marks» .exit); steps = now (steps .exit); order = now (order .exit) }) (searchReply (searched (now (file .entry)) (now («fact_marks» .entry)) (now («rule_marks» .entry)) (now (steps .entry)) (now (order .entry)))) ⌝ }
+) -> RunCounts
+    ensures { λ r. ⌜ _≡_ {A = SearchReply} (record { reply = r; fact-marks = now («fact_marks» .exit); rule-marks = now («rule_marks» .exit); steps = now (steps .exit); order = now (order .exit) }) (searchReply (searchOutcome (now (file .entry)) (now («fact_marks» .entry)) (now («rule_marks» .entry)) (now (steps .entry)) (now (order .entry)))) ⌝ }
 {
     reply::of_searched(search::search(file, fact_marks, rule_marks, steps, order))
 }

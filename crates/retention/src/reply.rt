@@ -21,7 +21,7 @@ pub struct FileCounts {
 
 // A run.
 #[repr(C)]
-pub struct Counts {
+pub struct RunCounts {
     pub refusal: u32,
     pub stages: u32,
     pub steps: u32,
@@ -62,16 +62,16 @@ pub fn of_accept(a: Accept) -> FileCounts
     }
 }
 
-pub fn of_ran(a: Ran) -> Counts
+pub fn of_ran(a: Ran) -> RunCounts
     ensures { λ r. ⌜ r ≡ countsOfRan a ⌝ }
 {
     match a {
-        Ran::Done { stages, steps } => Counts {
+        Ran::Done { stages, steps } => RunCounts {
             refusal: 0,
             stages: stages as u32,
             steps: steps as u32,
         },
-        Ran::Refused(r) => Counts {
+        Ran::Refused(r) => RunCounts {
             refusal: r.number() as u32,
             stages: 0,
             steps: 0,
@@ -79,16 +79,16 @@ pub fn of_ran(a: Ran) -> Counts
     }
 }
 
-pub fn of_searched(a: Searched) -> Counts
+pub fn of_searched(a: Searched) -> RunCounts
     ensures { λ r. ⌜ r ≡ countsOfSearched a ⌝ }
 {
     match a {
-        Searched::Found { stages, steps } => Counts {
+        Searched::Found { stages, steps } => RunCounts {
             refusal: 0,
             stages: stages as u32,
             steps: steps as u32,
         },
-        Searched::Refused(r) => Counts {
+        Searched::Refused(r) => RunCounts {
             refusal: r.number() as u32,
             stages: 0,
             steps: 0,

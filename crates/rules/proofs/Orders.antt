@@ -9,19 +9,19 @@ use mathlib.Core.Option.{Option, none}
 use borrow.Author.Tests.{eqb-true}
 use lib.ListN.{length}
 use lib.Dec.{eqb}
-use Rattle.theory.specs.Lists.{all, mem, keep, range, upTo, howMany}
-use Rattle.theory.specs.Rule.{nothing, adjoin}
+use Rattle.theory.specs.Rule.{all, mem, keep, range, upTo, howMany, nothing, adjoin}
 use Rattle.theory.proofs.Bools.{never, and-left, and-right, false-of, or-cases}
 use Rattle.theory.proofs.Lists.{all-of, mem-keep, mem-range, mem-upTo, mem-there, mem-here, eqb-self, howMany-less}
 use Rattle.theory.proofs.Run.{NoRepeat}
 use Rattle.reader.specs.declared.refusal.Refusal.{Refusal}
 use Rattle.reader.specs.Item.{nameWidth}
+use Rattle.reader.specs.Question.{firstNo}
 use Rattle.reader.specs.Cursor.{itemsAt, orderStart}
+use Rattle.reader.proofs.FirstNo.{first-yes}
 use Rattle.reader.specs.Write.{ruleItem}
-use Rattle.reader.proofs.Written.{rule-item-first}
-use Rattle.rules.specs.Questions.{whole, namesOf, namedIn, askNames, listNo, orderNo}
-use Rattle.rules.specs.Orders.{naming}
-use Rattle.rules.proofs.Naming.{first-named}
+use Rattle.reader.proofs.ReadBack.{rule-item-first}
+use Rattle.rules.specs.Questions.{whole, namesOf, namedIn, nameQuestions, namesQuestions, listQuestions, orderQuestions, listNo, orderNo, naming}
+use Rattle.rules.proofs.NamesAsked.{first-named}
 
 pub naming-names : (rs : List ℕ) → namedIn (naming rs) ≡ rs
 unfolding itemsAt
@@ -34,10 +34,10 @@ naming-whole [] = refl
 naming-whole (r ∷ rs) = ap whole (rule-item-first r (naming rs)) ∙ naming-whole rs
 
 -- known rules that were not seen, each once, get yes to 12 and 13
-pub names-yes : (known seen : ℕ → Bool) (rs : List ℕ) → all known rs ≡ true → NoRepeat rs → ((r : ℕ) → mem r rs ≡ true → seen r ≡ false) → _≡_ {A = Option Refusal} (askNames known seen rs) none
+pub names-yes : (known seen : ℕ → Bool) (rs : List ℕ) → all known rs ≡ true → NoRepeat rs → ((r : ℕ) → mem r rs ≡ true → seen r ≡ false) → _≡_ {A = Option Refusal} (firstNo (namesQuestions known seen rs)) none
 names-yes known seen [] k n s = refl
 names-yes known seen (r ∷ rs) k n s =
-    rw (first-named known seen r (and-left (known r) _ k) (s r (mem-here r rs)))
+    rw (first-yes (nameQuestions known seen r) (namesQuestions known (adjoin seen r) rs) (first-named known seen r (and-left (known r) _ k) (s r (mem-here r rs))))
     (names-yes known (adjoin seen r) rs (and-right (known r) _ k) (n .1) later)
   where
     later : (x : ℕ) → mem x rs ≡ true → adjoin seen r x ≡ false
@@ -66,14 +66,14 @@ keep-once p a (suc n) = go (p a) (keep-once p (suc a) n)
     go false r = r
 
 pub list-yes : (known : ℕ → Bool) (rs : List ℕ) → all known rs ≡ true → NoRepeat rs → _≡_ {A = Option Refusal} (listNo known (naming rs)) none
-unfolding listNo
+unfolding listQuestions
 list-yes known rs k n =
     rw (naming-whole rs, naming-names rs) (names-yes known nothing rs k n (λ r m. refl))
 
 -- An order that names every known rule below n gets yes to 14 too.
 pub order-yes : (known : ℕ → Bool) (n : ℕ) (rs : List ℕ) → all known rs ≡ true → NoRepeat rs → ((i : ℕ) → i < n → known i ≡ true → mem i rs ≡ true) → _≡_ {A = Option Refusal} (orderNo known n (naming rs)) none
-unfolding orderNo
-order-yes known n rs k o every = rw (list-yes known rs k o, naming-names rs, names-all)
+unfolding orderQuestions
+order-yes known n rs k o every = rw (first-yes (listQuestions known (naming rs)) _ (list-yes known rs k o), naming-names rs, names-all)
   where
     named : (a b : Bool) → (a ≡ true → b ≡ true) → not a || b ≡ true
     named true b h = h refl

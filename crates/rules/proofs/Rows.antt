@@ -4,21 +4,21 @@ use mathlib.Core.Path.{_≡_, refl, ap, _∙_}
 use mathlib.Core.List.{List, [], _∷_}
 use types.Run.{OneOf, miss}
 use denote.Enum.Declared.{tagOf}
-use Rattle.theory.specs.Derive.{Step as TheStep}
+use Rattle.theory.specs.Rule.{Step as TheStep}
 use Rattle.reader.specs.declared.refusal.Refusal.{Refusal}
 use Rattle.reader.specs.declared.item.FactId.{FactId}
 use Rattle.reader.specs.declared.item.RuleId.{RuleId}
 use Rattle.reader.specs.declared.item.Item.{Item}
 use Rattle.reader.specs.declared.item.Item.the-variants.{Facts, Opens, Premise, Constraint, Rules, Names, Step}
 use Rattle.reader.specs.declared.cursor.Cursor.{Cursor}
-use Rattle.reader.specs.declared.cursor.Read.the-variants.{Found, Refused}
+use Rattle.reader.specs.declared.cursor.Read.the-variants.{Found, Refused, Ended}
 use Rattle.reader.specs.Item.{maxFacts}
 use Rattle.reader.specs.Cursor.{Token, item, nextAt, itemsAt}
 use Rattle.reader.proofs.item.Item.{the-type}
-use Rattle.reader.proofs.Items.{found}
+use Rattle.reader.proofs.Items.{found, row-ended}
 use Rattle.reader.proofs.EachKind.{Bytes, narrowIn, narrow-item}
-use Rattle.rules.proofs.Walks.{headed, none-read}
-use Rattle.rules.specs.Rows.{stepOf, stepsOf}
+use Rattle.rules.proofs.ItemWalks.{headed, none-read}
+use Rattle.rules.specs.Questions.{stepOf, stepsOf}
 
 -- the steps from a cursor on
 abbrev pub stepsFrom : List ℕ → Cursor → List TheStep
@@ -38,7 +38,10 @@ no-step (Step f r) ts k = absurd (miss (0 ∷ 1 ∷ 2 ∷ 3 ∷ 4 ∷ 5 ∷ []) 
 
 module _ (s : List ℕ) (c d : Cursor) where
   pub no-step-left : (r : Refusal) → nextAt s c ≡ Refused r d → stepsFrom s c ≡ []
-  no-step-left r e = none-read s c d stepsOf r e refl
+  no-step-left r e = none-read s c d stepsOf r e (λ fault. refl)
+
+  pub steps-ended : nextAt s c ≡ Ended d → stepsFrom s c ≡ []
+  steps-ended e = ap stepsOf (row-ended s c d e)
 
   module _ (i : Item) (e : nextAt s c ≡ Found i d) where
     pub other-item : NotStep i → stepsFrom s c ≡ stepsFrom s d

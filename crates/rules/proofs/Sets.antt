@@ -14,13 +14,11 @@ use Rattle.theory.specs.Rule.{nothing, adjoin, count, exception}
 use Rattle.theory.proofs.Bools.{either, and-left, and-right, and-both}
 use Rattle.theory.proofs.Lists.{all-elem, getD-mem}
 use Rattle.reader.specs.declared.refusal.Refusal.{Refusal}
-use Rattle.reader.specs.Program.{programOf}
-use Rattle.reader.specs.Questions.{maxRules, firstNo}
+use Rattle.reader.specs.Questions.{programOf, maxRules, fileNo}
 use Rattle.reader.specs.Rules.{paintFrom, paint}
 use Rattle.reader.proofs.Marks.{painted}
 use Rattle.reader.proofs.Accepted.{accepted-file, rules-few}
-use Rattle.rules.specs.Sets.{has}
-use Rattle.rules.specs.Questions.{zeroOrOne}
+use Rattle.rules.specs.Questions.{has, zeroOrOne}
 
 -- A place past the end is not in the set.
 pub past-end : (l : List ℕ) (f : ℕ) → length l ≤ f → has l f ≡ false
@@ -28,9 +26,9 @@ unfolding has
 past-end l f h = rw (List·getD-eq-default l 0 h)
 
 -- A mark more is a number more.
-pub marked : (l : List ℕ) (n : ℕ) → n < length l → has (set l n 1) ≡ adjoin (has l) n
+pub has-set : (l : List ℕ) (n : ℕ) → n < length l → has (set l n 1) ≡ adjoin (has l) n
 unfolding has
-marked l n h = fun-ext (λ i. go i (eqb i n) refl)
+has-set l n h = fun-ext (λ i. go i (eqb i n) refl)
   where
     go : (i : ℕ) (b : Bool) → eqb i n ≡ b → eqb (getD (set l n 1) i 0) 1 ≡ eqb i n || eqb (getD l i 0) 1
     go i true e = let same : i ≡ n = eqb-true i n e in rw (e, same, getD-set-same l n 1 0 h)
@@ -90,7 +88,7 @@ has-paint n p none-past = fun-ext (λ i. ⊎-elim (λ l. painted n p i (ltb-true
         past-end (paint p (replicate n 0)) i (rw (length-paint p (replicate n 0), length-replicate {A = ℕ} n 0) h) ∙ sym (none-past i h)
 
 -- The exception rules of an accepted file, as marked.
-pub has-kinds : (s : List ℕ) → _≡_ {A = Option Refusal} (firstNo s) none → has (paint (exception (programOf s)) (replicate maxRules 0)) ≡ exception (programOf s)
+pub has-kinds : (s : List ℕ) → _≡_ {A = Option Refusal} (fileNo s) none → has (paint (exception (programOf s)) (replicate maxRules 0)) ≡ exception (programOf s)
 unfolding exception
 has-kinds s e =
     has-paint maxRules (exception (programOf s))

@@ -1,8 +1,11 @@
 -- An answer and its number.
 use Prim.Native.Nat.{ℕ}
+use mathlib.Core.Path.{_≡_}
+use mathlib.Core.List.{List}
 use mathlib.Core.Option.{Option, none, some}
 use Rattle.reader.specs.declared.refusal.Refusal.{Refusal}
-use Rattle.reader.specs.Refusal as refusal
+use Rattle.reader.specs.Question as refusal
+use Rattle.reader.specs.Question.{Question, firstNo, noNumber}
 use Rattle.rules.specs.declared.answer.Answer.{Answer}
 use Rattle.rules.specs.declared.answer.Answer.the-variants.{Yes, No}
 
@@ -15,3 +18,7 @@ answerOf (some r) = No r
 abbrev pub number : Answer → ℕ
 number Yes = 0
 number (No r) = refusal.number r
+
+-- An answer in numbers: the number of the first no.
+pub record AnswerNumbers (qs : List Question) (r : Answer) : Type 0 where
+  pub numbered : number r ≡ noNumber (firstNo qs)

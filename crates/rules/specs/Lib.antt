@@ -1,8 +1,8 @@
-pub mod Sets
-pub mod Answer
-pub mod RuleAt
+-- What is promised.
 pub mod Questions
-pub mod Named
+pub mod Answer
+-- What only code and proofs use.
 pub mod Orders
-pub mod Rows
+pub mod RuleAt
+pub mod Named
 pub mod Put

@@ -1,4 +1,4 @@
--- Bytes written one after another into a buffer.
+-- Internal: bytes written one after another into a buffer.
 use Prim.Native.Nat.{ℕ, _+_, _≤_}
 use mathlib.Core.Path.{_≡_}
 use mathlib.Core.List.{List}

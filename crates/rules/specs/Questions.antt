@@ -1,28 +1,45 @@
--- The questions on orders and lists of rules (11 to 14), fact sets (21, 22) and proof rows (24, 23), in the order of document 01.
-use Prim.Native.Nat.{ℕ}
-use mathlib.Core.Bool.{Bool, true, false, not, _||_}
-use mathlib.Core.List.{List, [], _∷_}
+-- What the bytes lent beside a file mean, and the questions of every operation that asks those of a file, in the order of document 01
+-- ("Questions before a result").
+use Prim.Native.Nat.{ℕ, _*_}
+use mathlib.Core.Bool.{Bool, true, false, not, _||_, _&&_}
+use mathlib.Core.List.{List, [], _∷_, _++_}
 use mathlib.Core.Option.{Option, none, some}
-use lib.ListN.{length}
+use lib.ListN.{length, getD}
 use lib.Dec.{eqb, ltb, leb}
-use Rattle.theory.specs.Lists.{all, mem, upTo}
-use Rattle.theory.specs.Rule.{Program, nothing, adjoin, count, exception}
+use Rattle.theory.specs.Rule.{all, mem, upTo, nothing, adjoin, count, exception, Program, FactSet, everyRule, Step as Taken}
 use Rattle.reader.specs.declared.refusal.Refusal.{Refusal}
-use Rattle.reader.specs.declared.refusal.Refusal.the-variants.{NotRuleItems, NotAnException, NamedTwice, NotAllNamed, WrongSetLength, NotZeroOrOne, NotStepItems, AskedFactTooHigh}
+use Rattle.reader.specs.declared.refusal.Refusal.the-variants.{NotRuleItems, NotAnException, NamedTwice, NotAllNamed, WrongSetLength, NotZeroOrOne, NotStepItems, AskedFactTooHigh, FactMarksShort, RuleMarksShort, StepsShort, OrderShort, TooManyConstraints, NoStableSet}
 use Rattle.reader.specs.declared.item.Item.the-variants.{Facts, Opens, Premise, Constraint, Rules, Names, Step}
 use Rattle.reader.specs.Cursor.{Token, item, bad, itemsAt, orderStart, stepsStart}
-use Rattle.reader.specs.Questions.{asked, parse, accepted, refused}
+use Rattle.reader.specs.Question.{Question, ask, firstNo}
+use Rattle.reader.specs.Questions.{programOf, fileQuestions, maxGuessed, fileNo, exceptions, constraintFacts}
+use Rattle.reader.specs.declared.item.FactId.{FactId}
+use Rattle.reader.specs.declared.item.RuleId.{RuleId}
+use Rattle.reader.specs.Item.{stepWidth, nameWidth}
+use mathlib.Core.Path.{_≡_}
+use mathlib.Core.Logic.{_↔_}
+use Rattle.theory.specs.Stable.{Stable}
+use Rattle.theory.specs.Search.{search}
+use Rattle.reader.specs.Write.{ruleItem}
+
+-- A fact set, and any row of marks, is the set of the places that hold 1.
+unfoldable pub has : List ℕ → ℕ → Bool
+has bytes f = eqb (getD bytes f 0) 1
+
+-- the numbers below n that have the mark
+unfoldable pub marked : ℕ → ℕ → List ℕ → ℕ → Bool
+marked n mark bytes i = ltb i n && eqb (getD bytes i 0) mark
 
 -- whole items throughout
 abbrev pub whole : List Token → Bool
 whole [] = true
 whole (item i ∷ ts) = whole ts
-whole (bad r ∷ ts) = false
+whole (bad fault ∷ ts) = false
 
 -- the rules that the items name, in their order
 abbrev pub namesOf : List Token → List ℕ
 namesOf [] = []
-namesOf (bad r ∷ ts) = []
+namesOf (bad fault ∷ ts) = []
 namesOf (item (Names r) ∷ ts) = r .0 ∷ namesOf ts
 namesOf (item (Facts n) ∷ ts) = namesOf ts
 namesOf (item (Opens f) ∷ ts) = namesOf ts
@@ -35,53 +52,192 @@ namesOf (item (Step f r) ∷ ts) = namesOf ts
 abbrev pub namedIn : List ℕ → List ℕ
 namedIn bytes = namesOf (itemsAt bytes orderStart)
 
--- Of one item: an exception rule of the file? Not named before? `known` tells the exception rules, `seen` those named before.
-abbrev pub askName : (ℕ → Bool) → (ℕ → Bool) → ℕ → Option Refusal
-askName known seen r = asked NotAnException (known r) (asked NamedTwice (not (seen r)) none)
+-- what f gives of each element, one after another
+abbrev pub each : {A : Type 0} → (A → List ℕ) → List A → List ℕ
+each f [] = []
+each f (x ∷ xs) = f x ++ each f xs
 
--- the first no of the two
-abbrev pub firstOf : Option Refusal → Option Refusal → Option Refusal
-firstOf none rest = rest
-firstOf (some r) rest = some r
+-- the bytes of an order or a list that names these rules
+abbrev pub naming : List ℕ → List ℕ
+naming rs = each ruleItem rs
+
+-- the step that a 06 item gives
+abbrev pub stepOf : FactId → RuleId → Taken
+stepOf f r = record { fact = f .0; by = r .0 }
+
+-- the steps that the items of a row give
+abbrev pub stepsOf : List Token → List Taken
+stepsOf [] = []
+stepsOf (bad fault ∷ ts) = []
+stepsOf (item (Step f r) ∷ ts) = stepOf f r ∷ stepsOf ts
+stepsOf (item (Facts n) ∷ ts) = stepsOf ts
+stepsOf (item (Opens f) ∷ ts) = stepsOf ts
+stepsOf (item (Premise f) ∷ ts) = stepsOf ts
+stepsOf (item (Constraint f) ∷ ts) = stepsOf ts
+stepsOf (item (Rules n) ∷ ts) = stepsOf ts
+stepsOf (item (Names r) ∷ ts) = stepsOf ts
+
+-- the steps that the bytes of a proof row give
+abbrev pub rowOf : List ℕ → List Taken
+rowOf bytes = stepsOf (itemsAt bytes stepsStart)
+
+-- Questions 12 and 13 of one item: an exception rule of the file? Not named before? `known` tells the exception rules, `seen` those named
+-- before.
+abbrev pub nameQuestions : (ℕ → Bool) → (ℕ → Bool) → ℕ → List Question
+nameQuestions known seen r = ask NotAnException (known r) ∷ ask NamedTwice (not (seen r)) ∷ []
 
 -- Of each item in turn.
-abbrev pub askNames : (ℕ → Bool) → (ℕ → Bool) → List ℕ → Option Refusal
-askNames known seen [] = none
-askNames known seen (r ∷ rs) = firstOf (askName known seen r) (askNames known (adjoin seen r) rs)
+abbrev pub namesQuestions : (ℕ → Bool) → (ℕ → Bool) → List ℕ → List Question
+namesQuestions known seen [] = []
+namesQuestions known seen (r ∷ rs) = nameQuestions known seen r ++ namesQuestions known (adjoin seen r) rs
 
--- A list of rules: 11 over the whole row, then 12 and 13 of each item.
-unfoldable pub listNo : (ℕ → Bool) → List ℕ → Option Refusal
-listNo known list = asked NotRuleItems (whole (itemsAt list orderStart)) (askNames known nothing (namedIn list))
+-- Whole 05 items throughout?
+abbrev pub nameItemsQuestion : List ℕ → Question
+nameItemsQuestion row = ask NotRuleItems (whole (itemsAt row orderStart))
 
--- An order: the same, then 14, every exception rule below n named?
-unfoldable pub orderNo : (ℕ → Bool) → ℕ → List ℕ → Option Refusal
-orderNo known n order =
-    firstOf (listNo known order)
-    (asked NotAllNamed (all (λ i. not (known i) || mem i (namedIn order)) (upTo n)) none)
+-- Every exception rule below n named?
+abbrev pub allNamedQuestion : (ℕ → Bool) → ℕ → List ℕ → Question
+allNamedQuestion known n order = ask NotAllNamed (all (λ i. not (known i) || mem i (namedIn order)) (upTo n))
 
+-- A list of rules: 11 over the whole row, then 12 and 13 of each item. An order: the same, then 14.
+unfoldable pub listQuestions : (ℕ → Bool) → List ℕ → List Question
+listQuestions known list = nameItemsQuestion list ∷ namesQuestions known nothing (namedIn list)
+
+unfoldable pub orderQuestions : (ℕ → Bool) → ℕ → List ℕ → List Question
+orderQuestions known n order = listQuestions known order ++ (allNamedQuestion known n order ∷ [])
+
+-- One byte for each of n facts? Every byte 0 or 1?
 abbrev pub zeroOrOne : List ℕ → Bool
 zeroOrOne set = all (λ b. leb b 1) set
 
--- A fact set of a file with n facts: one byte for each fact? Every byte 0 or 1?
-unfoldable pub setNo : ℕ → List ℕ → Option Refusal
-setNo n set = asked WrongSetLength (eqb (length set) n) (asked NotZeroOrOne (zeroOrOne set) none)
+abbrev pub setLengthQuestion : ℕ → List ℕ → Question
+setLengthQuestion n set = ask WrongSetLength (eqb (length set) n)
 
--- A proof row: asked fact below the count? Whole 06 items?
-unfoldable pub rowNo : ℕ → ℕ → List ℕ → Option Refusal
-rowNo n fact row = asked AskedFactTooHigh (ltb fact n) (asked NotStepItems (whole (itemsAt row stepsStart)) none)
+abbrev pub setBytesQuestion : List ℕ → Question
+setBytesQuestion set = ask NotZeroOrOne (zeroOrOne set)
 
--- The file's own questions come first.
-abbrev pub ofFile : List ℕ → (Program → Option Refusal) → Option Refusal
-ofFile file rest = elim (parse file) [ accepted P ↦ rest P | refused r ↦ some r ]
+-- A fact set of a file with n facts.
+unfoldable pub setQuestions : ℕ → List ℕ → List Question
+setQuestions n set = setLengthQuestion n set ∷ setBytesQuestion set ∷ []
 
-unfoldable pub orderQuestions : List ℕ → List ℕ → Option Refusal
-orderQuestions file order = ofFile file (λ P. orderNo (exception P) (count P) order)
+-- Asked fact below the count? Whole 06 items?
+abbrev pub askedFactQuestion : ℕ → ℕ → Question
+askedFactQuestion n fact = ask AskedFactTooHigh (ltb fact n)
 
-unfoldable pub listQuestions : List ℕ → List ℕ → Option Refusal
-listQuestions file list = ofFile file (λ P. listNo (exception P) list)
+abbrev pub stepItemsQuestion : List ℕ → Question
+stepItemsQuestion row = ask NotStepItems (whole (itemsAt row stepsStart))
 
-unfoldable pub setQuestions : List ℕ → List ℕ → Option Refusal
-setQuestions file set = ofFile file (λ P. setNo (P .facts) set)
+-- A proof row for a file with n facts.
+unfoldable pub rowQuestions : ℕ → ℕ → List ℕ → List Question
+rowQuestions n fact row = askedFactQuestion n fact ∷ stepItemsQuestion row ∷ []
 
-unfoldable pub rowQuestions : List ℕ → ℕ → List ℕ → Option Refusal
-rowQuestions file fact row = ofFile file (λ P. rowNo (P .facts) fact row)
+-- The first no of each.
+abbrev pub listNo : (ℕ → Bool) → List ℕ → Option Refusal
+listNo known list = firstNo (listQuestions known list)
+
+abbrev pub orderNo : (ℕ → Bool) → ℕ → List ℕ → Option Refusal
+orderNo known n order = firstNo (orderQuestions known n order)
+
+abbrev pub setNo : ℕ → List ℕ → Option Refusal
+setNo n set = firstNo (setQuestions n set)
+
+abbrev pub rowNo : ℕ → ℕ → List ℕ → Option Refusal
+rowNo n fact row = firstNo (rowQuestions n fact row)
+
+-- The questions of the operations `ask_list`, `ask_order`, `ask_set` and `ask_row`: the file's own come first.
+unfoldable pub askListQuestions : List ℕ → List ℕ → List Question
+askListQuestions file list = fileQuestions file ++ listQuestions (exception (programOf file)) list
+
+unfoldable pub askOrderQuestions : List ℕ → List ℕ → List Question
+askOrderQuestions file order = fileQuestions file ++ orderQuestions (exception (programOf file)) (count (programOf file)) order
+
+unfoldable pub askSetQuestions : List ℕ → List ℕ → List Question
+askSetQuestions file set = fileQuestions file ++ setQuestions (programOf file .facts) set
+
+unfoldable pub askRowQuestions : List ℕ → ℕ → List ℕ → List Question
+askRowQuestions file fact row = fileQuestions file ++ rowQuestions (programOf file .facts) fact row
+
+-- Fact marks at least the count of facts? Rule marks at least the count of rules? Steps at least 4 × facts?
+abbrev pub factMarksQuestion : Program → ℕ → Question
+factMarksQuestion P facts = ask FactMarksShort (leb (P .facts) facts)
+
+abbrev pub ruleMarksQuestion : Program → ℕ → Question
+ruleMarksQuestion P rules = ask RuleMarksShort (leb (count P) rules)
+
+abbrev pub stepsQuestion : Program → ℕ → Question
+stepsQuestion P steps = ask StepsShort (leb (stepWidth * P .facts) steps)
+
+-- The buffers that the run and the search share.
+unfoldable pub bufferQuestions : Program → ℕ → ℕ → ℕ → List Question
+bufferQuestions P facts rules steps = factMarksQuestion P facts ∷ ruleMarksQuestion P rules ∷ stepsQuestion P steps ∷ []
+
+-- The run: the file, the order, then the buffers.
+unfoldable pub runQuestions : List ℕ → List ℕ → ℕ → ℕ → ℕ → List Question
+runQuestions file order facts rules steps =
+    fileQuestions file
+    ++ (orderQuestions (exception (programOf file)) (count (programOf file)) order
+    ++ bufferQuestions (programOf file) facts rules steps)
+
+-- The first no of each.
+abbrev pub buffersNo : Program → ℕ → ℕ → ℕ → Option Refusal
+buffersNo P facts rules steps = firstNo (bufferQuestions P facts rules steps)
+
+abbrev pub runNo : List ℕ → List ℕ → ℕ → ℕ → ℕ → Option Refusal
+runNo file order facts rules steps = firstNo (runQuestions file order facts rules steps)
+
+-- The judge: the file, the list, then the set.
+unfoldable pub judgeQuestions : List ℕ → List ℕ → List ℕ → List Question
+judgeQuestions file list set =
+    fileQuestions file ++ (listQuestions (exception (programOf file)) list ++ setQuestions (programOf file .facts) set)
+
+abbrev pub judgeNo : List ℕ → List ℕ → List ℕ → Option Refusal
+judgeNo file list set = firstNo (judgeQuestions file list set)
+
+-- The proof check: the file, the set, then the asked fact and the row.
+unfoldable pub checkQuestions : List ℕ → List ℕ → ℕ → List ℕ → List Question
+checkQuestions file set fact row =
+    fileQuestions file ++ (setQuestions (programOf file .facts) set ++ rowQuestions (programOf file .facts) fact row)
+
+abbrev pub checkNo : List ℕ → List ℕ → ℕ → List ℕ → Option Refusal
+checkNo file set fact row = firstNo (checkQuestions file set fact row)
+
+-- Order at least 3 × exception rules? At most 16 constraint facts?
+abbrev pub orderRoomQuestion : Program → ℕ → Question
+orderRoomQuestion P order = ask OrderShort (leb (nameWidth * exceptions P) order)
+
+abbrev pub guessedQuestion : Program → Question
+guessedQuestion P = ask TooManyConstraints (leb (constraintFacts P) maxGuessed)
+
+-- Is there a stable set? It is asked last, by looking for one.
+unfoldable pub someStable : Program → Bool
+someStable P = elim (search P everyRule) [ some M ↦ true | none ↦ false ]
+
+abbrev pub stableQuestion : Program → Question
+stableQuestion P = ask NoStableSet (someStable P)
+
+-- What the answer means: of an accepted file it is yes exactly where some set is stable. `stable-asked` of the search shows it of every file.
+abbrev pub StableAsked : List ℕ → Type 0
+StableAsked file =
+    fileNo file ≡ none → (someStable (programOf file) ≡ true) ↔ ((M : FactSet) × Stable (programOf file) everyRule M)
+
+-- The questions before the last one.
+unfoldable pub limitQuestions : Program → ℕ → List Question
+limitQuestions P order = orderRoomQuestion P order ∷ guessedQuestion P ∷ []
+
+unfoldable pub earlyQuestions : List ℕ → ℕ → ℕ → ℕ → ℕ → List Question
+earlyQuestions file facts rules steps order =
+    fileQuestions file ++ (bufferQuestions (programOf file) facts rules steps ++ limitQuestions (programOf file) order)
+
+unfoldable pub searchQuestions : List ℕ → ℕ → ℕ → ℕ → ℕ → List Question
+searchQuestions file facts rules steps order =
+    earlyQuestions file facts rules steps order ++ (stableQuestion (programOf file) ∷ [])
+
+-- The first no of each.
+abbrev pub limitsNo : Program → ℕ → Option Refusal
+limitsNo P order = firstNo (limitQuestions P order)
+
+abbrev pub earlyNo : List ℕ → ℕ → ℕ → ℕ → ℕ → Option Refusal
+earlyNo file facts rules steps order = firstNo (earlyQuestions file facts rules steps order)
+
+abbrev pub searchNo : List ℕ → ℕ → ℕ → ℕ → ℕ → Option Refusal
+searchNo file facts rules steps order = firstNo (searchQuestions file facts rules steps order)

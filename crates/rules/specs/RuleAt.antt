@@ -1,4 +1,4 @@
--- The rule that starts at a place of a file, and the index of these places.
+-- Internal: the rule that starts at a place of a file, and the index of these places.
 use Prim.Native.Nat.{ℕ, _<_}
 use mathlib.Core.Path.{_≡_}
 use mathlib.Core.List.{List, [], _∷_}
@@ -7,8 +7,8 @@ use Rattle.theory.specs.Rule.{Rule, Program, blank, count, rule}
 use Rattle.reader.specs.declared.item.Item.the-variants.{Facts, Opens, Premise, Constraint, Rules, Names, Step}
 use Rattle.reader.specs.declared.cursor.Cursor.{Cursor}
 use Rattle.reader.specs.declared.cursor.Row.the-variants.{Body}
-use Rattle.reader.specs.Cursor.{Token, item, bad, itemsAt, start}
-use Rattle.reader.specs.Program.{premisesOf, constraintsOf, ruleOf, rulesOf}
+use Rattle.reader.specs.Cursor.{Token, item, bad, itemsAt, fileStart}
+use Rattle.reader.specs.Questions.{premisesOf, constraintsOf, ruleOf, rulesOf}
 
 abbrev pub bodyAt : ℕ → Cursor
 bodyAt p = record { at = p; row = Body }
@@ -16,7 +16,7 @@ bodyAt p = record { at = p; row = Body }
 -- The rule that the first of these items opens; the blank rule where it opens none.
 abbrev pub firstRule : List Token → Rule
 firstRule [] = blank
-firstRule (bad r ∷ ts) = blank
+firstRule (bad fault ∷ ts) = blank
 firstRule (item (Opens f) ∷ ts) = ruleOf f ts
 firstRule (item (Facts n) ∷ ts) = blank
 firstRule (item (Premise f) ∷ ts) = blank
@@ -41,5 +41,5 @@ pub record OwnItems (s : List ℕ) (p : ℕ) (c : Cursor) : Type 0 where
 
 -- The cursor stands in the body of the file, before all its rules.
 pub record AfterOpening (s : List ℕ) (c : Cursor) : Type 0 where
-  pub rules : rulesOf (itemsAt s c) ≡ rulesOf (itemsAt s start)
+  pub rules : rulesOf (itemsAt s c) ≡ rulesOf (itemsAt s fileStart)
   pub body : c .row ≡ Body

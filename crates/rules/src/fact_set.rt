@@ -1,11 +1,11 @@
 // Fact sets: one byte for each fact, 1 in, 0 out.
 ghost use mathlib.Core.Path.{_≡_};
-ghost use Rattle.rules.specs.Sets.{has};
-ghost use Rattle.rules.specs.Answer.{answerOf};
-ghost use Rattle.rules.specs.Questions.{setNo, setQuestions, zeroOrOne};
+ghost use Rattle.reader.specs.Question.{firstNo};
+ghost use Rattle.rules.specs.Questions.{has, setNo, askSetQuestions, zeroOrOne};
+ghost use Rattle.rules.specs.Answer.{answerOf, AnswerNumbers};
 use crate::answer::Answer;
+use reader::answer::Asked;
 use reader::item::FactId;
-use reader::questions::Verdict;
 use reader::refusal::Refusal;
 
 // Is the fact in the set? No fact past the end of the bytes is. Internal.
@@ -50,10 +50,11 @@ pub fn ask_set_of(facts: u16, set: &[u8]) -> Answer
 
 // The questions of the file, then 21 and 22 of the set.
 pub fn ask_set(file: &[u8], set: &[u8]) -> Answer
-    ensures { λ r. ⌜ r ≡ answerOf (setQuestions (now (file .entry)) (now (set .entry))) ⌝ }
+    ensures { λ r. ⌜ r ≡ answerOf (firstNo (askSetQuestions (now (file .entry)) (now (set .entry)))) ⌝ }
+    ensures { λ r. ⌜ AnswerNumbers (askSetQuestions (now (file .entry)) (now (set .entry))) r ⌝ }
 {
-    match reader::questions::judge_file(file) {
-        Verdict::Failed(r) => Answer::No(r),
-        Verdict::Passed(seen) => ask_set_of(seen.facts, set),
+    match reader::questions::ask_file(file) {
+        Asked::No(r) => Answer::No(r),
+        Asked::Yes(counts) => ask_set_of(counts.facts, set),
     }
 }

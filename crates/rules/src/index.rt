@@ -3,8 +3,7 @@ ghost use mathlib.Core.Path.{_≡_};
 ghost use mathlib.Core.Option.{none};
 ghost use lib.ListN.{length};
 ghost use Rattle.theory.specs.Rule.{exception};
-ghost use Rattle.reader.specs.Program.{programOf};
-ghost use Rattle.reader.specs.Questions.{maxRules, firstNo};
+ghost use Rattle.reader.specs.Questions.{programOf, maxRules, fileNo};
 ghost use Rattle.reader.specs.Rules.{paint};
 ghost use Rattle.rules.specs.RuleAt.{Indexed, AfterOpening};
 use reader::cursor::Cursor;
@@ -30,12 +29,16 @@ fn after_opening(file: &[u8]) -> Cursor
             row: Row::Body,
         },
         Read::Found(_, next) => next,
+        Read::Ended(_) => Cursor {
+            at: file.len(),
+            row: Row::Body,
+        },
     }
 }
 
 // The place where each rule starts.
 pub fn index_rules(file: &[u8], starts: &mut [u16; MAX_RULES])
-    requires { ⌜ (firstNo (now file) ≡ none) × (length (now starts) ≡ maxRules) ⌝ }
+    requires { ⌜ (fileNo (now file) ≡ none) × (length (now starts) ≡ maxRules) ⌝ }
     ensures { λ _. ⌜ Indexed (now (file .entry)) (programOf (now (file .entry))) (now (starts .exit)) ⌝ }
 {
     let mut cursor = after_opening(file);
@@ -53,13 +56,16 @@ pub fn index_rules(file: &[u8], starts: &mut [u16; MAX_RULES])
                 }
                 cursor = next;
             }
+            Read::Ended(_) => {
+                return;
+            }
         }
     }
 }
 
 // Marks the exception rules with 1.
 pub fn mark_exceptions(file: &[u8], kinds: &mut [u8; MAX_RULES])
-    requires { ⌜ firstNo (now file) ≡ none ⌝ }
+    requires { ⌜ fileNo (now file) ≡ none ⌝ }
     ensures { λ _. ⌜ now (kinds .exit) ≡ paint (exception (programOf (now (file .entry)))) (now (kinds .entry)) ⌝ }
 {
     let mut cursor = Cursor {

@@ -3,13 +3,13 @@ ghost use mathlib.Core.Path.{_≡_};
 ghost use mathlib.Core.Bool.{not, _||_};
 ghost use Prim.Native.Nat.{_≤_};
 ghost use lib.ListN.{length};
-ghost use Rattle.theory.specs.Lists.{all, upTo};
+ghost use Rattle.theory.specs.Rule.{all, upTo};
 ghost use Rattle.reader.specs.Cursor.{itemsAt, orderStart};
+ghost use Rattle.reader.specs.Question.{firstNo};
 ghost use Rattle.reader.specs.Questions.{maxRules};
-ghost use Rattle.rules.specs.Sets.{has};
+ghost use Rattle.rules.specs.Questions.{has, whole, namedIn, nameQuestions, namesQuestions};
 ghost use Rattle.rules.specs.Answer.{answerOf};
-ghost use Rattle.rules.specs.Questions.{whole, namedIn, askName, askNames};
-ghost use Rattle.rules.specs.Named.{Named, AllNamed};
+ghost use Rattle.rules.specs.Named.{Named, AllNamed, Ends};
 use crate::answer::Answer;
 use crate::index::MAX_RULES;
 use reader::cursor::Cursor;
@@ -21,20 +21,20 @@ use reader::refusal::Refusal;
 
 // Whole items throughout?
 pub fn whole_items(bytes: &[u8], from: Cursor) -> bool
+    requires { ⌜ Ends (from .row) ⌝ }
     ensures { λ r. ⌜ r ≡ whole (itemsAt (now (bytes .entry)) from) ⌝ }
 {
     let mut cursor = from;
     loop {
-        let at = cursor.at;
-        if bytes.len() <= at {
-            return true;
-        }
         match cursor.next(bytes) {
             Read::Refused(_, _) => {
                 return false;
             }
             Read::Found(_, next) => {
                 cursor = next;
+            }
+            Read::Ended(_) => {
+                return true;
             }
         }
     }
@@ -43,7 +43,7 @@ pub fn whole_items(bytes: &[u8], from: Cursor) -> bool
 // Questions 12 and 13 of one item; a rule that gets yes is marked as named.
 pub fn ask_name(rule: RuleId, kinds: &[u8; MAX_RULES], named: &mut [u8; MAX_RULES]) -> Answer
     requires { ⌜ (length (now kinds) ≡ maxRules) × (length (now named) ≡ maxRules) ⌝ }
-    ensures { λ r. ⌜ r ≡ answerOf (askName (has (now (kinds .entry))) (has (now (named .entry))) (rule .0)) ⌝ }
+    ensures { λ r. ⌜ r ≡ answerOf (firstNo (nameQuestions (has (now (kinds .entry))) (has (now (named .entry))) (rule .0))) ⌝ }
     ensures { λ r. ⌜ Named (rule .0) (now (named .entry)) (now (named .exit)) r ⌝ }
     ensures { λ _. ⌜ length (now (named .exit)) ≡ maxRules ⌝ }
 {
@@ -64,7 +64,7 @@ pub fn ask_name(rule: RuleId, kinds: &[u8; MAX_RULES], named: &mut [u8; MAX_RULE
 // Questions 12 and 13 of each item in turn.
 pub fn ask_names(bytes: &[u8], kinds: &[u8; MAX_RULES], named: &mut [u8; MAX_RULES]) -> Answer
     requires { ⌜ (length (now kinds) ≡ maxRules) × (length (now named) ≡ maxRules) ⌝ }
-    ensures { λ r. ⌜ r ≡ answerOf (askNames (has (now (kinds .entry))) (has (now (named .entry))) (namedIn (now (bytes .entry)))) ⌝ }
+    ensures { λ r. ⌜ r ≡ answerOf (firstNo (namesQuestions (has (now (kinds .entry))) (has (now (named .entry))) (namedIn (now (bytes .entry))))) ⌝ }
     ensures { λ r. ⌜ AllNamed (namedIn (now (bytes .entry))) (now (named .entry)) (now (named .exit)) r ⌝ }
 {
     let mut cursor = Cursor {
@@ -84,6 +84,9 @@ pub fn ask_names(bytes: &[u8], kinds: &[u8; MAX_RULES], named: &mut [u8; MAX_RUL
                     }
                 }
                 cursor = next;
+            }
+            Read::Ended(_) => {
+                return Answer::Yes;
             }
         }
     }

@@ -2,15 +2,15 @@
 ghost use mathlib.Core.Path.{_≡_};
 ghost use Prim.Native.Nat.{_≤_};
 ghost use lib.ListN.{length};
+ghost use Rattle.reader.specs.Question.{firstNo};
 ghost use Rattle.reader.specs.Questions.{maxRules};
-ghost use Rattle.rules.specs.Sets.{has};
-ghost use Rattle.rules.specs.Answer.{answerOf};
-ghost use Rattle.rules.specs.Questions.{listNo, orderNo, listQuestions, orderQuestions};
+ghost use Rattle.rules.specs.Questions.{has, listNo, orderNo, askListQuestions, askOrderQuestions};
+ghost use Rattle.rules.specs.Answer.{answerOf, AnswerNumbers};
 use crate::answer::Answer;
 use crate::index::MAX_RULES;
+use reader::answer::Asked;
 use reader::cursor::Cursor;
 use reader::cursor::Row;
-use reader::questions::Verdict;
 use reader::refusal::Refusal;
 
 // Questions 11 to 13, for a file whose exception rules are marked. Internal.
@@ -55,11 +55,12 @@ pub fn ask_order_of(kinds: &[u8; MAX_RULES], rules: usize, order: &[u8]) -> Answ
 
 // The questions of the file, then 11 to 13 of the list.
 pub fn ask_list(file: &[u8], list: &[u8]) -> Answer
-    ensures { λ r. ⌜ r ≡ answerOf (listQuestions (now (file .entry)) (now (list .entry))) ⌝ }
+    ensures { λ r. ⌜ r ≡ answerOf (firstNo (askListQuestions (now (file .entry)) (now (list .entry)))) ⌝ }
+    ensures { λ r. ⌜ AnswerNumbers (askListQuestions (now (file .entry)) (now (list .entry))) r ⌝ }
 {
-    match reader::questions::judge_file(file) {
-        Verdict::Failed(r) => Answer::No(r),
-        Verdict::Passed(_) => {
+    match reader::questions::ask_file(file) {
+        Asked::No(r) => Answer::No(r),
+        Asked::Yes(_) => {
             let mut kinds = [0u8; MAX_RULES];
             crate::index::mark_exceptions(file, &mut kinds);
             ask_list_of(&kinds, list)
@@ -69,14 +70,15 @@ pub fn ask_list(file: &[u8], list: &[u8]) -> Answer
 
 // The questions of the file, then 11 to 14 of the order.
 pub fn ask_order(file: &[u8], order: &[u8]) -> Answer
-    ensures { λ r. ⌜ r ≡ answerOf (orderQuestions (now (file .entry)) (now (order .entry))) ⌝ }
+    ensures { λ r. ⌜ r ≡ answerOf (firstNo (askOrderQuestions (now (file .entry)) (now (order .entry)))) ⌝ }
+    ensures { λ r. ⌜ AnswerNumbers (askOrderQuestions (now (file .entry)) (now (order .entry))) r ⌝ }
 {
-    match reader::questions::judge_file(file) {
-        Verdict::Failed(r) => Answer::No(r),
-        Verdict::Passed(seen) => {
+    match reader::questions::ask_file(file) {
+        Asked::No(r) => Answer::No(r),
+        Asked::Yes(counts) => {
             let mut kinds = [0u8; MAX_RULES];
             crate::index::mark_exceptions(file, &mut kinds);
-            ask_order_of(&kinds, seen.rules as usize, order)
+            ask_order_of(&kinds, counts.rules as usize, order)
         }
     }
 }

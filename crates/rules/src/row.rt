@@ -1,11 +1,12 @@
 // The questions on proof rows.
 ghost use mathlib.Core.Path.{_≡_};
-ghost use Rattle.rules.specs.Answer.{answerOf};
-ghost use Rattle.rules.specs.Questions.{rowNo, rowQuestions};
+ghost use Rattle.reader.specs.Question.{firstNo};
+ghost use Rattle.rules.specs.Answer.{answerOf, AnswerNumbers};
+ghost use Rattle.rules.specs.Questions.{rowNo, askRowQuestions};
 use crate::answer::Answer;
+use reader::answer::Asked;
 use reader::cursor::Cursor;
 use reader::cursor::Row;
-use reader::questions::Verdict;
 use reader::refusal::Refusal;
 
 // Questions 24 and 23, for a file with this count of facts. The asked fact may be any number. Internal.
@@ -28,10 +29,11 @@ pub fn ask_row_of(facts: u16, fact: u32, row: &[u8]) -> Answer
 
 // The questions of the file, then 24 of the asked fact and 23 of the row.
 pub fn ask_row(file: &[u8], fact: u32, row: &[u8]) -> Answer
-    ensures { λ r. ⌜ r ≡ answerOf (rowQuestions (now (file .entry)) fact (now (row .entry))) ⌝ }
+    ensures { λ r. ⌜ r ≡ answerOf (firstNo (askRowQuestions (now (file .entry)) fact (now (row .entry)))) ⌝ }
+    ensures { λ r. ⌜ AnswerNumbers (askRowQuestions (now (file .entry)) fact (now (row .entry))) r ⌝ }
 {
-    match reader::questions::judge_file(file) {
-        Verdict::Failed(r) => Answer::No(r),
-        Verdict::Passed(seen) => ask_row_of(seen.facts, fact, row),
+    match reader::questions::ask_file(file) {
+        Asked::No(r) => Answer::No(r),
+        Asked::Yes(counts) => ask_row_of(counts.facts, fact, row),
     }
 }

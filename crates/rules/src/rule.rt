@@ -2,11 +2,10 @@
 // starts, it answers as for a rule with no premise and no constraint.
 ghost use mathlib.Core.Path.{_≡_};
 ghost use mathlib.Core.Bool.{not};
-ghost use Rattle.theory.specs.Lists.{all, clear};
-ghost use Rattle.theory.specs.Rule.{null};
+ghost use Rattle.theory.specs.Rule.{all, clear, null};
 ghost use Rattle.reader.specs.Item.{factId};
 ghost use Rattle.reader.specs.Cursor.{itemsAt};
-ghost use Rattle.rules.specs.Sets.{has};
+ghost use Rattle.rules.specs.Questions.{has};
 ghost use Rattle.rules.specs.RuleAt.{ruleAt, OwnItems};
 use crate::fact_set::in_set;
 use reader::cursor::Cursor;
@@ -26,6 +25,7 @@ pub fn conclusion(file: &[u8], at: usize) -> FactId
             Item::Opens(f) => f,
             _ => FactId(0),
         },
+        Read::Ended(_) => FactId(0),
     }
 }
 
@@ -44,6 +44,7 @@ pub fn own_items(file: &[u8], at: usize) -> Cursor
             Item::Opens(_) => next,
             _ => end,
         },
+        Read::Ended(_) => end,
     }
 }
 
@@ -71,6 +72,9 @@ pub fn premises_in(file: &[u8], at: usize, set: &[u8]) -> bool
                     return true;
                 }
             },
+            Read::Ended(_) => {
+                return true;
+            }
         }
     }
 }
@@ -99,6 +103,9 @@ pub fn constraints_clear(file: &[u8], at: usize, set: &[u8]) -> bool
                     return true;
                 }
             },
+            Read::Ended(_) => {
+                return true;
+            }
         }
     }
 }

@@ -1,7 +1,8 @@
 // Orders and lists that are written. Internal.
 ghost use Prim.Native.Nat.{_≤_};
 ghost use Rattle.reader.specs.Questions.{maxRules};
-ghost use Rattle.rules.specs.Orders.{naming, marked};
+ghost use Rattle.rules.specs.Questions.{naming};
+ghost use Rattle.rules.specs.Orders.{placesMarked};
 ghost use Rattle.rules.specs.Put.{Fits, Put};
 use crate::index::MAX_RULES;
 use reader::item::RuleId;
@@ -16,8 +17,8 @@ pub fn write_names(
     from: usize,
 ) -> usize
     requires { ⌜ count ≤ maxRules ⌝ }
-    requires { ⌜ Fits (naming (marked mark (now marks) count)) from (now out) ⌝ }
-    ensures { λ r. ⌜ Put (naming (marked mark (now (marks .entry)) count)) from (now (out .entry)) r (now (out .exit)) ⌝ }
+    requires { ⌜ Fits (naming (placesMarked mark (now marks) count)) from (now out) ⌝ }
+    ensures { λ r. ⌜ Put (naming (placesMarked mark (now (marks .entry)) count)) from (now (out .entry)) r (now (out .exit)) ⌝ }
 {
     let mut at = from;
     let mut i: usize = 0;

@@ -1,3 +1,4 @@
+-- What is promised.
 pub mod Outcome
-pub mod Checked
+-- What only code and proofs use.
 pub mod Stands

@@ -1,14 +1,13 @@
--- How the working memory of a run holds where the run stands.
+-- Internal: how the working memory of a run holds where the run stands.
 use Prim.Native.Nat.{ℕ}
 use mathlib.Core.Path.{_≡_}
 use mathlib.Core.List.{List, []}
 use lib.ListN.{length}
-use Rattle.theory.specs.Lists.{mem}
-use Rattle.theory.specs.Rule.{Program, everyRule, nothing}
+use Rattle.theory.specs.Rule.{mem, Program, everyRule, nothing}
 use Rattle.theory.specs.Run.{Stand, stage, stepCount}
 use Rattle.reader.specs.Item.{maxFacts}
 use Rattle.reader.specs.Questions.{maxRules}
-use Rattle.rules.specs.Sets.{has}
+use Rattle.rules.specs.Questions.{has}
 use Rattle.closure.specs.Steps.{stepBytes}
 use Rattle.stage.specs.Refused.{Shows}
 use Rattle.run.specs.Outcome.{over}

@@ -1,15 +1,17 @@
 // The run: stages of forward chaining along an order of the exception rules.
 ghost use mathlib.Core.Path.{_≡_};
-ghost use Rattle.run.specs.Outcome.{Outcome, outcome};
+ghost use Rattle.run.specs.Outcome.{RunOutcome, runOutcome, RunNumbers};
+ghost use Rattle.rules.specs.Questions.{runNo};
+ghost use lib.ListN.{length};
 
 pub mod answer;
-pub mod marks;
-pub mod mask;
+mod marks;
+mod mask;
 pub mod questions;
-pub mod stages;
+mod stages;
 
 use answer::Ran;
-use questions::Checked;
+use reader::answer::Asked;
 
 // Runs a file under an order: writes the fact marks (0 open, 1 in D, 2 in R), the rule marks (0 plain, 1 applied at a stage, 2 set aside,
 // 3 other) and the steps, and answers the counts of stages and of steps, or the first no.
@@ -20,14 +22,15 @@ pub fn run(
     rule_marks: &mut [u8],
     steps: &mut [u8],
 ) -> Ran
-    ensures { λ r. ⌜ _≡_ {A = Outcome} (record { answer = r; fact-marks = now («fact_marks» .exit); rule-marks = now («rule_marks» .exit); steps = now (steps .exit) }) (outcome (now (file .entry)) (now (order .entry)) (now («fact_marks» .entry)) (now («rule_marks» .entry)) (now (steps .entry))) ⌝ }
+    ensures { λ r. ⌜ _≡_ {A = RunOutcome} (record { answer = r; fact-marks = now («fact_marks» .exit); rule-marks = now («rule_marks» .exit); steps = now (steps .exit) }) (runOutcome (now (file .entry)) (now (order .entry)) (now («fact_marks» .entry)) (now («rule_marks» .entry)) (now (steps .entry))) ⌝ }
+    ensures { λ r. ⌜ RunNumbers (now (file .entry)) (now (order .entry)) (runNo (now (file .entry)) (now (order .entry)) (length (now («fact_marks» .entry))) (length (now («rule_marks» .entry))) (length (now (steps .entry)))) r ⌝ }
 {
     match questions::ask_run(file, order, fact_marks.len(), rule_marks.len(), steps.len()) {
-        Checked::No(r) => Ran::Refused(r),
-        Checked::Yes(seen) => stages::run_accepted(
+        Asked::No(r) => Ran::Refused(r),
+        Asked::Yes(counts) => stages::run_accepted(
             file,
             order,
-            seen,
+            counts,
             fact_marks,
             rule_marks,
             steps,

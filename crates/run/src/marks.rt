@@ -2,12 +2,11 @@
 ghost use Prim.Native.Nat.{ℕ, _≤_, _<_};
 ghost use mathlib.Core.Path.{_≡_};
 ghost use lib.ListN.{length};
-ghost use Rattle.theory.specs.Lists.{mem};
-ghost use Rattle.theory.specs.Rule.{Program, everyRule, count, rule};
+ghost use Rattle.theory.specs.Rule.{mem, Program, everyRule, count, rule};
 ghost use Rattle.theory.specs.Run.{Stand, rejected as rejectedBy, ruleMark, factMarks, ruleMarks};
 ghost use Rattle.reader.specs.Item.{maxFacts};
-ghost use Rattle.reader.specs.Program.{programOf};
-ghost use Rattle.rules.specs.Sets.{has};
+ghost use Rattle.reader.specs.Questions.{programOf};
+ghost use Rattle.rules.specs.Questions.{has};
 ghost use Rattle.rules.specs.RuleAt.{ruleAt};
 ghost use Rattle.closure.specs.Known.{Known};
 ghost use Rattle.run.specs.Outcome.{over};

@@ -1,8 +1,7 @@
 // The mask of the plain rules. Internal.
 ghost use mathlib.Core.Path.{_≡_};
-ghost use Rattle.theory.specs.Rule.{everyRule};
-ghost use Rattle.theory.specs.Derive.{plainRules};
-ghost use Rattle.reader.specs.Program.{programOf};
+ghost use Rattle.theory.specs.Rule.{everyRule, plainRules};
+ghost use Rattle.reader.specs.Questions.{programOf};
 ghost use Rattle.reader.specs.Rules.{paint};
 ghost use Rattle.closure.specs.Known.{Known};
 use closure::place::start_of;

@@ -3,29 +3,27 @@ ghost use Prim.Native.Nat.{_+_, _*_, _<_, _≤_};
 ghost use mathlib.Core.Path.{_≡_};
 ghost use mathlib.Core.Option.{none};
 ghost use lib.ListN.{length, set};
-ghost use Rattle.theory.specs.Rule.{everyRule, rule as ruleOf};
-ghost use Rattle.theory.specs.Derive.{plainRules};
+ghost use Rattle.theory.specs.Rule.{everyRule, rule as ruleOf, plainRules};
 ghost use Rattle.theory.specs.Run.{stageCount};
 ghost use Rattle.reader.specs.Item.{stepWidth};
-ghost use Rattle.reader.specs.Program.{programOf};
-ghost use Rattle.rules.specs.Sets.{has};
-ghost use Rattle.rules.specs.Questions.{namedIn};
+ghost use Rattle.reader.specs.Questions.{programOf};
+ghost use Rattle.rules.specs.Questions.{has, namedIn, runNo};
 ghost use Rattle.closure.specs.Known.{Known, Room};
 ghost use Rattle.stage.specs.Refused.{NamesOnly};
-ghost use Rattle.run.specs.Checked.{countsOf};
-ghost use Rattle.run.specs.Outcome.{Outcome, runNo, runOf, written};
+ghost use Rattle.reader.specs.Accepted.{Accepted};
+ghost use Rattle.run.specs.Outcome.{RunOutcome, runOf, runWritten};
 ghost use Rattle.run.specs.Stands.{Holds, Advances, outset};
 use crate::answer::Ran;
 use closure::found::Found;
 use closure::place::start_of;
+use reader::answer::FileCounts;
 use reader::item::RuleId;
-use reader::questions::Seen;
 use reader::rules::MAX_FACTS;
 use reader::write::STEP_WIDTH;
 use rules::index::MAX_RULES;
 
 // How many stages and steps a run has.
-pub struct Counts {
+pub struct RunCounts {
     pub stages: usize,
     pub steps: usize,
 }
@@ -81,7 +79,7 @@ pub fn all_stages(
     rejected: &mut [u8; MAX_FACTS],
     applied: &mut [u8; MAX_RULES],
     steps: &mut [u8],
-) -> Counts
+) -> RunCounts
     requires { ⌜ Known (now file) (now starts) rules ⌝ }
     requires { ⌜ has (now plain) ≡ plainRules (programOf (now file)) everyRule ⌝ }
     requires { ⌜ NamesOnly (programOf (now file)) (namedIn (now order)) ⌝ }
@@ -105,7 +103,7 @@ pub fn all_stages(
             &mut skip,
         ) {
             Found::Nothing => {
-                return Counts {
+                return RunCounts {
                     stages,
                     steps: count,
                 };
@@ -133,16 +131,16 @@ pub fn all_stages(
 pub fn run_accepted(
     file: &[u8],
     order: &[u8],
-    seen: Seen,
+    counts: FileCounts,
     fact_marks: &mut [u8],
     rule_marks: &mut [u8],
     steps: &mut [u8],
 ) -> Ran
     requires { ⌜ runNo (now file) (now order) (length (now «fact_marks»)) (length (now «rule_marks»)) (length (now steps)) ≡ none ⌝ }
-    requires { ⌜ seen ≡ countsOf (programOf (now file)) ⌝ }
-    ensures { λ r. ⌜ _≡_ {A = Outcome} (record { answer = r; fact-marks = now («fact_marks» .exit); rule-marks = now («rule_marks» .exit); steps = now (steps .exit) }) (written (programOf (now (file .entry))) (runOf (now (file .entry)) (now (order .entry))) (now («fact_marks» .entry)) (now («rule_marks» .entry)) (now (steps .entry))) ⌝ }
+    requires { ⌜ Accepted (now file) counts ⌝ }
+    ensures { λ r. ⌜ _≡_ {A = RunOutcome} (record { answer = r; fact-marks = now («fact_marks» .exit); rule-marks = now («rule_marks» .exit); steps = now (steps .exit) }) (runWritten (programOf (now (file .entry))) (runOf (now (file .entry)) (now (order .entry))) (now («fact_marks» .entry)) (now («rule_marks» .entry)) (now (steps .entry))) ⌝ }
 {
-    let rules = seen.rules as usize;
+    let rules = counts.rules as usize;
     let mut starts = [0u16; MAX_RULES];
     rules::index::index_rules(file, &mut starts);
     let mut plain = [0u8; MAX_RULES];
@@ -150,7 +148,7 @@ pub fn run_accepted(
     let mut derived = [0u8; MAX_FACTS];
     let mut rejected = [0u8; MAX_FACTS];
     let mut applied = [0u8; MAX_RULES];
-    let counts = all_stages(
+    let taken = all_stages(
         file,
         order,
         &starts,
@@ -161,10 +159,10 @@ pub fn run_accepted(
         &mut applied,
         steps,
     );
-    crate::marks::write_fact_marks(&derived, &rejected, seen.facts as usize, fact_marks);
+    crate::marks::write_fact_marks(&derived, &rejected, counts.facts as usize, fact_marks);
     crate::marks::write_rule_marks(file, &starts, rules, &applied, &derived, rule_marks);
     Ran::Done {
-        stages: counts.stages as u16,
-        steps: counts.steps as u16,
+        stages: taken.stages as u16,
+        steps: taken.steps as u16,
     }
 }

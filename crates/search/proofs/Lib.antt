@@ -1,4 +1,6 @@
-pub mod Asking
-pub mod Grouping
-pub mod Running
-pub mod Answered
+pub mod SearchAsked
+pub mod EarlyNumbers
+pub mod OrderGroups
+pub mod RunUnder
+pub mod Outcomes
+pub mod SearchMeaning

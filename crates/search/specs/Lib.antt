@@ -1,2 +1,4 @@
-pub mod Searched
+-- What is promised.
+pub mod Outcome
+-- What only code and proofs use.
 pub mod Groups

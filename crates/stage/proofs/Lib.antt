@@ -1,3 +1,3 @@
-pub mod Apart
-pub mod Trials
-pub mod Looking
+pub mod SetsApart
+pub mod TrialClosed
+pub mod FirstFound

@@ -1,12 +1,11 @@
--- What the search for an eligible rule is told of where a run stands, and what it leaves.
+-- Internal: what the search for an eligible rule is told of where a run stands, and what it leaves.
 use Prim.Native.Nat.{ℕ}
 use mathlib.Core.Path.{_≡_}
 use mathlib.Core.Bool.{Bool, true, false, not, _&&_}
 use mathlib.Core.List.{List}
-use Rattle.theory.specs.Lists.{all, mem, upTo}
-use Rattle.theory.specs.Rule.{Program, everyRule, rule, exception}
+use Rattle.theory.specs.Rule.{all, mem, upTo, Program, everyRule, rule, exception}
 use Rattle.theory.specs.Run.{Stand, rejected, eligible, firstEligible}
-use Rattle.rules.specs.Sets.{has}
+use Rattle.rules.specs.Questions.{has}
 use Rattle.closure.specs.declared.found.Found.{Found}
 use Rattle.closure.specs.declared.found.Found.the-variants.{At, Nothing}
 use Rattle.closure.specs.Steps.{foundOf}

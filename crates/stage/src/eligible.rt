@@ -1,13 +1,11 @@
 // The first eligible rule of an order. Internal.
 ghost use mathlib.Core.Path.{_≡_};
 ghost use lib.ListN.{length};
-ghost use Rattle.theory.specs.Rule.{everyRule};
-ghost use Rattle.theory.specs.Derive.{plainRules};
+ghost use Rattle.theory.specs.Rule.{everyRule, plainRules};
 ghost use Rattle.theory.specs.Run.{Stand};
 ghost use Rattle.reader.specs.Item.{maxFacts};
-ghost use Rattle.reader.specs.Program.{programOf};
-ghost use Rattle.rules.specs.Sets.{has};
-ghost use Rattle.rules.specs.Questions.{namedIn};
+ghost use Rattle.reader.specs.Questions.{programOf};
+ghost use Rattle.rules.specs.Questions.{has, namedIn};
 ghost use Rattle.closure.specs.Known.{Known};
 ghost use Rattle.stage.specs.Refused.{Shows, Refuses, Finds, NamesOnly};
 use closure::found::Found;

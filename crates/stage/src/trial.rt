@@ -2,12 +2,11 @@
 ghost use mathlib.Core.Path.{_≡_};
 ghost use Prim.Native.Nat.{_<_};
 ghost use lib.ListN.{length};
-ghost use Rattle.theory.specs.Rule.{everyRule};
-ghost use Rattle.theory.specs.Derive.{plainRules};
+ghost use Rattle.theory.specs.Rule.{everyRule, plainRules};
 ghost use Rattle.theory.specs.Run.{trial as trialOf};
 ghost use Rattle.reader.specs.Item.{maxFacts};
-ghost use Rattle.reader.specs.Program.{programOf};
-ghost use Rattle.rules.specs.Sets.{has};
+ghost use Rattle.reader.specs.Questions.{programOf};
+ghost use Rattle.rules.specs.Questions.{has};
 ghost use Rattle.closure.specs.Known.{Known};
 ghost use Rattle.stage.specs.Refused.{apartBelow};
 use closure::place::start_of;

@@ -7,9 +7,9 @@ use mathlib.Core.List.{List, [], _∷_}
 use mathlib.Core.Logic.{⊎-elim}
 use mathlib.Core.Option.{Option, none, some}
 use lib.Dec.{eqb}
-use Rattle.theory.specs.Lists.{mem}
-use Rattle.theory.specs.Rule.{Program, Mask, FactSet, Sub, adjoin, nothing, rule}
-use Rattle.theory.specs.Stable.{reduct, leastOf}
+use Rattle.theory.specs.Rule.{mem, Program, Mask, FactSet, Sub, adjoin, nothing, rule}
+use Rattle.theory.specs.Check.{leastOf}
+use Rattle.theory.specs.Stable.{reduct}
 use Rattle.theory.specs.Search.{guessed, fits, hunt}
 use Rattle.theory.specs.Bounds.{undecided, alive, huntAlive}
 use Rattle.theory.proofs.Bools.{never, and-left, and-right, and-both, or-left, or-right, or-cases, beq-true}

@@ -1,23 +1,23 @@
--- The run is the forward chaining of document 000 along the order: its stages have `Chaining`, and whatever has `Chaining` is the run's.
+-- The run is the forward chaining of document 000 along the order: its stages have `Chaining`, and whatever has `Chaining` is the run's, stage by
+-- stage and rule by rule.
 use Prim.Native.Nat.{ℕ, zero, suc, _<_}
 use native.Mathlib.Omega.{arith}
 use native.Mathlib.Decide.{decLt}
 use mathlib.Core.Path.{_≡_, refl, sym, _∙_, ap, fun-ext, subst}
 use mathlib.Core.Bool.{Bool, true, false, _||_}
 use mathlib.Core.List.{List, [], _∷_}
-use mathlib.Core.Logic.{_⊎_, inl, inr}
+use mathlib.Core.Logic.{_⊎_, inl, inr, _↔_}
 use mathlib.Core.Option.{Option, none, some}
 use lib.ListN.{getD}
-use Rattle.theory.specs.Lists.{clear, mem}
-use Rattle.theory.specs.Rule.{Program, Mask, FactSet, Same, nothing, count, rule}
-use Rattle.theory.specs.Derive.{plainRules, conclude, closure}
-use Rattle.theory.specs.Run.{Stand, rejected, spares, trial, eligible, stage, firstEligible, run}
-use Rattle.theory.specs.Chaining.{Disjoint, constraintsOf, Applicable, First, Takes, Rests, Chaining, IsUnion, Names}
+use Rattle.theory.specs.Rule.{clear, mem, Program, Mask, FactSet, Same, nothing, count, rule, plainRules}
+use Rattle.theory.specs.Derive.{conclude, closure}
+use Rattle.theory.specs.Run.{Stand, rejected, spares, trial, eligible, stage, firstEligible, run, stageCount}
+use Rattle.theory.specs.Chaining.{Disjoint, constraintSet, Applicable, First, Takes, Rests, Chaining, IsUnion, Names}
 use Rattle.theory.proofs.Bools.{never, or-left, false-of}
 use Rattle.theory.proofs.Lists.{Found, seek-some, seek-none, all-elem, all-of, clear-elem, clear-of, clear-anti, any-witness, any-of, any-append, getD-mem}
 use Rattle.theory.proofs.Derive.{derive-least, least-same}
-use Rattle.theory.proofs.Run.{Eligible, eligible-parts, eligible-whole, exception-known, trial-above}
-use Rattle.theory.proofs.Stages.{onward, stands, onward-some, onward-none, run-stands, stands-end}
+use Rattle.theory.proofs.Run.{Eligible, eligible-parts, eligible-whole, exception-known, trial-above, run-disjoint}
+use Rattle.theory.proofs.Stages.{onward, stands, onward-some, onward-none, run-stands, stands-end, stands-taken, stands-applied}
 
 module _ (P : Program) (on : Mask) where
   -- T meets none of the constraints of these rules exactly where it is disjoint from R
@@ -69,7 +69,7 @@ module _ (P : Program) (on : Mask) where
       same = least-same P (plainRules P on) (conclude P (s .derived) c) (a .closed) (trial P on (s .derived) c) (a .is-closure) (derive-least P (plainRules P on) (conclude P (s .derived) c))
 
   -- a stage puts the constraints of its rule into R
-  stage-rejects : (s : Stand) (i f : ℕ) → rejected P (stage P on s i .applied) f ≡ rejected P (s .applied) f || constraintsOf P i f
+  stage-rejects : (s : Stand) (i f : ℕ) → rejected P (stage P on s i .applied) f ≡ rejected P (s .applied) f || constraintSet P i f
   unfolding rejected
   stage-rejects s i f =
       any-append (λ j. mem f (rule P j .constraints)) (s .applied) (i ∷ []) ∙ last (mem f (rule P i .constraints)) (rejected P (s .applied) f)
@@ -91,33 +91,26 @@ module _ (P : Program) (on : Mask) where
           none-before = λ j l a. never (applicable-eligible s (getD order j 0) a) (t .none-before j l);
         }
 
-    -- there is one first applicable rule
+    -- There is at most one first applicable rule, ..
+    pub first-unique : (D R : FactSet) (c d : ℕ) → First P on order D R c → First P on order D R d → c ≡ d
+    first-unique D R c d u v =
+        sym (u .is) ∙ (ap (λ k. getD order k 0) (places (decLt (u .place) (v .place)) (decLt (v .place) (u .place))) ∙ v .is)
+      where
+        not-before : (c d : ℕ) (u : First P on order D R c) (v : First P on order D R d) → u .place < v .place → ⊥
+        not-before c d u v l = v .none-before (u .place) l (rw (u .is) (u .applicable))
+
+        places : Dec (u .place < v .place) → Dec (v .place < u .place) → u .place ≡ v .place
+        places (yes l) e = absurd (not-before c d u v l)
+        places (no n) (yes l) = absurd (not-before d c v u l)
+        places (no n) (no m) = omega arith
+
+    -- .. and it is the first eligible one.
     first-eligible : (s : Stand) (c : ℕ) → First P on order (s .derived) (rejected P (s .applied)) c → firstEligible P on order s ≡ some c
     first-eligible s c h = go (firstEligible P on order s) refl
       where
-        passes : eligible P on s c ≡ true
-        passes = applicable-eligible s c (h .applicable)
-
         go : (o : Option ℕ) → firstEligible P on order s ≡ o → o ≡ some c
-        go none e = never passes (seek-none (eligible P on s) order e c (subst (λ x. mem x order ≡ true) (h .is) (getD-mem order (h .place) (h .inside))))
-        go (some i) e = ap some (sym (t .is) ∙ (ap (λ k. getD order k 0) places ∙ h .is))
-          where
-            t : Found (eligible P on s) order i
-            t = seek-some (eligible P on s) order i e
-
-            not-after : t .place < h .place → ⊥
-            not-after l = h .none-before (t .place) l (eligible-applicable s (getD order (t .place) 0) (rw (t .is) (t .passes)))
-
-            not-before : h .place < t .place → ⊥
-            not-before l = never passes (rw (h .is) at (t .none-before (h .place) l))
-
-            places : t .place ≡ h .place
-            places = pick (decLt (t .place) (h .place)) (decLt (h .place) (t .place))
-              where
-                pick : Dec (t .place < h .place) → Dec (h .place < t .place) → t .place ≡ h .place
-                pick (yes l) d = absurd (not-after l)
-                pick (no n) (yes l) = absurd (not-before l)
-                pick (no n) (no m) = omega arith
+        go none e = never (applicable-eligible s c (h .applicable)) (seek-none (eligible P on s) order e c (subst (λ x. mem x order ≡ true) (h .is) (getD-mem order (h .place) (h .inside))))
+        go (some i) e = ap some (first-unique (s .derived) (rejected P (s .applied)) i c (eligible-first s i e) h)
 
     -- The stages of the run are a forward chaining along an order that names every exception rule in force.
     pub run-chains : Names P on order → Chaining P on order (λ n. stands P on order n .derived) (λ n. rejected P (stands P on order n .applied))
@@ -147,20 +140,20 @@ module _ (P : Program) (on : Mask) where
             })
 
     module _ (D R : ℕ → FactSet) (chain : Chaining P on order D R) where
-      -- whatever chains along the order goes where the run goes
-      follows : (n : ℕ) → Same (D n) (stands P on order n .derived) × Same (R n) (rejected P (stands P on order n .applied))
+      -- Whatever chains along the order stands, after each number of stages, where the run stands.
+      pub chaining-stands : (n : ℕ) → Same (D n) (stands P on order n .derived) × Same (R n) (rejected P (stands P on order n .applied))
       unfolding rejected
-      follows zero = (
+      chaining-stands zero = (
         least-same P (plainRules P on) nothing (D zero) (closure P on nothing) (chain .derives-first) (derive-least P (plainRules P on) nothing),
         chain .rejects-first,
       )
-      follows (suc n) =
-          next (stands P on order n) (fun-ext (follows n .0)) (fun-ext (follows n .1)) (chain .goes-on n)
+      chaining-stands (suc n) =
+          next (stands P on order n) (fun-ext (chaining-stands n .0)) (fun-ext (chaining-stands n .1)) (chain .goes-on n)
         where
           next : (s : Stand) → D n ≡ s .derived → R n ≡ rejected P (s .applied) → Takes P on order (D n) (R n) (D (suc n)) (R (suc n)) ⊎ Rests P on (D n) (R n) (D (suc n)) (R (suc n)) → Same (D (suc n)) (onward P on order s .derived) × Same (R (suc n)) (rejected P (onward P on order s .applied))
           next s d r (inl t) = (
             λ f. least-same P (plainRules P on) (conclude P (s .derived) (t .taken)) (D (suc n)) (trial P on (s .derived) (t .taken)) (rw d at (t .derives)) (derive-least P (plainRules P on) (conclude P (s .derived) (t .taken))) f ∙ ap (λ u. u .derived f) (sym to),
-            λ f. t .rejects f ∙ (ap (λ (Q : FactSet). Q f || constraintsOf P (t .taken) f) r ∙ (sym (stage-rejects s (t .taken) f) ∙ ap (λ u. rejected P (u .applied) f) (sym to))),
+            λ f. t .rejects f ∙ (ap (λ (Q : FactSet). Q f || constraintSet P (t .taken) f) r ∙ (sym (stage-rejects s (t .taken) f) ∙ ap (λ u. rejected P (u .applied) f) (sym to))),
           )
             where
               found : firstEligible P on order s ≡ some (t .taken)
@@ -183,13 +176,41 @@ module _ (P : Program) (on : Mask) where
       -- The facts that the run derives are the union of D.
       pub chaining-derived : IsUnion D (run P on order .derived)
       chaining-derived f = (
-        λ t. (count P, follows (count P) .0 f ∙ (ap (λ s. s .derived f) (sym (run-stands P on order)) ∙ t)),
-        λ u. stands-end P on order (λ s. s .derived f ≡ true) (λ s i t. trial-above P on (s .derived) i f t) (u .0) (sym (follows (u .0) .0 f) ∙ u .1),
+        λ t. (count P, chaining-stands (count P) .0 f ∙ (ap (λ s. s .derived f) (sym (run-stands P on order)) ∙ t)),
+        λ u. stands-end P on order (λ s. s .derived f ≡ true) (λ s i t. trial-above P on (s .derived) i f t) (u .0) (sym (chaining-stands (u .0) .0 f) ∙ u .1),
       )
 
       -- The facts that the run rejects are the union of R.
       pub chaining-rejected : IsUnion R (rejected P (run P on order .applied))
       chaining-rejected f = (
-        λ t. (count P, follows (count P) .1 f ∙ (ap (λ s. rejected P (s .applied) f) (sym (run-stands P on order)) ∙ t)),
-        λ u. stands-end P on order (λ s. rejected P (s .applied) f ≡ true) (λ s i t. stage-rejects s i f ∙ or-left _ _ t) (u .0) (sym (follows (u .0) .1 f) ∙ u .1),
+        λ t. (count P, chaining-stands (count P) .1 f ∙ (ap (λ s. rejected P (s .applied) f) (sym (run-stands P on order)) ∙ t)),
+        λ u. stands-end P on order (λ s. rejected P (s .applied) f ≡ true) (λ s i t. stage-rejects s i f ∙ or-left _ _ t) (u .0) (sym (chaining-stands (u .0) .1 f) ∙ u .1),
+      )
+
+      -- No fact is ever derived at one stage and rejected at another.
+      pub chaining-disjoint : (m n : ℕ) → Disjoint (D m) (R n)
+      chaining-disjoint m n f d r = run-disjoint P on order f (chaining-derived f .1 (m, d)) (chaining-rejected f .1 (n, r))
+
+      -- the first applicable rule of a stage is the rule that the run takes there
+      first-taken : (n c : ℕ) → First P on order (D n) (R n) c → firstEligible P on order (stands P on order n) ≡ some c
+      first-taken n c h =
+          first-eligible (stands P on order n) c
+          (rw (fun-ext (chaining-stands n .0), fun-ext (chaining-stands n .1)) at h)
+
+      taken-first : (n c : ℕ) → firstEligible P on order (stands P on order n) ≡ some c → First P on order (D n) (R n) c
+      taken-first n c e =
+          rw (fun-ext (chaining-stands n .0), fun-ext (chaining-stands n .1)) (eligible-first (stands P on order n) c e)
+
+      -- The rules that the run applies are those that are the first applicable one at some stage.
+      pub chaining-applied : (c : ℕ) → (mem c (run P on order .applied) ≡ true) ↔ ((n : ℕ) × First P on order (D n) (R n) c)
+      chaining-applied c = (
+        λ m. let t = stands-applied P on order c .0 m in (t .0, taken-first (t .0) c (t .1)),
+        λ t. stands-applied P on order c .1 (t .0, first-taken (t .0) c (t .1)),
+      )
+
+      -- A rule is taken at exactly the first stages, as many as the run counts.
+      pub chaining-taken : (n : ℕ) → (n < stageCount (run P on order)) ↔ ((c : ℕ) × First P on order (D n) (R n) c)
+      chaining-taken n = (
+        λ l. let t = stands-taken P on order n .0 l in (t .0, taken-first n (t .0) (t .1)),
+        λ t. stands-taken P on order n .1 (t .0, first-taken n (t .0) (t .1)),
       )

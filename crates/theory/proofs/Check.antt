@@ -8,10 +8,8 @@ use mathlib.Core.Logic.{_↔_}
 use borrow.Author.Tests.{ltb-true, lt-ltb, eqb-true, eq-eqb}
 use lib.ListN.{length, take}
 use lib.Dec.{eqb, ltb}
-use Rattle.theory.specs.Lists.{all, clear}
-use Rattle.theory.specs.Rule.{Program, Mask, FactSet, nothing, adjoin, count, rule}
-use Rattle.theory.specs.Derive.{Step}
-use Rattle.theory.specs.Proof.{stepAt, factsOf, ruleAt, Proof, Admits}
+use Rattle.theory.specs.Rule.{all, clear, Program, Mask, FactSet, nothing, adjoin, count, rule, Step}
+use Rattle.theory.specs.Stable.{stepAt, factsOf, usedRule, Proof, Admits}
 use Rattle.theory.specs.Check.{stepHolds, stepsHold, rowClear, endsWith, isProof}
 use Rattle.theory.proofs.Bools.{never, and-left, and-right, and-both}
 use Rattle.theory.proofs.Lists.{less-one}
@@ -58,12 +56,12 @@ module _ (P : Program) (on : Mask) where
       swap true false c e = refl
       swap false false c e = e
 
-clear-at : (P : Program) (T : FactSet) (row : List Step) → rowClear P T row ≡ true → (k : ℕ) → k < length row → clear T (ruleAt P row k .constraints) ≡ true
+clear-at : (P : Program) (T : FactSet) (row : List Step) → rowClear P T row ≡ true → (k : ℕ) → k < length row → clear T (usedRule P row k .constraints) ≡ true
 clear-at P T [] e k l = absurd (omega arith)
 clear-at P T (s ∷ row) e zero l = and-left (clear T (rule P (s .by) .constraints)) _ e
 clear-at P T (s ∷ row) e (suc k) l = clear-at P T row (and-right (clear T (rule P (s .by) .constraints)) _ e) k (omega arith)
 
-at-clear : (P : Program) (T : FactSet) (row : List Step) → ((k : ℕ) → k < length row → clear T (ruleAt P row k .constraints) ≡ true) → rowClear P T row ≡ true
+at-clear : (P : Program) (T : FactSet) (row : List Step) → ((k : ℕ) → k < length row → clear T (usedRule P row k .constraints) ≡ true) → rowClear P T row ≡ true
 at-clear P T [] h = refl
 at-clear P T (s ∷ row) h = and-both (h 0 (omega arith)) (at-clear P T row (λ k l. h (suc k) (omega arith)))
 

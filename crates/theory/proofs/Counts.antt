@@ -7,8 +7,7 @@ use mathlib.Core.List.{List, [], _∷_, map}
 use borrow.Author.Tests.{eqb-true}
 use lib.ListN.{length}
 use lib.Dec.{eqb}
-use Rattle.theory.specs.Lists.{mem, upTo, howMany}
-use Rattle.theory.specs.Rule.{Program, Mask, count, plain}
+use Rattle.theory.specs.Rule.{mem, upTo, howMany, Program, Mask, count, plain}
 use Rattle.theory.specs.Run.{Stand, setAside, ruleMark, ruleMarks, stageCount, run}
 use Rattle.theory.proofs.Bools.{never}
 use Rattle.theory.proofs.Lists.{howMany-ext, howMany-upTo, eqb-sym, mem-here, mem-there}

@@ -9,10 +9,9 @@ use mathlib.Core.Option.{Option, none, some}
 use borrow.Author.Tests.{eqb-true}
 use lib.ListN.{length}
 use lib.Dec.{eqb}
-use Rattle.theory.specs.Lists.{all, mem, upTo, howMany}
-use Rattle.theory.specs.Rule.{Program, Mask, FactSet, Sub, Same, adjoin, count, rule}
+use Rattle.theory.specs.Rule.{all, mem, upTo, howMany, Program, Mask, FactSet, Sub, Same, adjoin, count, rule, Closed, Least}
 use Rattle.theory.specs.Walk.{picks, after}
-use Rattle.theory.specs.Derive.{ready, lowest, conclude, fired, derive, Closed, Least}
+use Rattle.theory.specs.Derive.{ready, lowest, conclude, fired, derive}
 use Rattle.theory.proofs.Bools.{never, and-left, and-right, and-both, or-left, or-right, or-cases, not-of-false, false-of-not, false-of, either, both-ways}
 use Rattle.theory.proofs.Lists.{eqb-self, Found, seek-some, seek-none, all-mono, upTo-mem, mem-upTo, length-range, howMany-le, howMany-less}
 use Rattle.theory.proofs.Walk as walk

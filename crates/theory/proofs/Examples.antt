@@ -5,12 +5,12 @@ use mathlib.Core.Path.{_≡_, refl}
 use mathlib.Core.Bool.{Bool, true, false, false≢true}
 use mathlib.Core.List.{List, [], _∷_, map}
 use mathlib.Core.Option.{Option, none, some, Option·map}
-use Rattle.theory.specs.Lists.{upTo}
-use Rattle.theory.specs.Rule.{Program, nothing, adjoin, everyRule, plain, exception, constraintFact}
-use Rattle.theory.specs.Derive.{Step, Closed, fired, derive, steps, plainRules}
+use Rattle.theory.specs.Rule.{upTo, Program, nothing, adjoin, everyRule, plain, exception, constraintFact, Step, Closed, plainRules}
+use Rattle.theory.specs.Derive.{fired, derive, steps}
 use Rattle.theory.specs.Run.{rejected, spares, eligible, run, setAside, factMark, ruleMark, factMarks, ruleMarks, stageCount}
-use Rattle.theory.specs.Stable.{reduct, leastOf, Stable}
-use Rattle.theory.specs.Search.{guessed, fits, search, orderFor}
+use Rattle.theory.specs.Check.{leastOf}
+use Rattle.theory.specs.Stable.{reduct, Stable, orderFor}
+use Rattle.theory.specs.Search.{guessed, fits, search}
 use Rattle.theory.specs.Examples.{A, B, C, D, E, F}
 
 -- the marks of the facts and of the rules, and the count of stages

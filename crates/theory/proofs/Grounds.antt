@@ -7,10 +7,9 @@ use mathlib.Core.List.{List, [], _∷_, _++_, map}
 use mathlib.Core.Logic.{⊎-elim}
 use lib.ListN.{length, take}
 use lib.Dec.{eqb}
-use Rattle.theory.specs.Lists.{all, mem}
-use Rattle.theory.specs.Rule.{Program, Mask, FactSet, Sub, adjoin, count, rule}
-use Rattle.theory.specs.Derive.{Step, stepBy, conclude}
-use Rattle.theory.specs.Proof.{stepAt, factsOf}
+use Rattle.theory.specs.Rule.{all, mem, Program, Mask, FactSet, Sub, adjoin, count, rule, Step}
+use Rattle.theory.specs.Derive.{stepBy, conclude}
+use Rattle.theory.specs.Stable.{stepAt, factsOf}
 use Rattle.theory.proofs.Bools.{never, or-left, or-right, or-cases}
 use Rattle.theory.proofs.Lists.{all-mono, mem-cases, mem-here, mem-there}
 use Rattle.theory.proofs.Derive.{Trail, union, adjoin-sub}

@@ -9,7 +9,7 @@ use mathlib.Core.Option.{Option, none, some}
 use borrow.Author.Tests.{eqb-true, eq-eqb}
 use lib.ListN.{length, getD}
 use lib.Dec.{eqb}
-use Rattle.theory.specs.Lists.{all, clear, any, mem, keep, seek, range, upTo, downFrom, howMany}
+use Rattle.theory.specs.Rule.{all, clear, any, mem, keep, seek, range, upTo, downFrom, howMany}
 use Rattle.theory.proofs.Bools.{either, never, and-left, and-right, and-both, or-left, or-right, or-cases, or-false-left, or-false-right, not-of-false, false-of-not, false-of, both-ways}
 
 pub eqb-self : (n : ℕ) → eqb n n ≡ true

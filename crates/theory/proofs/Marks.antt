@@ -7,11 +7,10 @@ use mathlib.Core.Logic.{_⊎_, inl, inr, ⊎-elim, _↔_}
 use borrow.Author.Tests.{lt-ltb, ltb-true}
 use native.Mathlib.Omega.{arith}
 use lib.Dec.{ltb}
-use Rattle.theory.specs.Lists.{all, clear, mem}
-use Rattle.theory.specs.Rule.{Program, Mask, FactSet, count, rule, plain, exception}
-use Rattle.theory.specs.Derive.{plainRules, conclude}
+use Rattle.theory.specs.Rule.{all, clear, mem, Program, Mask, FactSet, count, rule, plain, exception, plainRules}
+use Rattle.theory.specs.Derive.{conclude}
 use Rattle.theory.specs.Run.{Stand, rejected, spares, trial, run, setAside, factMark, ruleMark}
-use Rattle.theory.specs.Chaining.{constraintsOf, Supported, Chaining, IsUnion, Inconsistent, Names}
+use Rattle.theory.specs.Chaining.{constraintSet, Supported, Chaining, IsUnion, Inconsistent, Names}
 use Rattle.theory.proofs.Bools.{either, never, and-left, and-right, and-both, not-of-false, false-of-not, false-of, both-ways}
 use Rattle.theory.proofs.Lists.{all-fails, any-of}
 use Rattle.theory.proofs.Derive.{derive-least}
@@ -50,7 +49,7 @@ module _ (P : Program) (on : Mask) where
       (plain-or-exception P c (t .known))
 
   -- a trial closure that spares neither meets a fact
-  met-fact : (T : FactSet) (is : List ℕ) (c : ℕ) → (clear T (rule P c .constraints) ≡ true → spares P T is ≡ true → ⊥) → (f : ℕ) × (T f ≡ true) × ((constraintsOf P c f ≡ true) ⊎ (rejected P is f ≡ true))
+  met-fact : (T : FactSet) (is : List ℕ) (c : ℕ) → (clear T (rule P c .constraints) ≡ true → spares P T is ≡ true → ⊥) → (f : ℕ) × (T f ≡ true) × ((constraintSet P c f ≡ true) ⊎ (rejected P is f ≡ true))
   unfolding spares rejected
   met-fact T is c n =
       ⊎-elim
@@ -61,7 +60,7 @@ module _ (P : Program) (on : Mask) where
       inside : (f : ℕ) → not (T f) ≡ false → T f ≡ true
       inside f e = ⊎-elim (λ t. t) (λ t. never (not-of-false t) e) (either (T f))
 
-      theirs : spares P T is ≡ false → (f : ℕ) × (T f ≡ true) × ((constraintsOf P c f ≡ true) ⊎ (rejected P is f ≡ true))
+      theirs : spares P T is ≡ false → (f : ℕ) × (T f ≡ true) × ((constraintSet P c f ≡ true) ⊎ (rejected P is f ≡ true))
       theirs e =
           let w = all-fails (λ i. clear T (rule P i .constraints)) is e in
           let u = all-fails (λ x. not (T x)) (rule P (w .0) .constraints) (w .2) in
@@ -78,7 +77,7 @@ module _ (P : Program) (on : Mask) where
             t : Supported P on (run P on order .derived) c
             t = aside-supported (run P on order .derived) c e
 
-            w : (f : ℕ) × (trial P on (run P on order .derived) c f ≡ true) × ((constraintsOf P c f ≡ true) ⊎ (rejected P (run P on order .applied) f ≡ true))
+            w : (f : ℕ) × (trial P on (run P on order .derived) c f ≡ true) × ((constraintSet P c f ≡ true) ⊎ (rejected P (run P on order .applied) f ≡ true))
             w =
                 met-fact (trial P on (run P on order .derived) c) (run P on order .applied) c
                 (λ own theirs. never (eligible-whole P on (run P on order) c (record { excepted = aside-exception (run P on order) (run-sound P on order) c t; in-force = t .in-force; conclusion-out = t .conclusion-out; premises-in = t .premises-in; spares-own = own; spares-rejected = theirs })) (run-none-eligible P on order names c))

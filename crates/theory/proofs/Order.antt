@@ -7,12 +7,10 @@ use mathlib.Core.Logic.{_⊎_, inl, inr, ⊎-elim}
 use mathlib.Core.Option.{Option, none, some}
 use borrow.Author.Tests.{lt-ltb, ltb-true}
 use lib.Dec.{ltb}
-use Rattle.theory.specs.Lists.{all, clear, mem, keep, seek, upTo}
-use Rattle.theory.specs.Rule.{Program, Mask, FactSet, Sub, Same, null, nothing, count, rule, plain, exception}
-use Rattle.theory.specs.Derive.{Closed, plainRules, conclude}
+use Rattle.theory.specs.Rule.{all, clear, mem, keep, seek, upTo, Program, Mask, FactSet, Sub, Same, null, nothing, count, rule, plain, exception, Closed, plainRules}
+use Rattle.theory.specs.Derive.{conclude}
 use Rattle.theory.specs.Run.{Stand, spares, trial, eligible, stage, firstEligible, run, setAside}
-use Rattle.theory.specs.Stable.{reduct, Stable}
-use Rattle.theory.specs.Search.{upheld, orderFor}
+use Rattle.theory.specs.Stable.{reduct, Stable, upheld, orderFor}
 use Rattle.theory.proofs.Bools.{either, never, and-left, and-right, and-both, not-of-false, false-of-not, false-of, both-ways}
 use Rattle.theory.proofs.Lists.{seek-some, seek-none, seek-append, all-of, all-mono, clear-anti, mem-keep, mem-left, upTo-mem}
 use Rattle.theory.proofs.Derive.{derive-below, adjoin-sub}

@@ -1,4 +1,5 @@
--- Repeats within a rule change nothing: programs that are alike have the same runs, marks, stable sets, proofs and searches.
+-- Repeats within a rule change nothing: programs that are alike have the same counts, runs, marks, stable sets, proofs and searches, each by one
+-- equation. The counts of facts and of rules are equal by `Alike` itself.
 use Prim.Native.Nat.{ℕ, suc, _≤_, _<_}
 use native.Mathlib.Omega.{arith}
 use native.Mathlib.Decide.{decLt}
@@ -10,15 +11,14 @@ use mathlib.Core.Option.{Option, none, some}
 use borrow.Author.Tests.{eqb-true}
 use lib.ListN.{take, length-map, List·getD-map, List·getD-eq-default}
 use lib.Dec.{eqb, ltb}
-use Rattle.theory.specs.Lists.{all, any, clear, mem, keep, seek, upTo, downFrom, howMany}
-use Rattle.theory.specs.Rule.{Rule, Program, Mask, FactSet, nothing, count, rule, blank, null, plain, exception, constraintFact}
+use Rattle.theory.specs.Rule.{all, any, clear, mem, keep, seek, upTo, downFrom, howMany, Rule, Program, Mask, FactSet, nothing, adjoin, count, rule, blank, null, plain, exception, constraintFact, Step, Closed, Least, plainRules, Alike}
 use Rattle.theory.specs.Walk.{picks, after}
-use Rattle.theory.specs.Derive.{Step, lowest, conclude, fired, derive, stepBy, steps, Closed, Least, plainRules, closure}
+use Rattle.theory.specs.Derive.{lowest, conclude, fired, derive, stepBy, steps, closure}
 use Rattle.theory.specs.Run.{Stand, rejected, spares, trial, eligible, stage, start, run, setAside, factMark, ruleMark, factMarks, ruleMarks}
-use Rattle.theory.specs.Stable.{reduct, Stable, leastOf, isStable}
-use Rattle.theory.specs.Proof.{stepAt, factsOf, Proof, Admits}
-use Rattle.theory.specs.Search.{guessed, fits, hunt, search, upheld, orderFor}
-use Rattle.theory.specs.Repeats.{Alike, once, withoutRepeats}
+use Rattle.theory.specs.Check.{leastOf, isStable, stepHolds, stepsHold, rowClear, endsWith, isProof}
+use Rattle.theory.specs.Stable.{reduct, Stable, stepAt, factsOf, Proof, Admits, Earlier, Earliest, upheld, orderFor}
+use Rattle.theory.specs.Search.{guessed, fits, hunt, search}
+use Rattle.theory.specs.Repeats.{once, withoutRepeats}
 use Rattle.theory.proofs.Bools.{either, never, both-ways}
 use Rattle.theory.proofs.Lists.{all-elem, all-of, mem-cases, mem-here, mem-there, howMany-none}
 
@@ -73,15 +73,26 @@ module _ {P Q : Program} (a : Alike P Q) where
   constraints-alike : (S : FactSet) (i : ℕ) → clear S (rule P i .constraints) ≡ clear S (rule Q i .constraints)
   constraints-alike S i = all-elements (λ f. not (S f)) (rule P i .constraints) (rule Q i .constraints) (constraints-same i)
 
-  plain-alike : (i : ℕ) → plain P i ≡ plain Q i
+  -- The same rules are plain, the same are exception rules, and as many; the same facts are constraint facts, and as many.
+  pub alike-plain : plain P ≡ plain Q
   unfolding plain
-  plain-alike i t = ltb i (a .same-count t) && null-elements (rule P i .constraints) (rule Q i .constraints) (constraints-same i) t
+  alike-plain t i = ltb i (a .same-count t) && null-elements (rule P i .constraints) (rule Q i .constraints) (constraints-same i) t
 
-  pub alike-exception : (i : ℕ) → exception P i ≡ exception Q i
+  pub alike-exception : exception P ≡ exception Q
   unfolding exception
-  alike-exception i t = ltb i (a .same-count t) && not (null-elements (rule P i .constraints) (rule Q i .constraints) (constraints-same i) t)
+  alike-exception t i = ltb i (a .same-count t) && not (null-elements (rule P i .constraints) (rule Q i .constraints) (constraints-same i) t)
 
-  -- what is derived, and its steps
+  pub alike-exception-count : howMany (exception P) (upTo (count P)) ≡ howMany (exception Q) (upTo (count Q))
+  alike-exception-count t = howMany (alike-exception t) (upTo (a .same-count t))
+
+  pub alike-constraint : (on : Mask) → constraintFact P on ≡ constraintFact Q on
+  unfolding constraintFact
+  alike-constraint on t k = any (λ i. on i && constraints-same i k t) (upTo (a .same-count t))
+
+  pub alike-constraint-count : (on : Mask) → howMany (constraintFact P on) (upTo (P .facts)) ≡ howMany (constraintFact Q on) (upTo (Q .facts))
+  alike-constraint-count on t = howMany (alike-constraint on t) (upTo (a .same-facts t))
+
+  -- What is derived, and its steps.
   conclude-alike : (S : FactSet) (i : ℕ) → conclude P S i ≡ conclude Q S i
   conclude-alike S i t f = eqb f (conclusion-same i t) || S f
 
@@ -106,7 +117,7 @@ module _ {P Q : Program} (a : Alike P Q) where
 
   plainRules-alike : (on : Mask) → plainRules P on ≡ plainRules Q on
   unfolding plainRules
-  plainRules-alike on t i = on i && plain-alike i t
+  plainRules-alike on t i = on i && alike-plain t i
 
   closure-alike : (on : Mask) (S : FactSet) → closure P on S ≡ closure Q on S
   closure-alike on S t = alike-derive (plainRules-alike on t) S t
@@ -119,10 +130,10 @@ module _ {P Q : Program} (a : Alike P Q) where
   unfolding spares
   spares-alike T is t = all (λ i. constraints-alike T i t) is
 
-  pub alike-eligible : (on : Mask) (s : Stand) (i : ℕ) → eligible P on s i ≡ eligible Q on s i
+  pub alike-eligible : (on : Mask) → eligible P on ≡ eligible Q on
   unfolding eligible
-  alike-eligible on s i t =
-      alike-exception i t && on i
+  alike-eligible on t s i =
+      alike-exception t i && on i
       && not (s .derived (conclusion-same i t))
       && premises-alike (s .derived) i t
       && constraints-alike (trial-alike on (s .derived) i t) i t
@@ -145,76 +156,102 @@ module _ {P Q : Program} (a : Alike P Q) where
   unfolding run
   alike-run on order t =
       after (λ s i. stage-alike on s i t) (start-alike on t)
-      (picks (λ s. seek (λ i. alike-eligible on s i t) order) (λ s i. stage-alike on s i t) (a .same-count t) (start-alike on t))
+      (picks (λ s. seek (alike-eligible on t s) order) (λ s i. stage-alike on s i t) (a .same-count t) (start-alike on t))
 
-  pub alike-aside : (on : Mask) (D : FactSet) (i : ℕ) → setAside P on D i ≡ setAside Q on D i
+  pub alike-aside : (on : Mask) → setAside P on ≡ setAside Q on
   unfolding setAside
-  alike-aside on D i t =
+  alike-aside on t D i =
       ltb i (a .same-count t) && on i
       && premises-alike D i t
       && constraints-alike D i t
       && not (D (conclusion-same i t))
 
-  rejected-alike : (applied : List ℕ) (f : ℕ) → rejected P applied f ≡ rejected Q applied f
+  pub alike-rejected : rejected P ≡ rejected Q
   unfolding rejected
-  rejected-alike applied f t = any (λ i. constraints-same i f t) applied
+  alike-rejected t applied f = any (λ i. constraints-same i f t) applied
 
   -- So are the marks that it writes.
-  pub alike-factMarks : (s : Stand) → factMarks P s ≡ factMarks Q s
+  pub alike-factMark : factMark P ≡ factMark Q
   unfolding factMark
-  alike-factMarks s t =
-      map (λ f. cond (s .derived f) 1 (cond (rejected-alike (s .applied) f t) 2 0)) (upTo (a .same-facts t))
+  alike-factMark t s f = cond (s .derived f) 1 (cond (alike-rejected t (s .applied) f) 2 0)
+
+  pub alike-ruleMark : (on : Mask) → ruleMark P on ≡ ruleMark Q on
+  unfolding ruleMark
+  alike-ruleMark on t s i = cond (alike-plain t i) 0 (cond (mem i (s .applied)) 1 (cond (alike-aside on t (s .derived) i) 2 3))
+
+  pub alike-factMarks : (s : Stand) → factMarks P s ≡ factMarks Q s
+  alike-factMarks s t = map (alike-factMark t s) (upTo (a .same-facts t))
 
   pub alike-ruleMarks : (on : Mask) (s : Stand) → ruleMarks P on s ≡ ruleMarks Q on s
-  unfolding ruleMark
-  alike-ruleMarks on s t =
-      map
-      (λ i. cond (plain-alike i t) 0 (cond (mem i (s .applied)) 1 (cond (alike-aside on (s .derived) i t) 2 3)))
-      (upTo (a .same-count t))
+  alike-ruleMarks on s t = map (alike-ruleMark on t s) (upTo (a .same-count t))
+
+  pub alike-run-factMarks : (on : Mask) (order : List ℕ) → factMarks P (run P on order) ≡ factMarks Q (run Q on order)
+  alike-run-factMarks on order t = alike-factMarks (alike-run on order t) t
+
+  pub alike-run-ruleMarks : (on : Mask) (order : List ℕ) → ruleMarks P on (run P on order) ≡ ruleMarks Q on (run Q on order)
+  alike-run-ruleMarks on order t = alike-ruleMarks on (alike-run on order t) t
 
   pub alike-marks : (on : Mask) (order : List ℕ) → (factMarks P (run P on order) ≡ factMarks Q (run Q on order)) × (ruleMarks P on (run P on order) ≡ ruleMarks Q on (run Q on order))
-  alike-marks on order =
-      (λ t. alike-factMarks (alike-run on order t) t, λ t. alike-ruleMarks on (alike-run on order t) t)
-
-  -- The constraint facts are the same.
-  pub alike-constraint : (on : Mask) (k : ℕ) → constraintFact P on k ≡ constraintFact Q on k
-  unfolding constraintFact
-  alike-constraint on k t = any (λ i. on i && constraints-same i k t) (upTo (a .same-count t))
+  alike-marks on order = (alike-run-factMarks on order, alike-run-ruleMarks on order)
 
   reduct-alike : (on : Mask) (M : FactSet) → reduct P on M ≡ reduct Q on M
   unfolding reduct
   reduct-alike on M t i = on i && constraints-alike M i t
 
-  leastOf-alike : (on : Mask) (G : FactSet) → leastOf P on G ≡ leastOf Q on G
+  pub alike-leastOf : (on : Mask) (G : FactSet) → leastOf P on G ≡ leastOf Q on G
   unfolding leastOf
-  leastOf-alike on G t = alike-derive (reduct-alike on G t) nothing t
+  alike-leastOf on G t = alike-derive (reduct-alike on G t) nothing t
 
   -- The test of stability and the search answer the same, and the search's order is the same.
   pub alike-isStable : (on : Mask) (M : FactSet) → isStable P on M ≡ isStable Q on M
   unfolding isStable
-  alike-isStable on M t = all (λ f. Bool·beq (leastOf-alike on M t f) (M f)) (upTo (a .same-facts t))
+  alike-isStable on M t = all (λ f. Bool·beq (alike-leastOf on M t f) (M f)) (upTo (a .same-facts t))
 
   guessed-alike : (on : Mask) → guessed P on ≡ guessed Q on
   unfolding guessed
-  guessed-alike on t = keep (λ k. alike-constraint on k t) (downFrom (a .same-facts t))
+  guessed-alike on t = keep (alike-constraint on t) (downFrom (a .same-facts t))
 
   fits-alike : (on : Mask) (G : FactSet) → fits P on G ≡ fits Q on G
   unfolding fits
-  fits-alike on G t = all (λ k. Bool·beq (leastOf-alike on G t k) (G k)) (guessed-alike on t)
+  fits-alike on G t = all (λ k. Bool·beq (alike-leastOf on G t k) (G k)) (guessed-alike on t)
 
   pub alike-search : (on : Mask) → search P on ≡ search Q on
   unfolding search
   alike-search on t =
-      elim (hunt (λ G. fits-alike on G t) (guessed-alike on t) nothing) as (λ _. Option FactSet) [ none ↦ none | some G ↦ some (leastOf-alike on G t) ]
+      elim (hunt (λ G. fits-alike on G t) (guessed-alike on t) nothing) as (λ _. Option FactSet) [ none ↦ none | some G ↦ some (alike-leastOf on G t) ]
 
   pub alike-orderFor : (on : Mask) (M : FactSet) → orderFor P on M ≡ orderFor Q on M
   unfolding orderFor
   alike-orderFor on M t =
-      keep (λ i. alike-exception i t && upheld-alike i t) (upTo (a .same-count t))
-      ++ keep (λ i. alike-exception i t && not (upheld-alike i t)) (upTo (a .same-count t))
+      keep (λ i. alike-exception t i && upheld-alike i t) (upTo (a .same-count t))
+      ++ keep (λ i. alike-exception t i && not (upheld-alike i t)) (upTo (a .same-count t))
     where
       upheld-alike : (i : ℕ) → upheld P on M i ≡ upheld Q on M i
       upheld-alike i t = on i && (premises-alike M i t && constraints-alike M i t)
+
+  -- the steps of a row hold alike
+  stepHolds-alike : (on : Mask) (S : FactSet) (s : Step) → stepHolds P on S s ≡ stepHolds Q on S s
+  unfolding stepHolds
+  stepHolds-alike on S s t =
+      ltb (s .by) (a .same-count t) && on (s .by)
+      && eqb (conclusion-same (s .by) t) (s .fact)
+      && premises-alike S (s .by) t
+
+  stepsHold-alike : (on : Mask) (S : FactSet) (row : List Step) → stepsHold P on S row ≡ stepsHold Q on S row
+  stepsHold-alike on S [] = refl
+  stepsHold-alike on S (s ∷ row) = λ t. stepHolds-alike on S s t && stepsHold-alike on (adjoin S (s .fact)) row t
+
+  rowClear-alike : (T : FactSet) (row : List Step) → rowClear P T row ≡ rowClear Q T row
+  rowClear-alike T [] = refl
+  rowClear-alike T (s ∷ row) = λ t. constraints-alike T (s .by) t && rowClear-alike T row t
+
+  -- The proof check answers the same.
+  pub alike-isProof : (on : Mask) (M : FactSet) (row : List Step) (f : ℕ) → isProof P on M row f ≡ isProof Q on M row f
+  unfolding isProof
+  alike-isProof on M row f t =
+      endsWith f row && stepsHold-alike on nothing row t
+      && rowClear-alike (factsOf row) row t
+      && rowClear-alike M row t
 
   closed-alike : (on : Mask) (N : FactSet) → Closed P on N → Closed Q on N
   closed-alike on N c i l o p =
@@ -245,9 +282,34 @@ module _ {P Q : Program} (a : Alike P Q) where
   admits-alike : (M : FactSet) (row : List Step) → Admits P M row → Admits Q M row
   admits-alike M row d k l = sym (constraints-alike a M (stepAt row k .by)) ∙ d k l
 
--- The same sets are stable.
+  earlier-alike : (on : Mask) (M N : FactSet) → Earlier P on M N → Earlier Q on M N
+  earlier-alike on M N e =
+      record {
+        highest = e .highest;
+        is-constraint = same (e .highest) ∙ e .is-constraint;
+        lacks = e .lacks;
+        has = e .has;
+        agree-above = λ k l c. e .agree-above k l (sym (same k) ∙ c);
+      }
+    where
+      same : (k : ℕ) → constraintFact Q on k ≡ constraintFact P on k
+      same k = ap (λ p. p k) (sym (alike-constraint a on))
+
+module _ {P Q : Program} (a : Alike P Q) where
+  earliest-alike : (on : Mask) (ok : FactSet → Bool) (M : FactSet) → Earliest P on ok M → Earliest Q on ok M
+  earliest-alike on ok M e =
+      record {
+        stable = stable-alike a on M (e .stable);
+        passes = e .passes;
+        before-others = λ N s t. ⊎-elim (λ q. inl q) (λ q. inr (earlier-alike a on M N q)) (e .before-others N (stable-alike (alike-sym a) on N s) t);
+      }
+
+-- The same sets are stable, and the same one is the earliest.
 pub alike-stable : {P Q : Program} → Alike P Q → (on : Mask) (M : FactSet) → Stable P on M ↔ Stable Q on M
 alike-stable a on M = (stable-alike a on M, stable-alike (alike-sym a) on M)
+
+pub alike-earliest : {P Q : Program} → Alike P Q → (on : Mask) (ok : FactSet → Bool) (M : FactSet) → Earliest P on ok M ↔ Earliest Q on ok M
+alike-earliest a on ok M = (earliest-alike a on ok M, earliest-alike (alike-sym a) on ok M)
 
 -- The same rows are proofs, and the same sets admit them.
 pub alike-proof : {P Q : Program} → Alike P Q → (on : Mask) (row : List Step) (f : ℕ) → Proof P on row f ↔ Proof Q on row f

@@ -8,11 +8,9 @@ use mathlib.Core.Logic.{⊎-elim}
 use borrow.Author.Tests.{eqb-true}
 use lib.ListN.{length, take}
 use lib.Dec.{eqb}
-use Rattle.theory.specs.Lists.{clear}
-use Rattle.theory.specs.Rule.{Program, Mask, Sub, nothing, rule, plain}
-use Rattle.theory.specs.Derive.{Step, plainRules}
+use Rattle.theory.specs.Rule.{clear, Program, Mask, Sub, nothing, rule, plain, Step, plainRules}
 use Rattle.theory.specs.Run.{Stand, spares, run}
-use Rattle.theory.specs.Proof.{stepAt, factsOf, ruleAt, Proof, Admits, rowTo}
+use Rattle.theory.specs.Stable.{stepAt, factsOf, usedRule, Proof, Admits, rowTo}
 use Rattle.theory.proofs.Bools.{never, and-left, and-right, or-cases}
 use Rattle.theory.proofs.Lists.{less-one, all-elem, clear-anti}
 use Rattle.theory.proofs.Grounds.{Grounds, Grounded, grounds-front, grounds-at, facts-append}
@@ -85,7 +83,7 @@ module _ (P : Program) (on : Mask) (s : Stand) (v : Sound P on s) where
         in-force = λ k l. granted-in-force (stepAt (rowTo f (s .trace)) k .by) (at k l .granted);
         concludes = λ k l. at k l .concludes;
         founded = λ k l. at k l .founded;
-        consistent = λ k l. clear-anti (factsOf (rowTo f (s .trace))) (s .derived) (ruleAt P (rowTo f (s .trace)) k .constraints) (row-inside f) (sound-admits f k l);
+        consistent = λ k l. clear-anti (factsOf (rowTo f (s .trace))) (s .derived) (usedRule P (rowTo f (s .trace)) k .constraints) (row-inside f) (sound-admits f k l);
       }
     where
       m : factsOf (s .trace) f ≡ true

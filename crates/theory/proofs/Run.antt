@@ -1,4 +1,4 @@
--- The run: what holds wherever it stands, and at its end.
+-- What holds wherever a run stands (`Sound`), and at its end: no eligible rule is left, and D and R are disjoint.
 use Prim.Native.Nat.{ℕ, _<_}
 use mathlib.Core.Path.{_≡_, refl, sym, _∙_}
 use mathlib.Core.Bool.{Bool, true, false, not, _&&_, _||_}
@@ -7,12 +7,11 @@ use mathlib.Core.Logic.{_⊎_, inl, inr, ⊎-elim}
 use mathlib.Core.Option.{Option, none, some}
 use borrow.Author.Tests.{ltb-true}
 use lib.Dec.{eqb, ltb}
-use Rattle.theory.specs.Lists.{all, clear, mem}
-use Rattle.theory.specs.Rule.{Program, Mask, FactSet, Sub, nothing, null, count, rule, plain, exception}
-use Rattle.theory.specs.Derive.{Closed, conclude, fired, steps, stepBy, plainRules}
+use Rattle.theory.specs.Rule.{all, clear, mem, Program, Mask, FactSet, Sub, nothing, null, count, rule, plain, exception, Closed, plainRules}
+use Rattle.theory.specs.Derive.{conclude, fired, steps, stepBy}
 use Rattle.theory.specs.Run.{Stand, rejected, spares, trial, eligible, stage, start, firstEligible, run, kept}
 use Rattle.theory.specs.Chaining.{Disjoint, Names}
-use Rattle.theory.specs.Proof.{factsOf}
+use Rattle.theory.specs.Stable.{factsOf}
 use Rattle.theory.proofs.Bools.{never, and-left, and-right, and-both, or-left, or-right, or-cases, not-of-false, false-of-not, false-of}
 use Rattle.theory.proofs.Lists.{seek-some, seek-none, all-elem, all-append, any-witness, clear-elem, mem-cases, mem-here, mem-there, mem-append}
 use Rattle.theory.proofs.Walk as walk

@@ -1,17 +1,16 @@
--- The set of a run is stable for the program less the rules set aside, and a rule once refused stays refused.
+-- The set of a run is stable for the program less the rules set aside, for the whole program if none is, and a rule once refused stays refused.
 use Prim.Native.Nat.{ℕ, _<_}
-use mathlib.Core.Path.{_≡_, refl, sym, _∙_}
+use mathlib.Core.Path.{_≡_, refl, sym, _∙_, ap, fun-ext, subst}
 use mathlib.Core.Bool.{true, false, not, _&&_}
 use mathlib.Core.List.{List, [], _∷_}
 use mathlib.Core.Logic.{⊎-elim}
 use borrow.Author.Tests.{lt-ltb}
 use lib.Dec.{ltb}
-use Rattle.theory.specs.Lists.{all, clear, mem}
-use Rattle.theory.specs.Rule.{Program, Mask, FactSet, Sub, nothing, null, count, rule, plain}
-use Rattle.theory.specs.Derive.{Closed, plainRules, conclude}
+use Rattle.theory.specs.Rule.{all, clear, mem, Program, Mask, FactSet, Sub, nothing, null, count, rule, plain, Closed, plainRules}
+use Rattle.theory.specs.Derive.{conclude}
 use Rattle.theory.specs.Run.{Stand, spares, trial, eligible, run, setAside, kept}
 use Rattle.theory.specs.Stable.{reduct, Stable}
-use Rattle.theory.proofs.Bools.{either, never, and-left, and-right, and-both, or-cases, not-of-false, false-of-not, false-of}
+use Rattle.theory.proofs.Bools.{either, never, and-left, and-right, and-both, or-cases, not-of-false, false-of-not, false-of, and-true}
 use Rattle.theory.proofs.Lists.{all-elem, all-of, clear-anti}
 use Rattle.theory.proofs.Derive.{derive-mono, adjoin-above, adjoin-has, adjoin-sub}
 use Rattle.theory.proofs.Grounds.{grounds-below}
@@ -59,8 +58,16 @@ sound-stable P on s v =
         left : on i ≡ true → clear (s .derived) (rule P i .constraints) ≡ true → reduct P (kept P on (s .derived)) (s .derived) i ≡ true
         left o l = and-both (and-both o (not-of-false (concluded-kept P on (s .derived) i d))) l
 
+-- The run ends at a stable set of the rules in force less those set aside, ..
 pub run-stable : (P : Program) (on : Mask) (order : List ℕ) → Stable P (kept P on (run P on order .derived)) (run P on order .derived)
 run-stable P on order = sound-stable P on (run P on order) (run-sound P on order)
+
+-- .. so a run that sets nothing aside ends at a stable set of all the rules in force (document 000, theorem 3.3).
+pub none-aside-stable : (P : Program) (on : Mask) (order : List ℕ) → ((i : ℕ) → setAside P on (run P on order .derived) i ≡ false) → Stable P on (run P on order .derived)
+none-aside-stable P on order none = subst (λ r. Stable P r (run P on order .derived)) all-kept (run-stable P on order)
+  where
+    all-kept : kept P on (run P on order .derived) ≡ on
+    all-kept = fun-ext (λ i. ap (λ b. on i && not b) (none i) ∙ and-true (on i))
 
 -- Once refused, always refused: a rule whose premises are in D and that is not eligible is not eligible at any later stage.
 pub refused-stays : (P : Program) (on : Mask) (s t : Stand) (i : ℕ) → Sub (s .derived) (t .derived) → ((j : ℕ) → mem j (s .applied) ≡ true → mem j (t .applied) ≡ true) → all (s .derived) (rule P i .premises) ≡ true → eligible P on s i ≡ false → eligible P on t i ≡ false

@@ -9,10 +9,10 @@ use mathlib.Core.Option.{Option, none, some}
 use borrow.Author.Tests.{eqb-true, ltb-true}
 use lib.ListN.{length}
 use lib.Dec.{eqb, ltb}
-use Rattle.theory.specs.Lists.{mem, keep, upTo, downFrom, howMany}
-use Rattle.theory.specs.Rule.{Program, Mask, FactSet, Same, nothing, adjoin, count, rule, exception, constraintFact, Bounded}
-use Rattle.theory.specs.Stable.{reduct, Stable, leastOf}
-use Rattle.theory.specs.Search.{Earlier, Earliest, guessed, fits, hunt, search, upheld, orderFor}
+use Rattle.theory.specs.Rule.{mem, keep, upTo, downFrom, howMany, Program, Mask, FactSet, Same, nothing, adjoin, count, rule, exception, constraintFact, Bounded}
+use Rattle.theory.specs.Check.{leastOf}
+use Rattle.theory.specs.Stable.{reduct, Stable, Earlier, Earliest, anySet, upheld, orderFor}
+use Rattle.theory.specs.Search.{guessed, fits, hunt, search}
 use Rattle.theory.specs.Chaining.{Names}
 use Rattle.theory.proofs.Bools.{either, never, and-left, and-right, and-both, and-true, and-false, or-left, or-false, or-false-left, or-false-right, false-of, beq-true, beq-refl}
 use Rattle.theory.proofs.Lists.{all-elem, all-of, mem-cases, mem-here, mem-there, mem-keep, mem-downFrom, downFrom-mem, howMany-ext, howMany-split, howMany-keep, howMany-every, howMany-none, howMany-upTo}
@@ -221,10 +221,18 @@ module _ (P : Program) (on : Mask) where
       all-of (λ j. Bool·beq (leastOf P on (guessOf N) j) (guessOf N j)) (guessed P on)
       (λ k m. beq-refl _ _ (ap (λ X. X k) (guess-least b N s) ∙ sym (guess-agrees b N k (guessed-constraint k m))))
 
-  -- some guess is found for every stable set, and it is not later
-  found : Bounded P → (N : FactSet) → Stable P on N → (G : FactSet) × (hunt (fits P on) (guessed P on) nothing ≡ some G) × NotLater (guessed P on) G (guessOf N)
-  found b N s =
-      hunt-finds (fits P on) (guessed P on) nothing (guessOf N) guessed-descending (λ j m. refl) (λ j m. rw m refl) (guess-fits b N s)
+  -- the guess fits, and its least set passes a test
+  abbrev fitsAnd : (FactSet → Bool) → FactSet → Bool
+  fitsAnd ok G = fits P on G && ok (leastOf P on G)
+
+  fits-any : fitsAnd anySet ≡ fits P on
+  fits-any = fun-ext (λ G. and-true (fits P on G))
+
+  -- some guess is found for every stable set that passes, and it is not later
+  found : Bounded P → (ok : FactSet → Bool) (N : FactSet) → Stable P on N → ok N ≡ true → (G : FactSet) × (hunt (fitsAnd ok) (guessed P on) nothing ≡ some G) × NotLater (guessed P on) G (guessOf N)
+  found b ok N s t =
+      hunt-finds (fitsAnd ok) (guessed P on) nothing (guessOf N) guessed-descending (λ j m. refl) (λ j m. rw m refl)
+      (and-both (guess-fits b N s) (ap ok (guess-least b N s) ∙ t))
 
   -- the search takes the least set of the first guess that fits
   search-of : (G : FactSet) → hunt (fits P on) (guessed P on) nothing ≡ some G → search P on ≡ some (leastOf P on G)
@@ -263,12 +271,15 @@ module _ (P : Program) (on : Mask) where
       go (inr (inl q)) = inr (inl (earlier-from b M M N N (λ k h. refl) (λ k h. refl) q))
       go (inr (inr q)) = inr (inr (earlier-from b N N M M (λ k h. refl) (λ k h. refl) q))
 
-  -- the first guess that fits gives the earliest stable set
-  first-earliest : Bounded P → (G : FactSet) → hunt (fits P on) (guessed P on) nothing ≡ some G → Earliest P on (leastOf P on G)
-  first-earliest b G e = record { stable = fits-stable b G fit; before-others = others }
+  -- the first guess that fits and passes gives the earliest stable set that passes
+  first-earliest : Bounded P → (ok : FactSet → Bool) (G : FactSet) → hunt (fitsAnd ok) (guessed P on) nothing ≡ some G → Earliest P on ok (leastOf P on G)
+  first-earliest b ok G e = record { stable = fits-stable b G fit; passes = and-right (fits P on G) _ taken; before-others = others }
     where
+      taken : fitsAnd ok G ≡ true
+      taken = hunt-sound (fitsAnd ok) (guessed P on) nothing G e .0
+
       fit : fits P on G ≡ true
-      fit = hunt-sound (fits P on) (guessed P on) nothing G e .0
+      fit = and-left (fits P on G) _ taken
 
       meets : Agree P on (leastOf P on G) G
       meets = fits-agree b G fit
@@ -277,23 +288,23 @@ module _ (P : Program) (on : Mask) where
       join N s (inl q) = inl (λ f. ap (λ X. X f) (ap (leastOf P on) q ∙ guess-least b N s))
       join N s (inr q) = inr (earlier-from b (leastOf P on G) G (guessOf N) N meets (guess-agrees b N) q)
 
-      others : (N : FactSet) → Stable P on N → Same (leastOf P on G) N ⊎ Earlier P on (leastOf P on G) N
-      others N s =
-          let (H, h, n) = found b N s in
+      others : (N : FactSet) → Stable P on N → ok N ≡ true → Same (leastOf P on G) N ⊎ Earlier P on (leastOf P on G) N
+      others N s t =
+          let (H, h, n) = found b ok N s t in
           let g : H ≡ G = cc in
           join N s (rw g at n)
 
   -- The set that the search takes is the earliest stable set.
-  pub search-earliest : Bounded P → (M : FactSet) → search P on ≡ some M → Earliest P on M
+  pub search-earliest : Bounded P → (M : FactSet) → search P on ≡ some M → Earliest P on anySet M
   search-earliest b M e =
       let (G, h, q) = search-from M e in
-      subst (Earliest P on) q (first-earliest b G h)
+      subst (Earliest P on anySet) q (first-earliest b anySet G (rw fits-any h))
 
   -- Where it takes none, no set is stable.
   pub search-none : Bounded P → _≡_ {A = Option FactSet} (search P on) none → (M : FactSet) → Stable P on M → ⊥
   search-none b e M s =
-      let (G, h, n) = found b M s in
-      let q : search P on ≡ some (leastOf P on G) = search-of G h in
+      let (G, h, n) = found b anySet M s refl in
+      let q : search P on ≡ some (leastOf P on G) = search-of G (rw fits-any at h) in
       let z : _≡_ {A = ℕ} 0 1 = cc in
       omega arith
 
@@ -308,27 +319,26 @@ module _ (P : Program) (on : Mask) where
       not-above : (M N : FactSet) (u : Earlier P on M N) (v : Earlier P on N M) → ¬ (u .highest < v .highest)
       not-above M N u v l = never (v .has) (u .agree-above (v .highest) l (v .is-constraint) ∙ v .lacks)
 
-  -- There is at most one earliest stable set, ..
-  pub earliest-unique : (M N : FactSet) → Earliest P on M → Earliest P on N → Same M N
-  earliest-unique M N u v =
+  -- Of the stable sets that pass a test at most one is the earliest, ..
+  pub earliest-unique : (ok : FactSet → Bool) (M N : FactSet) → Earliest P on ok M → Earliest P on ok N → Same M N
+  earliest-unique ok M N u v =
       ⊎-elim (λ e. e)
-      (λ e. ⊎-elim (λ g f. sym (g f)) (λ g. absurd (earlier-once M N e g)) (v .before-others M (u .stable)))
-      (u .before-others N (v .stable))
+      (λ e. ⊎-elim (λ g f. sym (g f)) (λ g. absurd (earlier-once M N e g)) (v .before-others M (u .stable) (u .passes)))
+      (u .before-others N (v .stable) (v .passes))
 
-  -- .. and there is one exactly when some set is stable.
-  pub earliest-exists : Bounded P → ((M : FactSet) × Stable P on M) ↔ ((M : FactSet) × Earliest P on M)
-  earliest-exists b = (λ t. into t (search P on) refl, λ t. (t .0, t .1 .stable))
+  -- .. and there is one exactly when some stable set passes.
+  pub earliest-exists : Bounded P → (ok : FactSet → Bool) → ((M : FactSet) × Stable P on M × (ok M ≡ true)) ↔ ((M : FactSet) × Earliest P on ok M)
+  earliest-exists b ok = (into, λ t. (t .0, t .1 .stable, t .1 .passes))
     where
-      into : (M : FactSet) × Stable P on M → (o : Option FactSet) → search P on ≡ o → (M : FactSet) × Earliest P on M
-      into t (some M) e = (M, search-earliest b M e)
-      into t none e = absurd (search-none b e (t .0) (t .1))
+      into : (M : FactSet) × Stable P on M × (ok M ≡ true) → (M : FactSet) × Earliest P on ok M
+      into t = let (G, h, n) = found b ok (t .0) (t .1) (t .2) in (leastOf P on G, first-earliest b ok G h)
 
   -- The search takes exactly the earliest stable set.
-  pub search-exactly : Bounded P → (M : FactSet) → (search P on ≡ some M) ↔ Earliest P on M
+  pub search-exactly : Bounded P → (M : FactSet) → (search P on ≡ some M) ↔ Earliest P on anySet M
   search-exactly b M = (search-earliest b M, λ e. go e (search P on) refl)
     where
-      go : Earliest P on M → (o : Option FactSet) → search P on ≡ o → search P on ≡ some M
-      go e (some N) q = let n : N ≡ M = fun-ext (earliest-unique N M (search-earliest b N q) e) in rw n at q
+      go : Earliest P on anySet M → (o : Option FactSet) → search P on ≡ o → search P on ≡ some M
+      go e (some N) q = let n : N ≡ M = fun-ext (earliest-unique anySet N M (search-earliest b N q) e) in rw n at q
       go e none q = absurd (search-none b q M (e .stable))
 
   exception-known : (r : ℕ) → exception P r ≡ true → r < count P

@@ -9,11 +9,10 @@ use borrow.Author.Tests.{eqb-true, not-false}
 use native.Mathlib.Decide.{decLt}
 use lib.ListN.{length, take}
 use lib.Dec.{eqb}
-use Rattle.theory.specs.Lists.{all, clear, mem, upTo}
-use Rattle.theory.specs.Rule.{Program, Mask, FactSet, Sub, Same, nothing, count, rule, constraintFact, Bounded}
-use Rattle.theory.specs.Derive.{Step, derive, Closed, Least}
-use Rattle.theory.specs.Stable.{reduct, Stable, leastOf, isStable, Within}
-use Rattle.theory.specs.Proof.{stepAt, factsOf, ruleAt, Proof, Admits}
+use Rattle.theory.specs.Rule.{all, clear, mem, upTo, Program, Mask, FactSet, Sub, Same, nothing, count, rule, constraintFact, Bounded, Step, Closed, Least}
+use Rattle.theory.specs.Derive.{derive}
+use Rattle.theory.specs.Check.{leastOf, isStable}
+use Rattle.theory.specs.Stable.{reduct, Stable, Within, stepAt, factsOf, usedRule, Proof, Admits}
 use Rattle.theory.proofs.Bools.{either, never, and-left, and-right, and-both, or-cases, or-false-left, or-false-right, or-none, or-assoc, false-of, false-of-not, not-of-false, both-ways, beq-true, beq-refl}
 use Rattle.theory.proofs.Lists.{eqb-self, all-elem, all-of, all-mono, all-fails, clear-ext, clear-anti, any-witness, any-of, mem-upTo, upTo-mem}
 use Rattle.theory.proofs.Derive.{derive-least, least-mono, least-same}
@@ -180,7 +179,7 @@ module _ (P : Program) (on : Mask) where
       next k l s =
           rw (← p .concludes k l)
           (c (stepAt row k .by) (p .known k l) (reduct-has M (stepAt row k .by) (p .in-force k l) (a k l))
-          (all-mono (factsOf (take k row)) M (ruleAt P row k .premises) s (p .founded k l)))
+          (all-mono (factsOf (take k row)) M (usedRule P row k .premises) s (p .founded k l)))
 
       earlier : (k : ℕ) → k ≤ length row → Sub (factsOf (take k row)) M
       earlier zero l g t = never t refl

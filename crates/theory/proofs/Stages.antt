@@ -1,15 +1,21 @@
--- Where a run stands after each number of stages; it comes to rest at its end.
-use Prim.Native.Nat.{ℕ, zero, suc, _+_}
+-- Where a run stands after each number of stages: at which stages it takes a rule, which one, and that it comes to rest at its end.
+use Prim.Native.Nat.{ℕ, zero, suc, _+_, _≤_, _<_}
+use native.Mathlib.Omega.{arith}
 use native.Mathlib.Nat.{add-suc, add-zero, add-comm}
 use mathlib.Core.Path.{_≡_, refl, sym, _∙_, ap}
-use mathlib.Core.List.{List}
+use mathlib.Core.Bool.{true}
+use mathlib.Core.List.{List, [], _∷_}
+use mathlib.Core.Logic.{⊎-elim, _↔_}
 use mathlib.Core.Option.{Option, none, some}
-use Rattle.theory.specs.Rule.{Program, Mask, count}
+use lib.ListN.{length-append}
+use Rattle.theory.specs.Rule.{mem, Program, Mask, count}
 use Rattle.theory.specs.Walk.{picks, after}
-use Rattle.theory.specs.Run.{Stand, stage, start, firstEligible, run}
+use Rattle.theory.specs.Run.{Stand, stage, start, firstEligible, run, stageCount}
+use Rattle.theory.proofs.Bools.{never, or-right}
+use Rattle.theory.proofs.Lists.{mem-here, mem-append, mem-left}
 use Rattle.theory.proofs.Walk as walk
 use Rattle.theory.proofs.Derive.{openRules, open-most}
-use Rattle.theory.proofs.Run.{picked, stage-less, run-ends}
+use Rattle.theory.proofs.Run.{applied-cases, picked, stage-less, run-ends}
 
 module _ (P : Program) (on : Mask) (order : List ℕ) where
   -- one stage more, or rest
@@ -94,3 +100,83 @@ module _ (P : Program) (on : Mask) (order : List ℕ) where
   -- what each stage keeps, once it holds, holds at the end
   pub stands-end : (Kept : Stand → Type 0) → ((s : Stand) (i : ℕ) → Kept s → Kept (stage P on s i)) → (n : ℕ) → Kept (stands n) → Kept (run P on order)
   stands-end Kept h n t = rw (← stands-rest n, add-comm (count P) n) (stands-more Kept h n (count P) t)
+
+  -- where no rule is taken the run has ended
+  rest-stands : (n k : ℕ) → _≡_ {A = Option ℕ} (firstEligible P on order (stands n)) none → stands (n + k) ≡ stands n
+  rest-stands n zero e = rw (add-zero n) refl
+  rest-stands n (suc k) e = rw (add-suc n k) (ap onward (rest-stands n k e) ∙ onward-none (stands n) e)
+
+  pub rest-ends : (n : ℕ) → _≡_ {A = Option ℕ} (firstEligible P on order (stands n)) none → run P on order ≡ stands n
+  rest-ends n e = sym (stands-rest n) ∙ (rw (add-comm (count P) n) (rest-stands n (count P) e))
+
+  stage-length : (s : Stand) (i : ℕ) → stageCount (stage P on s i) ≡ stageCount s + 1
+  stage-length s i = length-append (s .applied) (i ∷ [])
+
+  -- there are at most as many rules applied as stages
+  stands-most : (n : ℕ) → stageCount (stands n) ≤ n
+  stands-most zero = omega arith
+  stands-most (suc n) = go (firstEligible P on order (stands n)) refl (stands-most n)
+    where
+      go : (o : Option ℕ) → firstEligible P on order (stands n) ≡ o → stageCount (stands n) ≤ n → stageCount (onward (stands n)) ≤ suc n
+      go none e r = rw (onward-none (stands n) e) (omega arith)
+      go (some i) e r =
+          let l : stageCount (stage P on (stands n) i) ≡ stageCount (stands n) + 1 = stage-length (stands n) i in
+          rw (onward-some (stands n) i e) (omega arith)
+
+  -- and just as many where the run goes on
+  stands-all : (n c : ℕ) → firstEligible P on order (stands n) ≡ some c → stageCount (stands n) ≡ n
+  stands-all zero c h = refl
+  stands-all (suc n) c h = go (firstEligible P on order (stands n)) refl (stands-all n)
+    where
+      go : (o : Option ℕ) → firstEligible P on order (stands n) ≡ o → ((d : ℕ) → firstEligible P on order (stands n) ≡ some d → stageCount (stands n) ≡ n) → stageCount (onward (stands n)) ≡ suc n
+      go none e r =
+          let z : _≡_ {A = Option ℕ} none (some c) = sym e ∙ (ap (firstEligible P on order) (sym (onward-none (stands n) e)) ∙ h) in
+          let w : _≡_ {A = ℕ} 0 1 = cc in
+          absurd (omega arith)
+      go (some i) e r =
+          let l : stageCount (stage P on (stands n) i) ≡ stageCount (stands n) + 1 = stage-length (stands n) i in
+          let k : stageCount (stands n) ≡ n = r i e in
+          rw (onward-some (stands n) i e) (omega arith)
+
+  -- A rule is taken at exactly the first stages, as many as the run counts.
+  pub stands-taken : (n : ℕ) → (n < stageCount (run P on order)) ↔ ((c : ℕ) × (firstEligible P on order (stands n) ≡ some c))
+  stands-taken n = (λ l. into l (firstEligible P on order (stands n)) refl, back)
+    where
+      into : n < stageCount (run P on order) → (o : Option ℕ) → firstEligible P on order (stands n) ≡ o → (c : ℕ) × (firstEligible P on order (stands n) ≡ some c)
+      into l none e =
+          let m : stageCount (stands n) ≤ n = stands-most n in
+          let r : n < stageCount (stands n) = rw (rest-ends n e) at l in
+          absurd (omega arith)
+      into l (some c) e = (c, e)
+
+      back : (c : ℕ) × (firstEligible P on order (stands n) ≡ some c) → n < stageCount (run P on order)
+      back t =
+          stands-end (λ s. n < stageCount s)
+          (λ s i l. let m : stageCount (stage P on s i) ≡ stageCount s + 1 = stage-length s i in omega arith)
+          (suc n) (rw (onward-some (stands n) (t .0) (t .1)) next)
+        where
+          next : n < stageCount (stage P on (stands n) (t .0))
+          next =
+              let l : stageCount (stage P on (stands n) (t .0)) ≡ stageCount (stands n) + 1 = stage-length (stands n) (t .0) in
+              let a : stageCount (stands n) ≡ n = stands-all n (t .0) (t .1) in
+              omega arith
+
+  -- The rules applied are those taken at some stage.
+  pub stands-applied : (c : ℕ) → (mem c (run P on order .applied) ≡ true) ↔ ((n : ℕ) × (firstEligible P on order (stands n) ≡ some c))
+  stands-applied c = (
+    λ m. by-then (count P) (rw run-stands at m),
+    λ t. stands-end (λ s. mem c (s .applied) ≡ true) (λ s i m. mem-left c (s .applied) (i ∷ []) m) (suc (t .0)) (rw (onward-some (stands (t .0)) c (t .1)) (added (stands (t .0)))),
+  )
+    where
+      by-then : (n : ℕ) → mem c (stands n .applied) ≡ true → (m : ℕ) × (firstEligible P on order (stands m) ≡ some c)
+      by-then zero m = never m refl
+      by-then (suc n) m = go (firstEligible P on order (stands n)) refl (by-then n)
+        where
+          go : (o : Option ℕ) → firstEligible P on order (stands n) ≡ o → (mem c (stands n .applied) ≡ true → (k : ℕ) × (firstEligible P on order (stands k) ≡ some c)) → (k : ℕ) × (firstEligible P on order (stands k) ≡ some c)
+          go none e r = r (rw (onward-none (stands n) e) at m)
+          go (some i) e r =
+              ⊎-elim r (λ q. (n, e ∙ ap some (sym q)))
+              (applied-cases P on (stands n .applied) i c (rw (onward-some (stands n) i e) at m))
+
+      added : (s : Stand) → mem c (stage P on s c .applied) ≡ true
+      added s = mem-append c (s .applied) (c ∷ []) ∙ or-right (mem c (s .applied)) _ (mem-here c [])

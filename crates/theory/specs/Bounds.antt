@@ -1,11 +1,11 @@
--- A bound for each branch of the search: which facts are sure and which are possible, whatever the facts left to guess turn out to be.
+-- Internal: a bound for each branch of the search, that is, which facts are sure and which are possible, whatever the facts left to guess turn out
+-- to be; `hunt-alive` joins it to `hunt`.
 use Prim.Native.Nat.{ℕ}
 use mathlib.Core.Bool.{Bool, true, false, cond, not, _||_}
 use mathlib.Core.List.{List, [], _∷_}
 use mathlib.Core.Option.{Option, none, some}
-use Rattle.theory.specs.Lists.{all, mem}
-use Rattle.theory.specs.Rule.{Program, Mask, FactSet, adjoin}
-use Rattle.theory.specs.Stable.{leastOf}
+use Rattle.theory.specs.Rule.{all, mem, Program, Mask, FactSet, adjoin}
+use Rattle.theory.specs.Check.{leastOf}
 use Rattle.theory.specs.Search.{guessed}
 
 -- the facts of G, and those left to guess

@@ -6,9 +6,7 @@ use mathlib.Core.Bool.{true, false, _||_}
 use mathlib.Core.List.{List}
 use mathlib.Core.Logic.{_⊎_, _↔_}
 use lib.ListN.{length, getD}
-use Rattle.theory.specs.Lists.{all, clear, mem}
-use Rattle.theory.specs.Rule.{Program, Mask, FactSet, Same, nothing, adjoin, count, rule, exception}
-use Rattle.theory.specs.Derive.{Least, plainRules}
+use Rattle.theory.specs.Rule.{all, clear, mem, Program, Mask, FactSet, Same, nothing, adjoin, count, rule, exception, Least, plainRules}
 
 -- T is cl_mon(S), the least set above S closed under the plain rules in force.
 abbrev pub IsClosure : Program → Mask → FactSet → FactSet → Type 0
@@ -18,8 +16,9 @@ IsClosure P on S T = Least P (plainRules P on) S T
 abbrev pub Disjoint : FactSet → FactSet → Type 0
 Disjoint S T = (f : ℕ) → S f ≡ true → T f ≡ true → ⊥
 
-abbrev pub constraintsOf : Program → ℕ → FactSet
-constraintsOf P c f = mem f (rule P c .constraints)
+-- cons(C): the set of the constraints of rule c
+abbrev pub constraintSet : Program → ℕ → FactSet
+constraintSet P c f = mem f (rule P c .constraints)
 
 -- C is a clause in force with prem(C) in D, and neither c(C) nor a constraint of C is in D.
 pub record Supported (P : Program) (on : Mask) (D : FactSet) (c : ℕ) : Type 0 where
@@ -35,7 +34,7 @@ pub record Applicable (P : Program) (on : Mask) (D R : FactSet) (c : ℕ) : Type
   pub supported : Supported P on D c
   pub closed : FactSet
   pub is-closure : IsClosure P on (adjoin D (rule P c .conclusion)) closed
-  pub spares-own : Disjoint closed (constraintsOf P c)
+  pub spares-own : Disjoint closed (constraintSet P c)
   pub spares-rejected : Disjoint closed R
 
 -- c stands in the order, and no rule that stands before it is applicable.
@@ -51,7 +50,7 @@ pub record Takes (P : Program) (on : Mask) (order : List ℕ) (D R D′ R′ : F
   pub taken : ℕ
   pub first : First P on order D R taken
   pub derives : IsClosure P on (adjoin D (rule P taken .conclusion)) D′
-  pub rejects : (f : ℕ) → R′ f ≡ R f || constraintsOf P taken f
+  pub rejects : (f : ℕ) → R′ f ≡ R f || constraintSet P taken f
 
 -- Clause 2 where none is: both sets stay.
 pub record Rests (P : Program) (on : Mask) (D R D′ R′ : FactSet) : Type 0 where
@@ -76,7 +75,7 @@ pub record Inconsistent (P : Program) (on : Mask) (D R : FactSet) (c : ℕ) : Ty
   pub is-closure : IsClosure P on (adjoin D (rule P c .conclusion)) closed
   pub met : ℕ
   pub met-in : closed met ≡ true
-  pub met-by : (constraintsOf P c met ≡ true) ⊎ (R met ≡ true)
+  pub met-by : (constraintSet P c met ≡ true) ⊎ (R met ≡ true)
 
 -- The order names every exception rule in force.
 abbrev pub Names : Program → Mask → List ℕ → Type 0

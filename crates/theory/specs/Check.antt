@@ -1,12 +1,19 @@
--- The tests that the proof check runs, step by step.
+-- Internal: the tests that the judge and the proof check run; proofs/Stable and proofs/Check join them to what they mean.
 use Prim.Native.Nat.{ℕ}
-use mathlib.Core.Bool.{Bool, true, false, _&&_}
+use mathlib.Core.Bool.{Bool, true, false, _&&_, Bool·beq}
 use mathlib.Core.List.{List, [], _∷_}
 use lib.Dec.{eqb, ltb}
-use Rattle.theory.specs.Lists.{all, clear}
-use Rattle.theory.specs.Rule.{Program, Mask, FactSet, nothing, adjoin, count, rule}
-use Rattle.theory.specs.Derive.{Step}
-use Rattle.theory.specs.Proof.{factsOf}
+use Rattle.theory.specs.Rule.{all, clear, Program, Mask, FactSet, nothing, adjoin, count, rule, Step, upTo}
+use Rattle.theory.specs.Stable.{factsOf, reduct}
+use Rattle.theory.specs.Derive.{derive}
+
+-- the least set closed under the reduct by G
+unfoldable pub leastOf : Program → Mask → FactSet → FactSet
+leastOf P on G = derive P (reduct P on G) nothing
+
+-- The test of stability: the least set closed under the reduct by M has the facts of M.
+unfoldable pub isStable : Program → Mask → FactSet → Bool
+isStable P on M = all (λ f. Bool·beq (leastOf P on M f) (M f)) (upTo (P .facts))
 
 -- A step after the facts S: its rule is one of the program, in force, and concludes its fact from premises in S.
 unfoldable pub stepHolds : Program → Mask → FactSet → Step → Bool

@@ -1,18 +1,8 @@
--- Programs that differ only in repeats, or in the order of the items, within their rules.
-use Prim.Native.Nat.{ℕ, _<_}
-use mathlib.Core.Path.{_≡_}
+-- The program without repeats within its rules.
+use Prim.Native.Nat.{ℕ}
 use mathlib.Core.Bool.{cond}
 use mathlib.Core.List.{List, [], _∷_, map}
-use Rattle.theory.specs.Lists.{mem}
-use Rattle.theory.specs.Rule.{Program, count, rule}
-
--- Rule by rule the same conclusion, the same premises and the same constraints.
-pub record Alike (P Q : Program) : Type 0 where
-  pub same-facts : P .facts ≡ Q .facts
-  pub same-count : count P ≡ count Q
-  pub same-conclusion : (i : ℕ) → i < count P → rule P i .conclusion ≡ rule Q i .conclusion
-  pub same-premises : (i : ℕ) → i < count P → (f : ℕ) → mem f (rule P i .premises) ≡ mem f (rule Q i .premises)
-  pub same-constraints : (i : ℕ) → i < count P → (f : ℕ) → mem f (rule P i .constraints) ≡ mem f (rule Q i .constraints)
+use Rattle.theory.specs.Rule.{mem, Program, rule}
 
 -- each element once, where it stands last
 abbrev pub once : List ℕ → List ℕ

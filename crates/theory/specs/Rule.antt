@@ -1,11 +1,58 @@
--- Rules, programs and sets of facts (document 01, "Facts, rules and the file").
-use Prim.Native.Nat.{ℕ, _<_}
-use mathlib.Core.Path.{_≡_}
-use mathlib.Core.Bool.{Bool, true, false, not, _&&_, _||_}
+-- Rules, programs and sets of facts, and the least set closed under some rules (document 01, "Facts, rules and the file"), with the tests
+-- over lists that the definitions use.
+use Prim.Native.Nat.{ℕ, zero, suc, _<_}
+use mathlib.Core.Bool.{Bool, true, false, cond, not, _&&_, _||_}
 use mathlib.Core.List.{List, [], _∷_}
-use lib.ListN.{length, getD}
+use mathlib.Core.Option.{Option, none, some}
 use lib.Dec.{eqb, ltb}
-use Rattle.theory.specs.Lists.{all, mem, any, upTo}
+use mathlib.Core.Path.{_≡_}
+use lib.ListN.{length, getD}
+
+-- every element passes the test
+abbrev pub all : (ℕ → Bool) → List ℕ → Bool
+all p [] = true
+all p (x ∷ xs) = p x && all p xs
+
+-- no element passes the test
+abbrev pub clear : (ℕ → Bool) → List ℕ → Bool
+clear p xs = all (λ x. not (p x)) xs
+
+-- some element passes the test
+abbrev pub any : (ℕ → Bool) → List ℕ → Bool
+any p [] = false
+any p (x ∷ xs) = p x || any p xs
+
+-- x is an element
+abbrev pub mem : ℕ → List ℕ → Bool
+mem x ys = any (eqb x) ys
+
+-- the elements that pass the test, in their order
+abbrev pub keep : (ℕ → Bool) → List ℕ → List ℕ
+keep p [] = []
+keep p (x ∷ xs) = cond (p x) (x ∷ keep p xs) (keep p xs)
+
+-- the first element that passes the test
+abbrev pub seek : (ℕ → Bool) → List ℕ → Option ℕ
+seek p [] = none
+seek p (x ∷ xs) = elim (p x) [ true ↦ some x | false ↦ seek p xs ]
+
+-- the n numbers from a on, ascending
+abbrev pub range : ℕ → ℕ → List ℕ
+range a zero = []
+range a (suc n) = a ∷ range (suc a) n
+
+-- the numbers below n, ascending, and descending
+abbrev pub upTo : ℕ → List ℕ
+upTo n = range 0 n
+
+abbrev pub downFrom : ℕ → List ℕ
+downFrom zero = []
+downFrom (suc n) = n ∷ downFrom n
+
+-- how many elements pass the test
+abbrev pub howMany : (ℕ → Bool) → List ℕ → ℕ
+howMany p [] = 0
+howMany p (x ∷ xs) = cond (p x) (suc (howMany p xs)) (howMany p xs)
 
 -- One conclusion, any number of premises, any number of constraints: all facts, by number.
 pub record Rule : Type 0 where
@@ -77,3 +124,31 @@ pub record Bounded (P : Program) : Type 0 where
   pub conclusion-below : (i : ℕ) → i < count P → rule P i .conclusion < P .facts
   pub premises-below : (i : ℕ) → i < count P → all (λ f. ltb f (P .facts)) (rule P i .premises) ≡ true
   pub constraints-below : (i : ℕ) → i < count P → all (λ f. ltb f (P .facts)) (rule P i .constraints) ≡ true
+
+-- Programs that differ only in repeats, or in the order of the items, within their rules: rule by rule the same conclusion, the same premises
+-- and the same constraints.
+pub record Alike (P Q : Program) : Type 0 where
+  pub same-facts : P .facts ≡ Q .facts
+  pub same-count : count P ≡ count Q
+  pub same-conclusion : (i : ℕ) → i < count P → rule P i .conclusion ≡ rule Q i .conclusion
+  pub same-premises : (i : ℕ) → i < count P → (f : ℕ) → mem f (rule P i .premises) ≡ mem f (rule Q i .premises)
+  pub same-constraints : (i : ℕ) → i < count P → (f : ℕ) → mem f (rule P i .constraints) ≡ mem f (rule Q i .constraints)
+
+-- A step: the fact, and the rule that concludes it.
+pub record Step : Type 0 where
+  pub fact : ℕ
+  pub by : ℕ
+
+-- N is closed under the rules that are on.
+abbrev pub Closed : Program → Mask → FactSet → Type 0
+Closed P on N = (i : ℕ) → i < count P → on i ≡ true → all N (rule P i .premises) ≡ true → N (rule P i .conclusion) ≡ true
+
+-- M is the least set above S that is closed under the rules that are on.
+pub record Least (P : Program) (on : Mask) (S M : FactSet) : Type 0 where
+  pub above : Sub S M
+  pub closed : Closed P on M
+  pub below : (N : FactSet) → Sub S N → Closed P on N → Sub M N
+
+-- the plain rules in force
+unfoldable pub plainRules : Program → Mask → Mask
+plainRules P on i = on i && plain P i

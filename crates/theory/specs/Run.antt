@@ -5,10 +5,9 @@ use mathlib.Core.List.{List, [], _∷_, _++_, map}
 use mathlib.Core.Option.{Option}
 use lib.ListN.{length}
 use lib.Dec.{ltb}
-use Rattle.theory.specs.Lists.{all, any, clear, mem, seek, upTo}
-use Rattle.theory.specs.Rule.{Program, Mask, FactSet, nothing, count, rule, plain, exception}
+use Rattle.theory.specs.Rule.{all, any, clear, mem, seek, upTo, Program, Mask, FactSet, nothing, count, rule, plain, exception, Step, plainRules}
 use Rattle.theory.specs.Walk.{picks, after}
-use Rattle.theory.specs.Derive.{Step, stepBy, conclude, closure, steps, plainRules}
+use Rattle.theory.specs.Derive.{stepBy, conclude, closure, steps}
 
 -- Where a run stands: D, the steps that led there, and the rules applied, one at each stage.
 pub record Stand : Type 0 where

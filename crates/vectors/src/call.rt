@@ -1,173 +1,175 @@
-// One vector: its inputs, the operation on them in buffers of the expected lengths, and what is expected.
-use crate::read::further;
-use crate::read::long_number;
+// One case: the call that it asks for, in buffers of the lengths that it says, and whether the reply and every byte are as it expects.
+use crate::read::PLACES;
 use crate::read::number;
-use crate::read::past;
 use crate::read::row;
-use crate::same;
+use rules::answer::Answer;
 
-// Where the next vector stands, and whether this one agreed.
-pub struct Tried {
-    pub at: usize,
-    pub same: bool,
-}
+// No buffer that a case lends is longer.
+const ROOM: usize = 16384;
 
-// What stands in every byte of a buffer before.
-const UNTOUCHED: u8 = 0xA5;
+// The numbers of a reply; where it has fewer, the others are 0.
+const NUMBERS: usize = 6;
 
-// Every length has two bytes.
-const ROOM: usize = 65536;
+// The first row of a case has numbers of two bytes: the operation, whether the file is that of the case before, what every byte of the
+// buffers is before, the asked fact in two halves, the lengths of the four buffers, and the reply.
+const LENGTHS: usize = 10;
 
-fn accept(bytes: &[u8], at: usize) -> Tried {
-    let reply = past(bytes, at);
-    let same = same::file(bytes, reply, retention::retention_accept(row(bytes, at)));
-    Tried {
-        at: further(bytes, reply, 12),
-        same,
+const REPLY: usize = 18;
+
+// The number that a question by itself replies. No case expects the last one, of an operation that there is not.
+fn question(operation: u32, file: &[u8], row: &[u8], fact: u32) -> u32 {
+    let answer = match operation {
+        7 => rules::order::ask_order(file, row),
+        8 => rules::order::ask_list(file, row),
+        9 => rules::fact_set::ask_set(file, row),
+        10 => rules::row::ask_row(file, fact, row),
+        _ => return 65536,
+    };
+    match answer {
+        Answer::Yes => 0,
+        Answer::No(r) => r.number() as u32,
     }
 }
 
-fn judge(bytes: &[u8], at: usize) -> Tried {
-    let list = past(bytes, at);
-    let set = past(bytes, list);
-    let reply = past(bytes, set);
-    let v = retention::retention_judge(row(bytes, at), row(bytes, list), row(bytes, set));
-    Tried {
-        at: further(bytes, reply, 4),
-        same: same::verdict(bytes, reply, v),
-    }
-}
-
-fn check(bytes: &[u8], at: usize) -> Tried {
-    let set = past(bytes, at);
-    let fact = past(bytes, set);
-    let proof = further(bytes, fact, 4);
-    let reply = past(bytes, proof);
-    let v = retention::retention_check(
-        row(bytes, at),
-        row(bytes, set),
-        long_number(bytes, fact),
-        row(bytes, proof),
-    );
-    Tried {
-        at: further(bytes, reply, 4),
-        same: same::verdict(bytes, reply, v),
-    }
-}
-
-// The buffers as they are left against the rows from a place on.
-fn three_same(bytes: &[u8], at: usize, a: &[u8], b: &[u8], c: &[u8]) -> bool {
-    let second = past(bytes, at);
-    let third = past(bytes, second);
-    if !same::bytes(a, row(bytes, at)) {
-        return false;
-    }
-    if !same::bytes(b, row(bytes, second)) {
-        return false;
-    }
-    same::bytes(c, row(bytes, third))
-}
-
-fn run_in(bytes: &[u8], at: usize, reply: usize, f: &mut [u8], r: &mut [u8], s: &mut [u8]) -> bool {
-    let order = past(bytes, at);
-    let c = retention::retention_run(row(bytes, at), row(bytes, order), f, r, s);
-    if !same::counts(bytes, reply, c) {
-        return false;
-    }
-    three_same(bytes, further(bytes, reply, 6), f, r, s)
-}
-
-// The buffers have the lengths of the rows that are expected of them.
-fn run_lent(
-    bytes: &[u8],
-    at: usize,
-    reply: usize,
-    facts: usize,
-    rules: usize,
-    steps: usize,
-) -> bool {
-    let mut f = [UNTOUCHED; ROOM];
-    let mut r = [UNTOUCHED; ROOM];
-    let mut s = [UNTOUCHED; ROOM];
-    if facts <= ROOM {
-        if rules <= ROOM {
-            if steps <= ROOM {
-                return run_in(
-                    bytes,
-                    at,
-                    reply,
-                    &mut f[..facts],
-                    &mut r[..rules],
-                    &mut s[..steps],
-                );
-            }
+// What an operation replies that is lent no buffer.
+fn answer(operation: u32, file: &[u8], second: &[u8], third: &[u8], fact: u32) -> [u32; NUMBERS] {
+    match operation {
+        1 => {
+            let a = retention::retention_accept(file);
+            [
+                a.refusal,
+                a.facts,
+                a.rules,
+                a.exceptions,
+                a.constraints,
+                a.step_bytes,
+            ]
         }
-    }
-    false
-}
-
-fn run(bytes: &[u8], at: usize) -> Tried {
-    let reply = past(bytes, past(bytes, at));
-    let facts = further(bytes, reply, 6);
-    let rules = past(bytes, facts);
-    let steps = past(bytes, rules);
-    let same = run_lent(
-        bytes,
-        at,
-        reply,
-        number(bytes, facts) as usize,
-        number(bytes, rules) as usize,
-        number(bytes, steps) as usize,
-    );
-    Tried {
-        at: past(bytes, steps),
-        same,
+        3 => {
+            let a = retention::retention_judge(file, second, third);
+            [a.refusal, a.verdict, 0, 0, 0, 0]
+        }
+        4 => {
+            let a = retention::retention_check(file, second, fact, third);
+            [a.refusal, a.verdict, 0, 0, 0, 0]
+        }
+        _ => [question(operation, file, second, fact), 0, 0, 0, 0, 0],
     }
 }
 
-fn search_in(
+// What any operation replies, in the buffers that it is lent.
+fn reply(
+    operation: u32,
+    file: &[u8],
+    second: &[u8],
+    third: &[u8],
+    fact: u32,
+    f: &mut [u8],
+    r: &mut [u8],
+    s: &mut [u8],
+    o: &mut [u8],
+) -> [u32; NUMBERS] {
+    match operation {
+        2 => {
+            let a = retention::retention_run(file, second, f, r, s);
+            [a.refusal, a.stages, a.steps, 0, 0, 0]
+        }
+        5 => {
+            let a = retention::retention_search(file, f, r, s, o);
+            [a.refusal, a.stages, a.steps, 0, 0, 0]
+        }
+        6 => [retention::retention_panel(file, f), 0, 0, 0, 0, 0],
+        _ => answer(operation, file, second, third, fact),
+    }
+}
+
+fn same_numbers(head: &[u8], reply: [u32; NUMBERS]) -> bool {
+    let mut i: usize = 0;
+    while i < NUMBERS {
+        if reply[i] != number(head, REPLY + 2 * i) {
+            return false;
+        }
+        i += 1;
+    }
+    true
+}
+
+// A buffer holds the expected bytes, and past them what it held before.
+fn holds(buffer: &[u8], bytes: &[u8], at: usize, fill: u8) -> bool {
+    let front = row(bytes, at);
+    if buffer.len() < front.len() {
+        return false;
+    }
+    let mut i: usize = 0;
+    while i < buffer.len() {
+        let expected = if i < front.len() { front[i] } else { fill };
+        if buffer[i] != expected {
+            return false;
+        }
+        i += 1;
+    }
+    true
+}
+
+fn in_buffers(
     bytes: &[u8],
-    at: usize,
-    reply: usize,
+    head: &[u8],
+    places: [usize; PLACES],
+    file: usize,
+    fill: u8,
     f: &mut [u8],
     r: &mut [u8],
     s: &mut [u8],
     o: &mut [u8],
 ) -> bool {
-    let c = retention::retention_search(row(bytes, at), f, r, s, o);
-    if !same::counts(bytes, reply, c) {
+    let reply = reply(
+        number(head, 0),
+        row(bytes, file),
+        row(bytes, places[3]),
+        row(bytes, places[4]),
+        (number(head, 6) << 16) | number(head, 8),
+        f,
+        r,
+        s,
+        o,
+    );
+    if !same_numbers(head, reply) {
         return false;
     }
-    let facts = further(bytes, reply, 6);
-    let order = past(bytes, past(bytes, past(bytes, facts)));
-    if !three_same(bytes, facts, f, r, s) {
+    if !holds(f, bytes, places[5], fill) {
         return false;
     }
-    same::bytes(o, row(bytes, order))
+    if !holds(r, bytes, places[6], fill) {
+        return false;
+    }
+    if !holds(s, bytes, places[7], fill) {
+        return false;
+    }
+    holds(o, bytes, places[8], fill)
 }
 
-// The first three buffers and the fourth, of the lengths that are expected.
-fn search_lent(
-    bytes: &[u8],
-    at: usize,
-    reply: usize,
-    facts: usize,
-    rules: usize,
-    steps: usize,
-    order: usize,
-) -> bool {
-    let mut f = [UNTOUCHED; ROOM];
-    let mut r = [UNTOUCHED; ROOM];
-    let mut s = [UNTOUCHED; ROOM];
-    let mut o = [UNTOUCHED; ROOM];
+// The case whose rows stand at these places, and whose file may stand before them.
+pub fn agrees(bytes: &[u8], places: [usize; PLACES], file: usize) -> bool {
+    let head = row(bytes, places[0]);
+    let fill = (number(head, 4) % 256) as u8;
+    let facts = number(head, LENGTHS) as usize;
+    let rules = number(head, LENGTHS + 2) as usize;
+    let steps = number(head, LENGTHS + 4) as usize;
+    let order = number(head, LENGTHS + 6) as usize;
+    let mut f = [fill; ROOM];
+    let mut r = [fill; ROOM];
+    let mut s = [fill; ROOM];
+    let mut o = [fill; ROOM];
     if facts <= ROOM {
         if rules <= ROOM {
             if steps <= ROOM {
                 if order <= ROOM {
-                    return search_in(
+                    return in_buffers(
                         bytes,
-                        at,
-                        reply,
+                        head,
+                        places,
+                        file,
+                        fill,
                         &mut f[..facts],
                         &mut r[..rules],
                         &mut s[..steps],
@@ -178,65 +180,4 @@ fn search_lent(
         }
     }
     false
-}
-
-fn search(bytes: &[u8], at: usize) -> Tried {
-    let reply = past(bytes, at);
-    let facts = further(bytes, reply, 6);
-    let rules = past(bytes, facts);
-    let steps = past(bytes, rules);
-    let order = past(bytes, steps);
-    let same = search_lent(
-        bytes,
-        at,
-        reply,
-        number(bytes, facts) as usize,
-        number(bytes, rules) as usize,
-        number(bytes, steps) as usize,
-        number(bytes, order) as usize,
-    );
-    Tried {
-        at: past(bytes, order),
-        same,
-    }
-}
-
-fn panel_in(bytes: &[u8], at: usize, reply: usize, text: &mut [u8]) -> bool {
-    let n = retention::retention_panel(row(bytes, at), text);
-    if n != number(bytes, reply) {
-        return false;
-    }
-    same::bytes(text, row(bytes, further(bytes, reply, 2)))
-}
-
-fn panel_lent(bytes: &[u8], at: usize, reply: usize, length: usize) -> bool {
-    let mut text = [UNTOUCHED; ROOM];
-    if length <= ROOM {
-        return panel_in(bytes, at, reply, &mut text[..length]);
-    }
-    false
-}
-
-fn panel(bytes: &[u8], at: usize) -> Tried {
-    let reply = past(bytes, at);
-    let text = further(bytes, reply, 2);
-    let same = panel_lent(bytes, at, reply, number(bytes, text) as usize);
-    Tried {
-        at: past(bytes, text),
-        same,
-    }
-}
-
-// A vector of any kind, whose byte stands at the place; a kind that there is not does not agree.
-pub fn vector(bytes: &[u8], at: usize, kind: u8) -> Tried {
-    let inputs = further(bytes, at, 1);
-    match kind {
-        1 => accept(bytes, inputs),
-        2 => run(bytes, inputs),
-        3 => judge(bytes, inputs),
-        4 => check(bytes, inputs),
-        5 => search(bytes, inputs),
-        6 => panel(bytes, inputs),
-        _ => Tried { at, same: false },
-    }
 }

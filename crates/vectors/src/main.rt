@@ -1,58 +1,50 @@
-// Reads inputs with the outputs that another implementation of the request expects, runs the operations on them, and prints how many of each
-// kind agreed, and the first that did not.
+// Reads cases with the replies and the bytes that another implementation of the request expects, makes each call, and prints the verdict on
+// each case that has a name, then the counts.
 ghost use mathlib.Core.Path.{_≡_};
 ghost use lib.ListN.{length};
 
 mod call;
 mod read;
 mod report;
-mod same;
 
-use read::Seen;
+use read::NEXT;
+use report::COUNTS;
 
-// More than the file of vectors has.
-const ROOM: usize = 1048576;
+// More than the file of cases has. What is past its end is 0, and ends it.
+const ROOM: usize = 1310720;
 
-// The kinds, from 1 on: accept, run, judge, check, search, panel.
-const KINDS: usize = 7;
-
-// One vector after another, up to the byte 0 that ends them; each is tried by its kind.
-fn try_all(bytes: &[u8], agreed: &mut [u32; KINDS]) -> Seen {
+// One case after another, up to an empty row. Answers the place of that row.
+fn try_all(bytes: &[u8], counts: &mut [u32; COUNTS]) -> usize {
     let mut at: usize = 0;
-    let mut count: u32 = 0;
-    let mut turns: u32 = 100000;
+    let mut file: usize = 0;
+    let mut turns: u32 = 65536;
     while turns > 0 {
-        let kind = read::byte(bytes, at);
-        if kind == 0 {
-            return Seen {
-                count,
-                at,
-                same: true,
-            };
+        let head = read::row(bytes, at);
+        if head.len() == 0 {
+            return at;
         }
-        let tried = call::vector(bytes, at, kind);
-        if !tried.same {
-            return Seen {
-                count,
-                at,
-                same: false,
-            };
+        let places = read::places(bytes, at);
+        if read::number(head, 2) == 0 {
+            file = places[2];
         }
-        report::one_more(agreed, kind);
-        at = tried.at;
-        count = std::num::wrapping_add_u32(count, 1);
+        let same = call::agrees(bytes, places, file);
+        report::verdict(read::row(bytes, places[1]), at, same);
+        let mut k = 2 * (read::number(head, 0) as usize);
+        if !same {
+            k += 1;
+        }
+        if k < COUNTS {
+            counts[k] = std::num::wrapping_add_u32(counts[k], 1);
+        }
+        at = places[NEXT];
         turns -= 1;
     }
-    Seen {
-        count,
-        at,
-        same: false,
-    }
+    at
 }
 
 // The contract gives the length alone, which lending it as a slice needs.
 fn room() -> [u8; ROOM]
-    ensures { λ r. ⌜ 1048576 ≡ length r ⌝ }
+    ensures { λ r. ⌜ 1310720 ≡ length r ⌝ }
 {
     [0; ROOM]
 }
@@ -60,10 +52,9 @@ fn room() -> [u8; ROOM]
 fn main() {
     let mut room = room();
     let fd = os::open_read(b"vectors.bin");
-    let n = io::read_full(fd, &mut room);
+    io::read_full(fd, &mut room);
     libc::close(fd);
-    let mut agreed = [0u32; KINDS];
-    let bytes = inputs::part(&room, n);
-    let seen = try_all(bytes, &mut agreed);
-    report::print(bytes, &agreed, seen);
+    let mut counts = [0u32; COUNTS];
+    let end = try_all(&room, &mut counts);
+    report::counts(&room, end, &counts);
 }

@@ -1,38 +1,46 @@
-// What is printed: a line for each kind, and one for the first vector that did not agree.
-use crate::KINDS;
-use crate::read::Seen;
-use crate::read::further;
-use crate::read::number;
+// What is printed: a line for each case that has a name, and for each that differs; at the end a line for each operation.
+use crate::read::past;
+use crate::read::row;
 use libc::STDOUT_FILENO;
 
-pub fn one_more(agreed: &mut [u32; KINDS], kind: u8) {
-    let k = kind as usize;
-    if k < KINDS {
-        agreed[k] = std::num::wrapping_add_u32(agreed[k], 1);
-    }
-}
+// Operations are counted from 1 on.
+const OPERATIONS: usize = 11;
 
-fn line(text: &[u8], n: u32) {
-    io::write_all(STDOUT_FILENO, text);
-    io::print_decimal(STDOUT_FILENO, n as u64);
+// For each, how many of its cases agreed and how many differed.
+pub const COUNTS: usize = 2 * OPERATIONS;
+
+// A case that differs is told by its place too, since it may have no name.
+pub fn verdict(name: &[u8], at: usize, same: bool) {
+    if same {
+        if name.len() == 0 {
+            return;
+        }
+        io::write_all(STDOUT_FILENO, b"agrees  ");
+    } else {
+        io::write_all(STDOUT_FILENO, b"DIFFERS ");
+        io::print_decimal(STDOUT_FILENO, at as u64);
+        io::write_all(STDOUT_FILENO, b" ");
+    }
+    io::write_all(STDOUT_FILENO, name);
     io::write_all(STDOUT_FILENO, b"\n");
 }
 
-// The last two bytes say how many vectors there are.
-pub fn print(bytes: &[u8], agreed: &[u32; KINDS], seen: Seen) {
-    line(b"accept ", agreed[1]);
-    line(b"run ", agreed[2]);
-    line(b"judge ", agreed[3]);
-    line(b"check ", agreed[4]);
-    line(b"search ", agreed[5]);
-    line(b"panel ", agreed[6]);
-    if !seen.same {
-        line(b"first mismatch: vector ", seen.count);
-    }
-    if seen.count != number(bytes, further(bytes, seen.at, 1)) {
-        line(
-            b"vectors expected: ",
-            number(bytes, further(bytes, seen.at, 1)),
-        );
+fn line(name: &[u8], agreed: u32, differed: u32) {
+    io::write_all(STDOUT_FILENO, name);
+    io::write_all(STDOUT_FILENO, b": ");
+    io::print_decimal(STDOUT_FILENO, agreed as u64);
+    io::write_all(STDOUT_FILENO, b" agree, ");
+    io::print_decimal(STDOUT_FILENO, differed as u64);
+    io::write_all(STDOUT_FILENO, b" differ\n");
+}
+
+// Past the empty row stand the names of the operations.
+pub fn counts(bytes: &[u8], end: usize, counts: &[u32; COUNTS]) {
+    let mut at = past(bytes, end);
+    let mut k: usize = 1;
+    while k < OPERATIONS {
+        line(row(bytes, at), counts[2 * k], counts[2 * k + 1]);
+        at = past(bytes, at);
+        k += 1;
     }
 }

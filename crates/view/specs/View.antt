@@ -16,7 +16,7 @@ use Rattle.view.specs.declared.items.Range.{Range}
 -- The bytes of the premises and constraints that stand before an item of another kind.
 abbrev pub ownBytes : List Token → ℕ
 ownBytes [] = 0
-ownBytes (bad r ∷ ts) = 0
+ownBytes (bad fault ∷ ts) = 0
 ownBytes (item (Premise f) ∷ ts) = itemWidth + ownBytes ts
 ownBytes (item (Constraint f) ∷ ts) = itemWidth + ownBytes ts
 ownBytes (item (Facts n) ∷ ts) = 0
@@ -37,7 +37,7 @@ pub record OwnRange (s : List ℕ) (p : ℕ) (r : Range) : Type 0 where
 -- What the first of these items is to a rule.
 abbrev pub ownOf : List Token → Own
 ownOf [] = own.Ended
-ownOf (bad r ∷ ts) = own.Ended
+ownOf (bad fault ∷ ts) = own.Ended
 ownOf (item (Premise f) ∷ ts) = own.Premise f
 ownOf (item (Constraint f) ∷ ts) = own.Constraint f
 ownOf (item (Facts n) ∷ ts) = own.Ended

@@ -47,6 +47,9 @@ fn end_of(file: &[u8], at: usize) -> usize
                     return cursor.at;
                 }
             },
+            Read::Ended(_) => {
+                return cursor.at;
+            }
         }
     }
 }
@@ -78,6 +81,7 @@ pub fn item_in(file: &[u8], at: usize, end: usize) -> Own
             Item::Constraint(f) => Own::Constraint(f),
             _ => Own::Ended,
         },
+        Read::Ended(_) => Own::Ended,
     }
 }
 
@@ -96,5 +100,6 @@ pub fn past_item(file: &[u8], at: usize, end: usize) -> usize
             Item::Constraint(_) => next.at,
             _ => end,
         },
+        Read::Ended(_) => end,
     }
 }

@@ -269,7 +269,7 @@ fn report_difference(number: usize, case: Case) {
             println!("set      {}\nfact     {}", hex(&case.set), case.asked);
             println!("proof    {}", hex(&case.proof));
         }
-        Operation::Accept | Operation::Search | Operation::Panel => {}
+        _ => {}
     }
     println!("buffers  {:?} bytes", case.lent);
     println!("{}", compare(&case).expect_err("the shrunk case differs"));
@@ -285,7 +285,7 @@ fn run(settings: &Settings) -> Result<bool, String> {
     }
     let count = settings.count.max(purposeful.len());
     let seconds = started.elapsed().as_secs_f64();
-    let (table, all_met) = tally.table();
+    let (table, all_met) = tally.table(false);
     print!("{table}");
     println!(
         "{count} cases agree, {} of them made on purpose; seed {}; {seconds:.1} s, {:.0} cases/s",

@@ -1,28 +1,30 @@
-//! Writes inputs with the outputs that the reference expects, for a reader that
-//! goes through them once, front to back, and keeps nothing.
+//! Writes inputs with the outputs that are expected, for a reader that goes
+//! through them once, front to back.
 //!
-//! vectors <path>
+//! vectors <path> <list>..
 //!
-//! Numbers of two and four bytes are high byte first. The file is a row of
-//! vectors, then the byte 00 and two bytes that count the vectors.
+//! The named cases of the lists come first, in their order, then cases without a
+//! name, whose outputs are the reference's: those made on purpose, every cut of an
+//! example under every operation, and random ones.
 //!
-//! A vector is:
+//! The file is a row of rows. A row is two bytes of length, high byte first, and
+//! that many bytes; all numbers have two bytes too. A case is nine rows:
 //!
-//! - one byte, the operation: 1 accept, 2 run, 3 judge, 4 check, 5 search,
-//!   6 panel;
-//! - its inputs in the order of the C interface, each two bytes of length and
-//!   then the bytes; the asked fact of a check is four bytes without a length.
-//!   1: file. 2: file, order. 3: file, list, set. 4: file, set, fact, proof.
-//!   5: file. 6: file;
-//! - the expected reply, two bytes for each number.
-//!   1: refusal, facts, rules, exceptions, constraints, step bytes.
-//!   2 and 5: refusal, stages, steps. 3 and 4: refusal, verdict. 6: the length;
-//! - each lent buffer in the order of the C interface: two bytes of length and
-//!   then that many bytes as expected after the call. Before the call the buffer
-//!   has this length and holds A5 throughout.
-//!   1, 3 and 4: none. 2: fact marks, rule marks, steps. 5: these and the order.
-//!   6: the text.
+//! - its numbers: the operation, from 1 in the order of `Operation::ALL`; 1 where
+//!   the file is that of the case before and its row is empty, else 0; the byte
+//!   that every lent buffer holds throughout before the call; the asked fact, its
+//!   high half and its low half; the lengths of the four buffers; and the reply in
+//!   the order of the C structure, without the zeros at its end;
+//! - its name, or nothing;
+//! - the file;
+//! - two more inputs, in the order of the operation's parameters;
+//! - what is expected of the four buffers: the bytes up to the last that differs
+//!   from the byte before the call. A panel's text is in the first.
+//!
+//! After the last case stands an empty row, then the name of each operation.
 
+#[path = "../caller.rs"]
+mod caller;
 #[path = "../cases.rs"]
 mod cases;
 #[path = "../directed.rs"]
@@ -31,54 +33,82 @@ mod directed;
 mod draft;
 #[path = "../files.rs"]
 mod files;
+#[path = "../large.rs"]
+mod large;
+#[path = "../list.rs"]
+mod list;
+#[path = "../notation.rs"]
+mod notation;
 #[path = "../random.rs"]
 mod random;
 
 use cases::{Case, Operation, Reply, Tally, random_case};
 use directed::{all_operations, directed_cases, examples};
+use list::List;
 use random::Random;
 use std::process::ExitCode;
 
 const SEED: u64 = 1;
 const RANDOM_VECTORS: usize = 3_500;
-const MOST_BYTES: usize = 900_000;
+/// The reader has some more room for the file, and this for each buffer.
+const MOST_BYTES: usize = 1_200_000;
+const MOST_LENT: usize = 16_384;
+/// What the buffers of cases without a name hold.
+const UNTOUCHED: u8 = 0xA5;
 /// A random vector above the first size is large, above the second left out.
 const LARGE: usize = 1_000;
 const TOO_LARGE: usize = 8_000;
 const MOST_LARGE: usize = 40;
+const BUFFERS: usize = 4;
 
-fn put_number(out: &mut Vec<u8>, number: usize) {
-    let number = u16::try_from(number).expect("all numbers fit in two bytes");
-    out.extend(number.to_be_bytes());
+fn put_row(out: &mut Vec<u8>, row: &[u8]) {
+    let length = u16::try_from(row.len()).expect("a row's length fits in two bytes");
+    out.extend(length.to_be_bytes());
+    out.extend(row);
 }
 
-fn put_bytes(out: &mut Vec<u8>, bytes: &[u8]) {
-    put_number(out, bytes.len());
-    out.extend(bytes);
+fn put_numbers(out: &mut Vec<u8>, numbers: &[u32]) {
+    let two_bytes =
+        |&number: &u32| u16::try_from(number).expect("a number fits in two bytes").to_be_bytes();
+    put_row(out, &numbers.iter().flat_map(two_bytes).collect::<Vec<u8>>());
 }
 
-fn put_inputs(out: &mut Vec<u8>, case: &Case) {
-    put_bytes(out, &case.file);
+/// The inputs after the file.
+fn inputs(case: &Case) -> [&[u8]; 2] {
     match case.operation {
-        Operation::Accept | Operation::Search | Operation::Panel => {}
-        Operation::Run => put_bytes(out, &case.rules),
-        Operation::Judge => {
-            put_bytes(out, &case.rules);
-            put_bytes(out, &case.set);
-        }
-        Operation::Check => {
-            put_bytes(out, &case.set);
-            out.extend(case.asked.to_be_bytes());
-            put_bytes(out, &case.proof);
-        }
+        Operation::Accept | Operation::Search | Operation::Panel => [&[], &[]],
+        Operation::Run | Operation::AskOrder | Operation::AskList => [&case.rules, &[]],
+        Operation::Judge => [&case.rules, &case.set],
+        Operation::Check => [&case.set, &case.proof],
+        Operation::AskSet => [&case.set, &[]],
+        Operation::AskRow => [&case.proof, &[]],
     }
 }
 
-fn vector(case: &Case, expected: &Reply) -> Vec<u8> {
-    let mut out = vec![case.operation as u8 + 1];
-    put_inputs(&mut out, case);
-    expected.numbers.iter().for_each(|&number| put_number(&mut out, number as usize));
-    expected.buffers.iter().for_each(|buffer| put_bytes(&mut out, buffer));
+/// A row without the values at its end that are equal to this one.
+fn without_end<T: PartialEq>(row: &[T], value: T) -> &[T] {
+    let kept = row.iter().rposition(|other| *other != value).map_or(0, |last| last + 1);
+    &row[..kept]
+}
+
+/// The rows of a case; its file is left out where it is that of the case before.
+fn vector(name: &str, case: &Case, fill: u8, expected: &Reply, file_before: &[u8]) -> Vec<u8> {
+    assert!(case.lent.iter().all(|&length| length <= MOST_LENT), "{name}: too much is lent");
+    let same_file = case.file == file_before;
+    let mut numbers = vec![case.operation as u32 + 1, u32::from(same_file), u32::from(fill)];
+    numbers.extend([case.asked >> 16, case.asked & 0xFFFF]);
+    let length = |buffer| case.lent.get(buffer).map_or(0, |&length| length as u32);
+    numbers.extend((0..BUFFERS).map(length));
+    numbers.extend(without_end(&expected.numbers, 0));
+    let mut out = Vec::new();
+    put_numbers(&mut out, &numbers);
+    put_row(&mut out, name.as_bytes());
+    put_row(&mut out, if same_file { &[] } else { &case.file });
+    inputs(case).iter().for_each(|input| put_row(&mut out, input));
+    for buffer in 0..BUFFERS {
+        let buffer = expected.buffers.get(buffer).map_or(&[][..], Vec::as_slice);
+        put_row(&mut out, without_end(buffer, fill));
+    }
     out
 }
 
@@ -86,37 +116,40 @@ fn vector(case: &Case, expected: &Reply) -> Vec<u8> {
 #[derive(Default)]
 struct Vectors {
     bytes: Vec<u8>,
+    file: Vec<u8>,
     count: usize,
     large: usize,
     tally: Tally,
 }
 
 impl Vectors {
-    fn expected(case: &Case) -> Reply {
-        case.expected(|_| 0xA5)
+    fn put(&mut self, name: &str, case: &Case, fill: u8, expected: &Reply) {
+        self.tally.count(case.operation, case.met(expected));
+        self.bytes.extend(vector(name, case, fill, expected, &self.file));
+        self.file.clone_from(&case.file);
+        self.count += 1;
     }
 
-    fn put(&mut self, case: &Case) {
-        let expected = Vectors::expected(case);
-        self.tally.count(case.operation, case.met(&expected));
-        self.bytes.extend(vector(case, &expected));
-        self.count += 1;
+    fn put_unnamed(&mut self, case: &Case) {
+        self.put("", case, UNTOUCHED, &case.expected(|_| UNTOUCHED));
     }
 
     /// Few random vectors may be large, so that the reader is quick.
     fn put_if_small(&mut self, case: &Case) {
-        let size = vector(case, &Vectors::expected(case)).len();
+        let expected = case.expected(|_| UNTOUCHED);
+        let [second, third] = inputs(case).map(<[u8]>::len);
+        let size = case.file.len() + second + third + case.lent.iter().sum::<usize>();
         if size > TOO_LARGE || (size > LARGE && self.large == MOST_LARGE) {
             return;
         }
         self.large += usize::from(size > LARGE);
-        self.put(case);
+        self.put("", case, UNTOUCHED, &expected);
     }
 
-    fn finish(mut self) -> (Vec<u8>, usize, Tally) {
-        self.bytes.push(0);
-        put_number(&mut self.bytes, self.count);
-        (self.bytes, self.count, self.tally)
+    fn end(&mut self) {
+        put_row(&mut self.bytes, &[]);
+        let names = Operation::ALL.map(Operation::name);
+        names.iter().for_each(|name| put_row(&mut self.bytes, name.as_bytes()));
     }
 }
 
@@ -128,19 +161,42 @@ fn prefixes(file: &[u8]) -> Vec<Case> {
     (0..file.len()).flat_map(cut).collect()
 }
 
-fn all_vectors() -> Vectors {
+/// The questions on what a case hands over beside its file.
+fn questions(case: &Case) -> Vec<Case> {
+    let asked: &[Operation] = match case.operation {
+        Operation::Run => &[Operation::AskOrder],
+        Operation::Judge => &[Operation::AskList, Operation::AskSet],
+        Operation::Check => &[Operation::AskRow],
+        _ => &[],
+    };
+    asked.iter().map(|&operation| Case { operation, lent: vec![], ..case.clone() }).collect()
+}
+
+fn all_vectors(lists: &[String]) -> Result<Vectors, String> {
+    let mut list = List::default();
+    for path in lists {
+        let text = std::fs::read_to_string(path).map_err(|error| format!("{path}: {error}"))?;
+        list.read(&text).map_err(|message| format!("{path}: {message}"))?;
+    }
     let mut vectors = Vectors::default();
-    directed_cases().iter().for_each(|case| vectors.put(case));
-    prefixes(&examples()[0].bytes()).iter().for_each(|case| vectors.put(case));
+    for named in &list.cases {
+        vectors.put(&named.name, &named.case, named.fill, &named.expected);
+    }
+    for case in [directed_cases(), prefixes(&examples()[0].bytes())].concat() {
+        vectors.put_unnamed(&case);
+        questions(&case).iter().for_each(|question| vectors.put_unnamed(question));
+    }
     for stream in 0..RANDOM_VECTORS as u64 {
         vectors.put_if_small(&random_case(&mut Random::new(SEED, stream)));
     }
-    vectors
+    vectors.end();
+    println!("{} named cases, {} vectors", list.cases.len(), vectors.count);
+    Ok(vectors)
 }
 
-fn write(path: &str) -> Result<(), String> {
-    let (bytes, count, tally) = all_vectors().finish();
-    let (table, all_met) = tally.table();
+fn write(path: &str, lists: &[String]) -> Result<(), String> {
+    let Vectors { bytes, tally, .. } = all_vectors(lists)?;
+    let (table, all_met) = tally.table(true);
     print!("{table}");
     if !all_met {
         return Err("not every number and answer is among the vectors".to_string());
@@ -149,17 +205,17 @@ fn write(path: &str) -> Result<(), String> {
         return Err(format!("{} bytes are too many", bytes.len()));
     }
     std::fs::write(path, &bytes).map_err(|error| format!("{path}: {error}"))?;
-    println!("{count} vectors, {} bytes", bytes.len());
+    println!("{} bytes", bytes.len());
     Ok(())
 }
 
 fn main() -> ExitCode {
     let arguments: Vec<String> = std::env::args().skip(1).collect();
-    let [path] = &arguments[..] else {
-        eprintln!("usage: vectors <path>");
+    let [path, lists @ ..] = &arguments[..] else {
+        eprintln!("usage: vectors <path> <list>..");
         return ExitCode::FAILURE;
     };
-    match write(path) {
+    match write(path, lists) {
         Ok(()) => ExitCode::SUCCESS,
         Err(message) => {
             println!("FAIL: {message}");

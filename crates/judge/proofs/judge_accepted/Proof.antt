@@ -6,14 +6,14 @@ use denote.Ref.{now}
 use Rattle.rules.proofs.Sets.{full-kinds}
 use Rattle.judge.specs.declared.answer.Judged.the-variants.{Stable, NotStable}
 use Rattle.judge.specs.Judged.{judged}
-use Rattle.judge.proofs.Answering.{list-no, set-no, verdict}
+use Rattle.judge.proofs.JudgeAnswers.{no-to-list, no-to-set, set-tested}
 use Rattle.judge.proofs.judge_accepted.Statement.{statement}
 use Rattle.judge.proofs.judge_accepted.Tie as tie
 
 -- once the test is made
 judged-there : (c : tie.After-is-stable) (t : Bool) → c .is-stable .result ≡ t → cond t Stable NotStable ≡ judged (now (c .before .before .before .before .before .before .before .before .before .before .before .before .before .before .before .args .file)) (now (c .before .before .before .before .before .before .before .before .before .before .before .before .before .before .before .args .list)) (now (c .before .before .before .before .before .before .before .before .before .before .before .before .before .before .before .args .set))
 judged-there c t q =
-    verdict _ _ _ (c .before .before .before .before .before .before .before .before .before .before .before .before .before .before .before .pre) _ (c .before .before .before .before .before .before .before .before .before .before .mark-exceptions .ensures) _ (c .before .before .before .before .before .before .before .ask-listed .ensures .0) (c .before .before .before .before .before .enum-told .given .1) _ (c .before .before .before .before .ask-set-of .ensures) (c .before .before .enum-told2 .given .1) _ (c .before .before .before .before .before .before .before .ask-listed .ensures .1) t (sym q ∙ c .is-stable .ensures)
+    set-tested _ _ _ (c .before .before .before .before .before .before .before .before .before .before .before .before .before .before .before .pre) _ (c .before .before .before .before .before .before .before .before .before .before .mark-exceptions .ensures) _ (c .before .before .before .before .before .before .before .ask-listed .ensures .0) (c .before .before .before .before .before .enum-told .given .1) _ (c .before .before .before .before .ask-set-of .ensures) (c .before .before .enum-told2 .given .1) _ (c .before .before .before .before .before .before .before .ask-listed .ensures .1) t (sym q ∙ c .is-stable .ensures)
 
 mark-exceptions-requires : tie.Need-mark-exceptions-requires
 mark-exceptions-requires c κs = search needs
@@ -25,7 +25,7 @@ enum-known-on-list : tie.Need-enum-known-on-list
 enum-known-on-list c = search needs
 
 returns : tie.Need-returns
-returns c = list-no _ _ _ (c .before .before .before .before .before .before .before .before .before .before .before .pre) _ (c .before .before .before .before .before .before .mark-exceptions .ensures) _ (c .before .before .before .ask-listed .ensures .0) _ (c .before .on-list .given .1)
+returns c = no-to-list _ _ _ (c .before .before .before .before .before .before .before .before .before .before .before .pre) _ (c .before .before .before .before .before .before .mark-exceptions .ensures) _ (c .before .before .before .ask-listed .ensures .0) _ (c .before .on-list .given .1)
 
 enum-told : tie.Need-enum-told
 enum-told c = search needs
@@ -37,7 +37,7 @@ enum-known-on-set : tie.Need-enum-known-on-set
 enum-known-on-set c = search needs
 
 returns-2 : tie.Need-returns-2
-returns-2 c = set-no _ _ _ (c .before .before .before .before .before .before .before .before .before .before .before .before .before .before .pre) _ (c .before .before .before .before .before .before .before .before .before .mark-exceptions .ensures) _ (c .before .before .before .before .before .before .ask-listed .ensures .0) (c .before .before .before .before .enum-told .given .1) _ (c .before .before .before .ask-set-of .ensures) _ (c .before .on-set .given .1)
+returns-2 c = no-to-set _ _ _ (c .before .before .before .before .before .before .before .before .before .before .before .before .before .before .pre) _ (c .before .before .before .before .before .before .before .before .before .mark-exceptions .ensures) _ (c .before .before .before .before .before .before .ask-listed .ensures .0) (c .before .before .before .before .enum-told .given .1) _ (c .before .before .before .ask-set-of .ensures) _ (c .before .on-set .given .1)
 
 enum-told-2 : tie.Need-enum-told-2
 enum-told-2 c = search needs

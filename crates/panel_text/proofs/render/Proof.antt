@@ -6,7 +6,7 @@ use lib.ListN.{length, take, length-replicate}
 use lib.Seq.{length-take-le}
 use denote.Ref.{now}
 use Rattle.panel_text.specs.Text.{panelText, textRoom}
-use Rattle.panel_text.proofs.Showing.{front-text}
+use Rattle.panel_text.proofs.TextShown.{front-text}
 use borrow.Author.Needs.{needs}
 use Rattle.panel_text.proofs.render.Statement.{statement}
 use Rattle.panel_text.proofs.render.Tie as tie

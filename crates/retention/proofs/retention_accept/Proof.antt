@@ -12,7 +12,7 @@ of-accept-requires : tie.Need-of-accept-requires
 of-accept-requires c κs = search needs
 
 returns : tie.Need-returns
-returns c = c .of-accept .ensures ∙ ap fileOf (c .before .accept .ensures)
+returns c = c .of-accept .ensures ∙ ap fileOf (c .before .accept .ensures .0)
 
 pub retention-accept-spec : {M : Type 1} → statement M
 retention-accept-spec = tie.close (tie.spec accept-requires of-accept-requires returns)

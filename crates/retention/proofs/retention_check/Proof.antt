@@ -12,7 +12,7 @@ of-checked-requires : tie.Need-of-checked-requires
 of-checked-requires c κs = search needs
 
 returns : tie.Need-returns
-returns c = c .of-checked .ensures ∙ ap verdictOfChecked (c .before .check .ensures)
+returns c = c .of-checked .ensures ∙ ap verdictOfChecked (c .before .check .ensures .0)
 
 pub retention-check-spec : {M : Type 1} → statement M
 retention-check-spec = tie.close (tie.spec check-requires of-checked-requires returns)

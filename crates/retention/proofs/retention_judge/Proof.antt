@@ -12,7 +12,7 @@ of-judged-requires : tie.Need-of-judged-requires
 of-judged-requires c κs = search needs
 
 returns : tie.Need-returns
-returns c = c .of-judged .ensures ∙ ap verdictOfJudged (c .before .judge .ensures)
+returns c = c .of-judged .ensures ∙ ap verdictOfJudged (c .before .judge .ensures .0)
 
 pub retention-judge-spec : {M : Type 1} → statement M
 retention-judge-spec = tie.close (tie.spec judge-requires of-judged-requires returns)

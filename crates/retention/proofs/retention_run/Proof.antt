@@ -20,7 +20,7 @@ same-length-3 : tie.Need-same-length-3
 same-length-3 c = search needs
 
 returns : tie.Need-returns
-returns c = run-replied _ _ _ _ _ _ (c .of-ran .ensures) (c .before .before .before .before .before .before .before .run .ensures)
+returns c = run-replied _ _ _ _ _ _ (c .of-ran .ensures) (c .before .before .before .before .before .before .before .run .ensures .0)
 
 pub retention-run-spec : {M : Type 1} → statement M
 retention-run-spec =

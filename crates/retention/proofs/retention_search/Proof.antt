@@ -23,7 +23,7 @@ same-length-4 : tie.Need-same-length-4
 same-length-4 c = search needs
 
 returns : tie.Need-returns
-returns c = search-replied _ _ _ _ _ _ _ (c .of-searched .ensures) (c .before .before .before .before .before .before .before .before .before .search .ensures)
+returns c = search-replied _ _ _ _ _ _ _ (c .of-searched .ensures) (c .before .before .before .before .before .before .before .before .before .search .ensures .0)
 
 pub retention-search-spec : {M : Type 1} → statement M
 retention-search-spec =

@@ -4,31 +4,70 @@ use Rattle.vectors.proofs.try_all.Statement.{statement}
 use Rattle.vectors.proofs.try_all.Tie as tie
 
 abbrev Inv-loop : tie.InvT-loop
-Inv-loop bytes agreed₀ at₀ count₀ turns₀ agreed at count turns = Unit {0}
+Inv-loop bytes counts₀ at₀ file₀ turns₀ counts at file turns = Unit {0}
 
 abbrev μ-loop : tie.MeasureT-loop
-μ-loop bytes agreed₀ at₀ count₀ turns₀ agreed at count turns = turns
+μ-loop bytes counts₀ at₀ file₀ turns₀ counts at file turns = turns
 
 loop-holds : tie.Need-loop-holds Inv-loop μ-loop
 loop-holds c = search needs
 
-byte-requires : tie.Need-byte-requires Inv-loop μ-loop
-byte-requires c κs = search needs
+row-requires : tie.Need-row-requires Inv-loop μ-loop
+row-requires c κs = search needs
 
 returns : tie.Need-returns Inv-loop μ-loop
 returns c = search needs
 
-vector-requires : tie.Need-vector-requires Inv-loop μ-loop
-vector-requires c κs = search needs
+places-requires : tie.Need-places-requires Inv-loop μ-loop
+places-requires c κs = search needs
 
-returns-2 : tie.Need-returns-2 Inv-loop μ-loop
-returns-2 c = search needs
+number-requires : tie.Need-number-requires Inv-loop μ-loop
+number-requires c κs = search needs
 
-one-more-requires : tie.Need-one-more-requires Inv-loop μ-loop
-one-more-requires c κs = search needs
+array-read-file : tie.Need-array-read-file Inv-loop μ-loop
+array-read-file c = search needs
+
+agrees-requires : tie.Need-agrees-requires Inv-loop μ-loop
+agrees-requires c κs = search needs
+
+array-read-row : tie.Need-array-read-row Inv-loop μ-loop
+array-read-row c = search needs
+
+row-requires-2 : tie.Need-row-requires-2 Inv-loop μ-loop
+row-requires-2 c κs = search needs
+
+verdict-requires : tie.Need-verdict-requires Inv-loop μ-loop
+verdict-requires c κs = search needs
+
+number-requires-2 : tie.Need-number-requires-2 Inv-loop μ-loop
+number-requires-2 c κs = search needs
+
+cast-k : tie.Need-cast-k Inv-loop μ-loop
+cast-k c = search needs
+
+mul-k : tie.Need-mul-k Inv-loop μ-loop
+mul-k c = search needs
+
+add-k : tie.Need-add-k Inv-loop μ-loop
+add-k c = search needs
+
+mul-wrapping-add-u32 : tie.Need-mul-wrapping-add-u32 Inv-loop μ-loop
+mul-wrapping-add-u32 c = search needs
+
+element-copy-out-wrapping-add-u32 : tie.Need-element-copy-out-wrapping-add-u32 Inv-loop μ-loop
+element-copy-out-wrapping-add-u32 c = search needs
 
 wrapping-add-u32-requires : tie.Need-wrapping-add-u32-requires Inv-loop μ-loop
 wrapping-add-u32-requires c κs = search needs
+
+mul-counts : tie.Need-mul-counts Inv-loop μ-loop
+mul-counts c = search needs
+
+element-write-counts : tie.Need-element-write-counts Inv-loop μ-loop
+element-write-counts c = search needs
+
+array-read-at : tie.Need-array-read-at Inv-loop μ-loop
+array-read-at c = search needs
 
 sub-turns : tie.Need-sub-turns Inv-loop μ-loop
 sub-turns c = search needs
@@ -39,8 +78,8 @@ loop-less c = search needs
 loop-again : tie.Need-loop-again Inv-loop μ-loop
 loop-again c = search needs
 
-returns-3 : tie.Need-returns-3 Inv-loop μ-loop
-returns-3 c = search needs
+returns-2 : tie.Need-returns-2 Inv-loop μ-loop
+returns-2 c = search needs
 
 pub try-all-spec : {M : Type 1} → statement M
 try-all-spec =
@@ -49,13 +88,26 @@ try-all-spec =
     Inv-loop
     μ-loop
     loop-holds
-    byte-requires
+    row-requires
     returns
-    vector-requires
-    returns-2
-    one-more-requires
+    places-requires
+    number-requires
+    array-read-file
+    agrees-requires
+    array-read-row
+    row-requires-2
+    verdict-requires
+    number-requires-2
+    cast-k
+    mul-k
+    add-k
+    mul-wrapping-add-u32
+    element-copy-out-wrapping-add-u32
     wrapping-add-u32-requires
+    mul-counts
+    element-write-counts
+    array-read-at
     sub-turns
     loop-less
     loop-again
-    returns-3)
+    returns-2)

@@ -7,8 +7,8 @@ use borrow.Author.Needs.{needs}
 use denote.Ref.{now}
 use Rattle.theory.specs.Derive.{lowest}
 use Rattle.theory.proofs.Derive.{missing}
-use Rattle.reader.specs.Program.{programOf}
-use Rattle.rules.specs.Sets.{has}
+use Rattle.reader.specs.Questions.{programOf}
+use Rattle.rules.specs.Questions.{has}
 use Rattle.closure.specs.declared.found.Found.the-variants.{At}
 use Rattle.closure.specs.Steps.{foundOf}
 use Rattle.closure.proofs.Ready.{found-nothing}

@@ -6,7 +6,7 @@ use denote.Ref.{now}
 use borrow.Author.Needs.{needs}
 use borrow.Author.Tests.{not-true, not-false}
 use native.Mathlib.Omega.{arith}
-use Rattle.reader.specs.Program.{programOf}
+use Rattle.reader.specs.Questions.{programOf}
 use Rattle.closure.proofs.Ready.{Searching, none-searched, all-searched, one-found, one-passed, masked-out, unfounded, concluded, is-ready}
 use Rattle.closure.proofs.least.lowest_ready.Statement.{statement}
 use Rattle.closure.proofs.least.lowest_ready.Tie as tie

@@ -21,6 +21,9 @@ index-rules-requires c κs = search needs
 link-rules-requires : tie.Need-link-rules-requires
 link-rules-requires c κs = search needs
 
+cast-start : tie.Need-cast-start
+cast-start c = search needs
+
 start-requires : tie.Need-start-requires
 start-requires c κs = search needs
 
@@ -40,19 +43,19 @@ Calls = (
 
 -- the tables of the file
 ready : (c : lts.After-link-rules Calls reads.Pre reads.Post) → Ready (now (c .before .before .before .before .before .before .before .before .before .args .file)) (c .before .before .before .before .before .index-rules .last .1 .0) (c .link-rules .last .1 .1 .0) (c .link-rules .last .1 .1 .1 .0) (c .link-rules .last .1 .1 .1 .1 .0)
-ready c = record { accepted = c .before .before .before .before .before .before .before .before .before .pre .0; indexed = c .before .before .before .before .before .index-rules .ensures; linked = c .link-rules .ensures .0 }
+ready c = record { accepted = c .before .before .before .before .before .before .before .before .before .pre .0 .accepted; indexed = c .before .before .before .before .before .index-rules .ensures; linked = c .link-rules .ensures .0 }
 
 file-bytes : (c : lts.After-shared-slice-known Calls reads.Pre reads.Post) → Bytes (now (c .before .args .file))
 file-bytes c j = c .shared-slice-known .given j .fits
 
 hold-out-requires : tie.Need-hold-out-requires
-hold-out-requires c κs = (ready (c .before .before .before .before .before .before .before .before .before .before .before .before .before), (c .before .before .before .before .before .before .start .ensures .0, (omega arith, row-facts (ready (c .before .before .before .before .before .before .before .before .before .before .before .before .before)) (file-bytes (c .before .before .before .before .before .before .before .before .before .before .before .before .before .before .before .before .before .before .before .before .before)) _ (c .before .before .before .before .before .before .before .before .before .before .before .before .before .before .before .before .before .before .before .before .before .before .pre .2))))
+hold-out-requires c κs = (ready (c .before .before .before .before .before .before .before .before .before .before .before .before .before .before), (c .before .before .before .before .before .before .start .ensures .0, (omega arith, row-facts (ready (c .before .before .before .before .before .before .before .before .before .before .before .before .before .before)) (file-bytes (c .before .before .before .before .before .before .before .before .before .before .before .before .before .before .before .before .before .before .before .before .before .before)) _ (c .before .before .before .before .before .before .before .before .before .before .before .before .before .before .before .before .before .before .before .before .before .before .before .pre .1))))
 
 hunt-requires : tie.Need-hunt-requires
-hunt-requires c κs = (ready (c .before .before .before .before .before .before .before .before .before .before .before .before .before .before .before .before .before .before .before .before .before .before), (begin (ready (c .before .before .before .before .before .before .before .before .before .before .before .before .before .before .before .before .before .before .before .before .before .before)) (file-bytes (c .before .before .before .before .before .before .before .before .before .before .before .before .before .before .before .before .before .before .before .before .before .before .before .before .before .before .before .before .before .before)) _ _ _ _ _ (c .before .before .before .before .before .before .before .before .before .before .before .before .before .before .before .before .before .before .before .before .before .before .before .before .before .before .before .before .before .before .before .pre .2) (c .before .before .before .before .before .before .before .before .before .before .before .before .before .before .before .start .ensures .0) (c .before .before .before .before .before .before .before .before .before .before .before .before .before .before .before .start .ensures .1) (c .before .before .before .before .before .before .before .before .hold-out .ensures .0) (c .before .before .before .before .before .before .before .before .hold-out .ensures .1), c .before .before .before .before .before .before .before .before .before .before .before .before .before .before .before .before .before .before .before .before .before .before .before .before .before .before .before .before .before .before .before .pre .3))
+hunt-requires c κs = (ready (c .before .before .before .before .before .before .before .before .before .before .before .before .before .before .before .before .before .before .before .before .before .before .before), (begin (ready (c .before .before .before .before .before .before .before .before .before .before .before .before .before .before .before .before .before .before .before .before .before .before .before)) (file-bytes (c .before .before .before .before .before .before .before .before .before .before .before .before .before .before .before .before .before .before .before .before .before .before .before .before .before .before .before .before .before .before .before)) _ _ _ _ _ (c .before .before .before .before .before .before .before .before .before .before .before .before .before .before .before .before .before .before .before .before .before .before .before .before .before .before .before .before .before .before .before .before .pre .1) (c .before .before .before .before .before .before .before .before .before .before .before .before .before .before .before .start .ensures .0) (c .before .before .before .before .before .before .before .before .before .before .before .before .before .before .before .start .ensures .1) (c .before .before .before .before .before .before .before .before .hold-out .ensures .0) (c .before .before .before .before .before .before .before .before .hold-out .ensures .1), c .before .before .before .before .before .before .before .before .before .before .before .before .before .before .before .before .before .before .before .before .before .before .before .before .before .before .before .before .before .before .before .before .pre .2))
 
 returns : tie.Need-returns
-returns c = end (ready (c .before .before .before .before .before .before .before .before .before .before .before .before .before .before .before .before .before .before .before .before .before .before .before)) (file-bytes (c .before .before .before .before .before .before .before .before .before .before .before .before .before .before .before .before .before .before .before .before .before .before .before .before .before .before .before .before .before .before .before)) _ _ _ (c .before .before .before .before .before .before .before .before .before .hold-out .last .1 .1 .1 .1 .1 .1 .1 .1 .0) (c .before .before .before .before .before .before .before .before .before .hold-out .last .1 .1 .1 .1 .1 .1 .1 .1 .1 .0) (c .before .before .before .before .before .before .before .before .before .before .before .before .before .before .before .before .before .before .before .before .before .before .before .before .before .before .before .before .before .before .before .before .pre .2) (c .before .before .before .before .before .before .before .before .before .before .before .before .before .before .before .before .start .ensures .0) (c .before .before .before .before .before .before .before .before .before .before .before .before .before .before .before .before .start .ensures .1) _ _ (c .hunt .ensures .0)
+returns c = end (ready (c .before .before .before .before .before .before .before .before .before .before .before .before .before .before .before .before .before .before .before .before .before .before .before .before)) (file-bytes (c .before .before .before .before .before .before .before .before .before .before .before .before .before .before .before .before .before .before .before .before .before .before .before .before .before .before .before .before .before .before .before .before)) _ _ _ (c .before .before .before .before .before .before .before .before .before .hold-out .last .1 .1 .1 .1 .1 .1 .1 .1 .0) (c .before .before .before .before .before .before .before .before .before .hold-out .last .1 .1 .1 .1 .1 .1 .1 .1 .1 .0) (c .before .before .before .before .before .before .before .before .before .before .before .before .before .before .before .before .before .before .before .before .before .before .before .before .before .before .before .before .before .before .before .before .before .pre .1) (c .before .before .before .before .before .before .before .before .before .before .before .before .before .before .before .before .start .ensures .0) (c .before .before .before .before .before .before .before .before .before .before .before .before .before .before .before .before .start .ensures .1) _ _ (c .hunt .ensures .0)
 
 pub earliest-spec : {M : Type 1} → statement M
 earliest-spec =
@@ -60,6 +63,7 @@ earliest-spec =
     (tie.spec
     index-rules-requires
     link-rules-requires
+    cast-start
     start-requires
     hold-out-requires
     hunt-requires

@@ -8,8 +8,8 @@ use borrow.Fn.Kinds.{In}
 use borrow.Fn.PlainCycle.{Measures, is, falls, and}
 use denote.Ref.{now}
 use lib.ListN.{length, take}
-use Rattle.theory.specs.Lists.{all}
-use Rattle.reader.specs.Program.{programOf}
+use Rattle.theory.specs.Rule.{all}
+use Rattle.reader.specs.Questions.{programOf}
 use Rattle.reader.proofs.EachKind.{Bytes}
 use Rattle.propagation.specs.State.{Ready}
 use Rattle.earliest.specs.Branch.{Branch}

@@ -5,7 +5,7 @@ use mathlib.Core.Path.{_≡_, refl, sym, _∙_}
 use borrow.Author.Tests.{not-true, not-false}
 use lib.ListN.{getD, take, drop}
 use denote.Ref.{now}
-use Rattle.theory.specs.Lists.{all}
+use Rattle.theory.specs.Rule.{all}
 use Rattle.reader.specs.Item.{maxFacts}
 use Rattle.earliest.proofs.Listing.{Alive, one-passes, one-fails, all-pass, row-below}
 use Rattle.earliest.proofs.hunt.is_alive.Statement.{statement}

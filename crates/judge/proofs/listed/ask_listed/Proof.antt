@@ -7,8 +7,8 @@ use lib.ListN.{length, length-replicate}
 use denote.Ref.{now}
 use Rattle.reader.specs.Questions.{maxRules}
 use Rattle.rules.specs.Answer.{answerOf}
-use Rattle.rules.proofs.Asking.{not-names}
-use Rattle.judge.proofs.Listing.{answered, all-listed}
+use Rattle.rules.proofs.OperationAsked.{not-names}
+use Rattle.judge.proofs.ListAsked.{answered, all-listed}
 use Rattle.judge.proofs.listed.ask_listed.Statement.{statement}
 use Rattle.judge.proofs.listed.ask_listed.Tie as tie
 

@@ -1,7 +1,7 @@
 -- `reduct_mark`: a listed rule is not in the reduct; any other is where its constraints are clear of the set.
 use borrow.Author.Needs.{needs}
 use mathlib.Core.Path.{sym, _∙_}
-use Rattle.judge.proofs.Reducing.{listed-mark, unlisted-mark}
+use Rattle.judge.proofs.ReductMask.{listed-mark, unlisted-mark}
 use Rattle.judge.proofs.reduct.reduct_mark.Statement.{statement}
 use Rattle.judge.proofs.reduct.reduct_mark.Tie as tie
 

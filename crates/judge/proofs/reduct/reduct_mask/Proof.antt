@@ -2,10 +2,10 @@
 use borrow.Author.Needs.{needs}
 use Prim.Native.Nat.{_-_, _≤_}
 use native.Mathlib.Omega.{arith}
-use Rattle.reader.specs.Program.{programOf}
-use Rattle.rules.specs.Sets.{has}
+use Rattle.reader.specs.Questions.{programOf}
+use Rattle.rules.specs.Questions.{has}
 use Rattle.closure.proofs.Ready.{rules-known}
-use Rattle.judge.proofs.Reducing.{unmarkedIn, Reducing, none-reduced, one-reduced}
+use Rattle.judge.proofs.ReductMask.{unmarkedIn, Reducing, none-reduced, one-reduced}
 use Rattle.judge.proofs.reduct.reduct_mask.Statement.{statement}
 use Rattle.judge.proofs.reduct.reduct_mask.Tie as tie
 

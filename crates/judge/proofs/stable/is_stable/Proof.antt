@@ -2,8 +2,8 @@
 use borrow.Author.Needs.{needs}
 use mathlib.Core.Path.{_∙_}
 use native.Mathlib.Omega.{arith}
-use Rattle.rules.specs.Sets.{has}
-use Rattle.judge.proofs.Least.{tested}
+use Rattle.rules.specs.Questions.{has}
+use Rattle.judge.proofs.LeastTested.{tested}
 use Rattle.judge.proofs.stable.is_stable.Statement.{statement}
 use Rattle.judge.proofs.stable.is_stable.Tie as tie
 

@@ -3,7 +3,7 @@ use borrow.Author.Needs.{needs}
 use mathlib.Core.Path.{refl}
 use Rattle.reader.specs.Item.{maxFacts}
 use Rattle.rules.proofs.Sets.{unmarked}
-use Rattle.judge.proofs.Least.{least-room, least-made}
+use Rattle.judge.proofs.LeastTested.{least-room, least-made}
 use Rattle.judge.proofs.stable.least_set.Statement.{statement}
 use Rattle.judge.proofs.stable.least_set.Tie as tie
 

@@ -6,9 +6,9 @@ use mathlib.Core.Bool.{Bool, Bool·beq}
 use native.Mathlib.Omega.{arith}
 use borrow.Author.Tests.{not-true, not-false}
 use denote.Ref.{now}
-use Rattle.theory.specs.Lists.{range}
-use Rattle.rules.specs.Sets.{has}
-use Rattle.rules.proofs.Walks.{Decides, whole-decides, not-tested, all-pass, one-fails, one-passes, range-all, range-cons, range-end}
+use Rattle.theory.specs.Rule.{range}
+use Rattle.rules.specs.Questions.{has}
+use Rattle.rules.proofs.ItemWalks.{Decides, whole-decides, not-tested, all-pass, one-fails, one-passes, range-all, range-cons, range-end}
 use Rattle.judge.proofs.stable.same_facts.Statement.{statement}
 use Rattle.judge.proofs.stable.same_facts.Tie as tie
 

@@ -9,7 +9,7 @@ use Rattle.reader.specs.declared.cursor.Read.the-variants.{Found}
 use Rattle.reader.specs.Cursor.{nextAt}
 use Rattle.reader.proofs.Items.{found, closer}
 use Rattle.literals.specs.Literal.{outside}
-use Rattle.literals.proofs.Linking.{Linking, none-linked, file-linked, file-sized, rule-below, rule-opened, OwnRead, premise-read, constraint-read, other-read, fits, slot-below, literal-linked}
+use Rattle.literals.proofs.Linking.{Linking, none-linked, read-refused, read-ended, file-linked, file-sized, rule-below, rule-opened, OwnRead, premise-read, constraint-read, other-read, fits, slot-below, literal-linked}
 use Rattle.literals.proofs.tables.link_rules.Statement.{statement}
 use Rattle.literals.proofs.tables.link_rules.Tie as tie
 
@@ -23,7 +23,7 @@ abbrev μ-loop : tie.MeasureT-loop
 
 -- once an item is read
 item-read : (c : tie.After-known-told Inv-loop μ-loop) → nextAt (now (c .before .before .before .before .before .before .args .file)) (c .before .before .before .before .loop .cursor) ≡ Found (c .before .item .given .0 .0) (c .before .item .given .0 .1 .0)
-item-read c = sym (c .before .before .before .next .ensures) ∙ c .before .item .given .1
+item-read c = sym (c .before .before .before .next .ensures .0) ∙ c .before .item .given .1
 
 premise-own : (c : tie.After-item2 Inv-loop μ-loop) → OwnRead (now (c .before .before .before .before .before .before .before .before .args .file)) (c .before .before .before .before .before .before .loop .cursor) (c .before .before .before .item .given .0 .1 .0) (c .before .before .before .before .before .before .loop .rules) (c .item2 .given .0 .0 .0)
 premise-own c = premise-read (c .before .before .before .before .before .before .loop .inv) _ _ (item-read (c .before .before)) (λ j. c .before .before .before .before .before .before .before .shared-slice-known .given j .fits) _ (c .item2 .given .1)
@@ -41,7 +41,9 @@ enum-told : tie.Need-enum-told Inv-loop μ-loop
 enum-told c = search needs
 
 returns : tie.Need-returns Inv-loop μ-loop
-returns c = (file-linked (c .before .before .before .loop .inv) (c .before .before .before .before .before .pre .0) _ _ (sym (c .before .before .next .ensures) ∙ c .enum-told .given .1), file-sized (c .before .before .before .loop .inv) (c .before .before .before .before .before .pre .0) _ _ (sym (c .before .before .next .ensures) ∙ c .enum-told .given .1))
+returns c =
+    let a = read-refused _ _ _ _ (sym (c .before .before .next .ensures .0) ∙ c .enum-told .given .1) in
+    (file-linked (c .before .before .before .loop .inv) (c .before .before .before .before .before .pre .0) a, file-sized (c .before .before .before .loop .inv) (c .before .before .before .before .before .pre .0) a)
 
 enum-known-item : tie.Need-enum-known-item Inv-loop μ-loop
 enum-known-item c = search needs
@@ -109,6 +111,14 @@ loop-less-4 c = closer (found _ _ _ _ (item-read (c .before)))
 loop-again-4 : tie.Need-loop-again-4 Inv-loop μ-loop
 loop-again-4 c = other-read (c .before .before .before .before .before .loop .inv) _ _ (item-read (c .before)) (c .match2 .keys4)
 
+enum-told-3 : tie.Need-enum-told-3 Inv-loop μ-loop
+enum-told-3 c = search needs
+
+returns-2 : tie.Need-returns-2 Inv-loop μ-loop
+returns-2 c =
+    let a = read-ended _ _ _ (sym (c .before .before .next .ensures .0) ∙ c .enum-told3 .given .1) in
+    (file-linked (c .before .before .before .loop .inv) (c .before .before .before .before .before .pre .0) a, file-sized (c .before .before .before .loop .inv) (c .before .before .before .before .before .pre .0) a)
+
 pub link-rules-spec : {M : Type 1} → statement M
 link-rules-spec =
     tie.close
@@ -140,4 +150,6 @@ link-rules-spec =
     loop-less-3
     loop-again-3
     loop-less-4
-    loop-again-4)
+    loop-again-4
+    enum-told-3
+    returns-2)

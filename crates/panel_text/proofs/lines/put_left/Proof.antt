@@ -5,33 +5,33 @@ use lib.Dec.{eqb}
 use denote.Ref.{now}
 use borrow.Author.Needs.{needs}
 use Rattle.theory.specs.Rule.{null}
-use Rattle.rules.specs.Orders.{each, marked}
+use Rattle.rules.specs.Questions.{each, rowOf}
+use Rattle.rules.specs.Orders.{placesMarked}
 use Rattle.panel_text.specs.Text.{line, stepLine, lastLine}
-use Rattle.rules.specs.Rows.{rowOf}
 use Rattle.panel_text.specs.Left.{leftText}
-use Rattle.rules.proofs.Putting.{Putting, begun, nothing-put, next-fits, one-put}
+use Rattle.rules.proofs.BytesPut.{Putting, begun, nothing-put, next-fits, one-put}
 use Rattle.panel_text.proofs.Lengths.{none-written}
 use Rattle.panel_text.proofs.lines.put_left.Statement.{statement}
 use Rattle.panel_text.proofs.lines.put_left.Tie as tie
 
 -- what is still to come after each part
-head-put : (c : tie.After-put-head) → let a = c .before .before .before .before .before .before .args in Putting (leftText (a .facts) (a .rules) (a .stages) (now (a .fact-marks)) (now (a .rule-marks)) (now (a .row))) 0 (now (a .out)) (each stepLine (rowOf (now (a .row))) ++ (each (line 0x58) (marked 2 (now (a .fact-marks)) (a .facts)) ++ (each (line 0x41) (marked 2 (now (a .rule-marks)) (a .rules)) ++ lastLine (null (marked 2 (now (a .rule-marks)) (a .rules)))))) (c .put-head .result) (c .put-head .last .0)
+head-put : (c : tie.After-put-head) → let a = c .before .before .before .before .before .before .args in Putting (leftText (a .facts) (a .rules) (a .stages) (now (a .fact-marks)) (now (a .rule-marks)) (now (a .row))) 0 (now (a .out)) (each stepLine (rowOf (now (a .row))) ++ (each (line 0x58) (placesMarked 2 (now (a .fact-marks)) (a .facts)) ++ (each (line 0x41) (placesMarked 2 (now (a .rule-marks)) (a .rules)) ++ lastLine (null (placesMarked 2 (now (a .rule-marks)) (a .rules)))))) (c .put-head .result) (c .put-head .last .0)
 unfolding leftText
 head-put c = one-put (begun _ _ _ (c .before .before .before .before .before .before .pre .1)) _ _ refl _ _ (c .put-head .ensures)
 
-steps-put : (c : tie.After-put-steps) → let a = c .before .before .before .before .before .before .before .before .before .before .args in Putting (leftText (a .facts) (a .rules) (a .stages) (now (a .fact-marks)) (now (a .rule-marks)) (now (a .row))) 0 (now (a .out)) (each (line 0x58) (marked 2 (now (a .fact-marks)) (a .facts)) ++ (each (line 0x41) (marked 2 (now (a .rule-marks)) (a .rules)) ++ lastLine (null (marked 2 (now (a .rule-marks)) (a .rules))))) (c .put-steps .result) (c .put-steps .last .0)
+steps-put : (c : tie.After-put-steps) → let a = c .before .before .before .before .before .before .before .before .before .before .args in Putting (leftText (a .facts) (a .rules) (a .stages) (now (a .fact-marks)) (now (a .rule-marks)) (now (a .row))) 0 (now (a .out)) (each (line 0x58) (placesMarked 2 (now (a .fact-marks)) (a .facts)) ++ (each (line 0x41) (placesMarked 2 (now (a .rule-marks)) (a .rules)) ++ lastLine (null (placesMarked 2 (now (a .rule-marks)) (a .rules))))) (c .put-steps .result) (c .put-steps .last .0)
 steps-put c = one-put (head-put (c .before .before .before .before)) _ _ refl _ _ (c .put-steps .ensures)
 
-facts-put : (c : tie.After-put-marked) → let a = c .before .before .before .before .before .before .before .before .before .before .before .before .before .before .args in Putting (leftText (a .facts) (a .rules) (a .stages) (now (a .fact-marks)) (now (a .rule-marks)) (now (a .row))) 0 (now (a .out)) (each (line 0x41) (marked 2 (now (a .rule-marks)) (a .rules)) ++ lastLine (null (marked 2 (now (a .rule-marks)) (a .rules)))) (c .put-marked .result) (c .put-marked .last .0)
+facts-put : (c : tie.After-put-marked) → let a = c .before .before .before .before .before .before .before .before .before .before .before .before .before .before .args in Putting (leftText (a .facts) (a .rules) (a .stages) (now (a .fact-marks)) (now (a .rule-marks)) (now (a .row))) 0 (now (a .out)) (each (line 0x41) (placesMarked 2 (now (a .rule-marks)) (a .rules)) ++ lastLine (null (placesMarked 2 (now (a .rule-marks)) (a .rules)))) (c .put-marked .result) (c .put-marked .last .0)
 facts-put c = one-put (steps-put (c .before .before .before .before)) _ _ refl _ _ (c .put-marked .ensures)
 
 rules-put : (c : tie.After-put-marked2) → let a = c .before .before .before .before .before .before .before .before .before .before .before .before .before .before .before .before .before .before .args in Putting (leftText (a .facts) (a .rules) (a .stages) (now (a .fact-marks)) (now (a .rule-marks)) (now (a .row))) 0 (now (a .out)) (lastLine (eqb (c .put-marked2 .result) (c .before .before .before .before .put-marked .result))) (c .put-marked2 .result) (c .put-marked2 .last .0)
-rules-put c = nothing-put (one-put (facts-put (c .before .before .before .before)) _ _ refl _ _ (c .put-marked2 .ensures)) _ (ap lastLine (sym (none-written 0x41 (marked 2 (now (c .before .before .before .before .before .before .before .before .before .before .before .before .before .before .before .before .before .before .args .rule-marks)) (c .before .before .before .before .before .before .before .before .before .before .before .before .before .before .before .before .before .before .args .rules)) _ _ _ _ (c .put-marked2 .ensures))))
+rules-put c = nothing-put (one-put (facts-put (c .before .before .before .before)) _ _ refl _ _ (c .put-marked2 .ensures)) _ (ap lastLine (sym (none-written 0x41 (placesMarked 2 (now (c .before .before .before .before .before .before .before .before .before .before .before .before .before .before .before .before .before .before .args .rule-marks)) (c .before .before .before .before .before .before .before .before .before .before .before .before .before .before .before .before .before .before .args .rules)) _ _ _ _ (c .put-marked2 .ensures))))
 
 put-head-requires : tie.Need-put-head-requires
 unfolding leftText
 put-head-requires c κs = let a = c .before .before .before .before .before .args in
-    next-fits (begun _ _ _ (c .before .before .before .before .before .pre .1)) _ (each stepLine (rowOf (now (a .row))) ++ (each (line 0x58) (marked 2 (now (a .fact-marks)) (a .facts)) ++ (each (line 0x41) (marked 2 (now (a .rule-marks)) (a .rules)) ++ lastLine (null (marked 2 (now (a .rule-marks)) (a .rules)))))) refl
+    next-fits (begun _ _ _ (c .before .before .before .before .before .pre .1)) _ (each stepLine (rowOf (now (a .row))) ++ (each (line 0x58) (placesMarked 2 (now (a .fact-marks)) (a .facts)) ++ (each (line 0x41) (placesMarked 2 (now (a .rule-marks)) (a .rules)) ++ lastLine (null (placesMarked 2 (now (a .rule-marks)) (a .rules)))))) refl
 
 put-steps-requires : tie.Need-put-steps-requires
 put-steps-requires c κs = next-fits (head-put (c .before .before .before)) _ _ refl

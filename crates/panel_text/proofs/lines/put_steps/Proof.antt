@@ -7,8 +7,8 @@ use borrow.Author.Needs.{needs}
 use Rattle.reader.specs.declared.cursor.Read.the-variants.{Found}
 use Rattle.reader.specs.Cursor.{nextAt}
 use Rattle.reader.proofs.Items.{found, closer}
-use Rattle.rules.proofs.Putting.{begun}
-use Rattle.panel_text.proofs.Stepping.{Stepping, no-step-left, other-passed, step-fits, step-put}
+use Rattle.rules.proofs.BytesPut.{begun}
+use Rattle.panel_text.proofs.StepLines.{Stepping, refused-put, ended-put, other-passed, step-fits, step-put}
 use Rattle.panel_text.proofs.lines.put_steps.Statement.{statement}
 use Rattle.panel_text.proofs.lines.put_steps.Tie as tie
 
@@ -20,7 +20,7 @@ abbrev μ-loop : tie.MeasureT-loop
 
 -- once an item is read
 item-read : (c : tie.After-known-told Inv-loop μ-loop) → nextAt (now (c .before .before .before .before .before .before .before .args .row)) (c .before .before .before .before .loop .cursor) ≡ Found (c .before .item .given .0 .0) (c .before .item .given .0 .1 .0)
-item-read c = sym (c .before .before .before .next .ensures) ∙ c .before .item .given .1
+item-read c = sym (c .before .before .before .next .ensures .0) ∙ c .before .item .given .1
 
 loop-holds : tie.Need-loop-holds Inv-loop μ-loop
 loop-holds c = begun _ _ _ (c .before .before .pre)
@@ -35,7 +35,7 @@ same-length : tie.Need-same-length Inv-loop μ-loop
 same-length c = c .before .before .before .loop .inv .kept
 
 returns : tie.Need-returns Inv-loop μ-loop
-returns c = no-step-left _ _ _ _ _ _ (c .before .before .before .loop .inv) _ _ (sym (c .before .before .next .ensures) ∙ c .enum-told .given .1)
+returns c = refused-put _ _ _ _ _ _ (c .before .before .before .loop .inv) _ _ (sym (c .before .before .next .ensures .0) ∙ c .enum-told .given .1)
 
 enum-known-item : tie.Need-enum-known-item Inv-loop μ-loop
 enum-known-item c = search needs
@@ -58,6 +58,15 @@ loop-less-2 c = closer (found _ _ _ _ (item-read (c .before)))
 loop-again-2 : tie.Need-loop-again-2 Inv-loop μ-loop
 loop-again-2 c = other-passed _ _ _ _ _ _ (c .before .before .before .before .before .loop .inv) _ _ (item-read (c .before)) (c .match2 .keys2)
 
+enum-told-2 : tie.Need-enum-told-2 Inv-loop μ-loop
+enum-told-2 c = search needs
+
+same-length-2 : tie.Need-same-length-2 Inv-loop μ-loop
+same-length-2 c = c .before .before .before .loop .inv .kept
+
+returns-2 : tie.Need-returns-2 Inv-loop μ-loop
+returns-2 c = ended-put _ _ _ _ _ _ (c .before .before .before .loop .inv) _ (sym (c .before .before .next .ensures .0) ∙ c .enum-told2 .given .1)
+
 pub put-steps-spec : {M : Type 1} → statement M
 put-steps-spec =
     tie.close
@@ -75,4 +84,7 @@ put-steps-spec =
     loop-less
     loop-again
     loop-less-2
-    loop-again-2)
+    loop-again-2
+    enum-told-2
+    same-length-2
+    returns-2)

@@ -1,18 +1,17 @@
 -- `put_run`: the order gets yes, so the run ends, and what it leaves gives the lines.
-use mathlib.Core.Path.{sym, ap}
+use mathlib.Core.Path.{sym}
 use native.Mathlib.Omega.{arith}
 use lib.Seq.{length-take-le}
 use denote.Ref.{now}
 use Rattle.theory.specs.Rule.{everyRule}
 use Rattle.theory.specs.Run.{run}
-use Rattle.reader.specs.declared.questions.Seen.{Seen}
-use Rattle.reader.specs.Program.{programOf}
+use Rattle.reader.specs.Questions.{programOf}
 use Rattle.reader.proofs.EachKind.{Bytes}
 use Rattle.panel_text.specs.Text.{ascending}
-use Rattle.rules.proofs.Putting.{put-inside}
-use Rattle.panel_text.proofs.Showing.{front-text}
+use Rattle.rules.proofs.BytesPut.{put-inside}
+use Rattle.panel_text.proofs.TextShown.{front-text}
 use Rattle.panel_text.proofs.Lengths.{order-fits, text-fits}
-use Rattle.panel_text.proofs.Ended.{Ended, ran-through, not-refused, tables, steps-inside, left-lines}
+use Rattle.panel_text.proofs.RunLines.{RunEnded, ran-through, not-refused, tables, steps-inside, left-lines}
 use borrow.Author.Needs.{needs}
 use Rattle.panel_text.proofs.text.put_run.Statement.{statement}
 use Rattle.panel_text.proofs.text.put_run.Tie as tie
@@ -22,23 +21,20 @@ bytes : (c : tie.After-shared-slice-known) → Bytes (now (c .before .args .file
 bytes c j = c .shared-slice-known .given j .fits
 
 -- what the run leaves
-ended : (c : tie.After-run) → Ended (programOf (now (c .before .before .before .before .before .before .before .before .before .before .before .args .file))) (run (programOf (now (c .before .before .before .before .before .before .before .before .before .before .before .args .file))) everyRule (ascending (programOf (now (c .before .before .before .before .before .before .before .before .before .before .before .args .file))))) (c .run .result) (c .run .last .1 .1 .0) (c .run .last .1 .1 .1 .0) (c .run .last .1 .1 .1 .1 .0)
-ended c = ran-through _ _ (bytes (c .before .before .before .before .before .before .before .before .before .before)) (c .before .before .before .before .before .before .before .before .before .before .before .pre .0 .0) (front-text _ _ _ _ (c .before .before .before .before .before .before .put-order .ensures)) _ _ _ _ (c .run .ensures)
-
-cast-put-order : tie.Need-cast-put-order
-cast-put-order c = search needs
+ended : (c : tie.After-run) → RunEnded (programOf (now (c .before .before .before .before .before .before .before .before .before .before .args .file))) (run (programOf (now (c .before .before .before .before .before .before .before .before .before .before .args .file))) everyRule (ascending (programOf (now (c .before .before .before .before .before .before .before .before .before .before .args .file))))) (c .run .result) (c .run .last .1 .1 .0) (c .run .last .1 .1 .1 .0) (c .run .last .1 .1 .1 .1 .0)
+ended c = ran-through _ _ (bytes (c .before .before .before .before .before .before .before .before .before)) (c .before .before .before .before .before .before .before .before .before .before .pre .0 .accepted) (front-text _ _ _ _ (c .before .before .before .before .before .before .put-order .ensures)) _ _ _ _ (c .run .ensures .0)
 
 slice-aggregate-put-order : tie.Need-slice-aggregate-put-order
 slice-aggregate-put-order c = search needs
 
 put-order-requires : tie.Need-put-order-requires
-put-order-requires c κs = ((c .before .before .before .before .pre .0 .0, ap (λ (x : Seen). x .rules) (c .before .before .before .before .pre .0 .1)), order-fits _ (c .before .before .before .before .pre .0 .0))
+put-order-requires c κs = (c .before .before .before .pre .0, order-fits _ (c .before .before .before .pre .0 .accepted))
 
 array-share-prefix-order : tie.Need-array-share-prefix-order
-array-share-prefix-order c = put-inside _ _ _ _ _ (order-fits _ (c .before .before .before .before .before .before .pre .0 .0)) (c .before .put-order .ensures)
+array-share-prefix-order c = put-inside _ _ _ _ _ (order-fits _ (c .before .before .before .before .before .pre .0 .accepted)) (c .before .put-order .ensures)
 
 slice-aggregate-run : tie.Need-slice-aggregate-run
-slice-aggregate-run c = sym (length-take-le _ _ (put-inside _ _ _ _ _ (order-fits _ (c .before .before .before .before .before .before .before .pre .0 .0)) (c .before .before .put-order .ensures)))
+slice-aggregate-run c = sym (length-take-le _ _ (put-inside _ _ _ _ _ (order-fits _ (c .before .before .before .before .before .before .pre .0 .accepted)) (c .before .before .put-order .ensures)))
 
 slice-aggregate-run-2 : tie.Need-slice-aggregate-run-2
 slice-aggregate-run-2 c = search needs
@@ -71,17 +67,17 @@ slice-aggregate-put-left-2 : tie.Need-slice-aggregate-put-left-2
 slice-aggregate-put-left-2 c = search needs
 
 array-share-prefix-steps : tie.Need-array-share-prefix-steps
-array-share-prefix-steps c = steps-inside _ (bytes (c .before .before .before .before .before .before .before .before .before .before .before .before .before .before .before .before .before .before .before)) (c .before .before .before .before .before .before .before .before .before .before .before .before .before .before .before .before .before .before .before .before .pre .0 .0) _ _ _ _ _ (ended (c .before .before .before .before .before .before .before .before .before)) _ _ (c .before .before .before .before .stages .given .1)
+array-share-prefix-steps c = steps-inside (c .before .before .before .before .before .before .before .before .before .before .before .before .before .before .before .before .before .before .before .pre .0) (bytes (c .before .before .before .before .before .before .before .before .before .before .before .before .before .before .before .before .before .before)) _ _ _ _ _ (ended (c .before .before .before .before .before .before .before .before .before)) _ _ (c .before .before .before .before .stages .given .1)
 
 slice-aggregate-put-left-3 : tie.Need-slice-aggregate-put-left-3
-slice-aggregate-put-left-3 c = sym (length-take-le _ _ (steps-inside _ (bytes (c .before .before .before .before .before .before .before .before .before .before .before .before .before .before .before .before .before .before .before .before)) (c .before .before .before .before .before .before .before .before .before .before .before .before .before .before .before .before .before .before .before .before .before .pre .0 .0) _ _ _ _ _ (ended (c .before .before .before .before .before .before .before .before .before .before)) _ _ (c .before .before .before .before .before .stages .given .1)))
+slice-aggregate-put-left-3 c = sym (length-take-le _ _ (steps-inside (c .before .before .before .before .before .before .before .before .before .before .before .before .before .before .before .before .before .before .before .before .pre .0) (bytes (c .before .before .before .before .before .before .before .before .before .before .before .before .before .before .before .before .before .before .before)) _ _ _ _ _ (ended (c .before .before .before .before .before .before .before .before .before .before)) _ _ (c .before .before .before .before .before .stages .given .1)))
 
 put-left-requires : tie.Need-put-left-requires
 put-left-requires c κs =
-    let p = c .before .before .before .before .before .before .before .before .before .before .before .before .before .before .before .before .before .before .before .before .before .pre in
-    let facts-are = ap (λ (x : Seen). x .facts) (p .0 .1) in
-    let rules-are = ap (λ (x : Seen). x .rules) (p .0 .1) in
-    (tables _ (bytes (c .before .before .before .before .before .before .before .before .before .before .before .before .before .before .before .before .before .before .before .before)) (p .0 .0) _ _ _ _ _ (ended (c .before .before .before .before .before .before .before .before .before .before)) _ _ facts-are rules-are, rw (left-lines _ _ _ _ _ _ (ended (c .before .before .before .before .before .before .before .before .before .before)) _ _ _ _ (c .before .before .before .before .before .stages .given .1) facts-are rules-are) (record { inside = omega (arith, p .1, text-fits _ (bytes (c .before .before .before .before .before .before .before .before .before .before .before .before .before .before .before .before .before .before .before .before)) (p .0 .0) (ascending (programOf (now (c .before .before .before .before .before .before .before .before .before .before .before .before .before .before .before .before .before .before .before .before .before .args .file))))) }))
+    let p = c .before .before .before .before .before .before .before .before .before .before .before .before .before .before .before .before .before .before .before .before .pre in
+    let b = bytes (c .before .before .before .before .before .before .before .before .before .before .before .before .before .before .before .before .before .before .before) in
+    let run-ended = ended (c .before .before .before .before .before .before .before .before .before .before) in
+    (tables (p .0) b _ _ _ _ _ run-ended, rw (left-lines (p .0) b _ _ _ _ _ run-ended _ _ (c .before .before .before .before .before .stages .given .1)) (record { inside = omega (arith, p .1, text-fits _ b (p .0 .accepted) (ascending (programOf (now (c .before .before .before .before .before .before .before .before .before .before .before .before .before .before .before .before .before .before .before .before .args .file))))) }))
 
 returns : tie.Need-returns
 returns c = absurd (not-refused _ _ _ _ _ _ (ended (c .before .before .before .before .before)) _ (c .enum-told .given .1))
@@ -90,15 +86,12 @@ same-length : tie.Need-same-length
 same-length c = search needs
 
 returns-2 : tie.Need-returns-2
-returns-2 c =
-    let p = c .before .before .before .before .before .before .before .before .before .before .before .before .before .before .before .before .before .before .before .before .before .before .before .before .pre in
-    rw (left-lines _ _ _ _ _ _ (ended (c .before .before .before .before .before .before .before .before .before .before .before .before .before)) _ _ _ _ (c .before .before .before .before .before .before .before .before .stages .given .1) (ap (λ (x : Seen). x .facts) (p .0 .1)) (ap (λ (x : Seen). x .rules) (p .0 .1))) at (c .before .before .put-left .ensures)
+returns-2 c = rw (left-lines (c .before .before .before .before .before .before .before .before .before .before .before .before .before .before .before .before .before .before .before .before .before .before .before .pre .0) (bytes (c .before .before .before .before .before .before .before .before .before .before .before .before .before .before .before .before .before .before .before .before .before .before)) _ _ _ _ _ (ended (c .before .before .before .before .before .before .before .before .before .before .before .before .before)) _ _ (c .before .before .before .before .before .before .before .before .stages .given .1)) at (c .before .before .put-left .ensures)
 
 pub put-run-spec : {M : Type 1} → statement M
 put-run-spec =
     tie.close
     (tie.spec
-    cast-put-order
     slice-aggregate-put-order
     put-order-requires
     array-share-prefix-order

@@ -2,26 +2,26 @@
 use mathlib.Core.Path.{_≡_, sym, ap, _∙_}
 use native.Mathlib.Omega.{arith}
 use denote.Ref.{now}
-use Rattle.reader.specs.Program.{programOf}
-use Rattle.reader.proofs.Answered.{PassedFile, passed-file, failed}
-use Rattle.run.proofs.Asking.{counted}
+use Rattle.reader.specs.Questions.{programOf}
+use Rattle.reader.specs.Accepted.{Accepted}
+use Rattle.reader.proofs.FileAsked.{file-no, file-yes}
 use Rattle.panel_text.specs.Text.{line, ascending, panelText}
 use Rattle.panel_text.proofs.Lengths.{line-length, text-fits}
-use Rattle.panel_text.proofs.Ended.{refused-text, accepted-text}
+use Rattle.panel_text.proofs.RunLines.{refused-text, accepted-text}
 use borrow.Author.Needs.{needs}
 use Rattle.panel_text.proofs.text.put_text.Statement.{statement}
 use Rattle.panel_text.proofs.text.put_text.Tie as tie
 
 -- past the questions on the file
-passed : (c : tie.After-known-told2) → PassedFile (now (c .before .before .before .before .before .before .args .file)) (c .before .seen .given .0 .0)
-passed c = passed-file _ _ (λ j. c .before .before .before .before .before .shared-slice-known .given j .fits) (sym (c .before .before .before .judge-file .ensures) ∙ c .before .seen .given .1)
+accepted-there : (c : tie.After-known-told2) → Accepted (now (c .before .before .before .before .before .before .args .file)) (c .before .counts .given .0 .0)
+accepted-there c = file-yes _ _ (sym (c .before .before .before .ask-file .ensures) ∙ c .before .counts .given .1)
 
 -- a refusal, with its number
 stopped : (c : tie.After-number) → panelText (now (c .before .before .before .before .before .before .before .before .args .file)) ≡ line 0x45 (c .number .result)
-stopped c = refused-text _ _ (failed _ _ (sym (c .before .before .before .before .before .judge-file .ensures) ∙ c .before .before .before .r .given .1)) ∙ ap (line 0x45) (sym (c .number .ensures))
+stopped c = refused-text _ _ (file-no _ _ (sym (c .before .before .before .before .before .ask-file .ensures) ∙ c .before .before .before .r .given .1)) ∙ ap (line 0x45) (sym (c .number .ensures))
 
-judge-file-requires : tie.Need-judge-file-requires
-judge-file-requires c κs = search needs
+ask-file-requires : tie.Need-ask-file-requires
+ask-file-requires c κs = search needs
 
 enum-known-r : tie.Need-enum-known-r
 enum-known-r c = search needs
@@ -35,11 +35,11 @@ cast-put-line c = search needs
 put-line-requires : tie.Need-put-line-requires
 put-line-requires c κs = record { inside = omega (arith, c .before .before .before .before .before .before .before .before .pre, line-length 0x45 (c .number .result) (omega (arith, c .number .ok))) }
 
-enum-known-seen : tie.Need-enum-known-seen
-enum-known-seen c = search needs
+enum-known-counts : tie.Need-enum-known-counts
+enum-known-counts c = search needs
 
 put-run-requires : tie.Need-put-run-requires
-put-run-requires c κs = ((passed (c .before) .all-yes, counted (passed (c .before))), c .before .before .before .before .before .before .before .pre)
+put-run-requires c κs = (accepted-there (c .before), c .before .before .before .before .before .before .before .pre)
 
 same-length : tie.Need-same-length
 same-length c = search needs
@@ -52,19 +52,19 @@ same-length-2 c = search needs
 
 returns-2 : tie.Need-returns-2
 returns-2 c =
-    let p = passed (c .before .before .before .before) in
-    (rw (accepted-text _ (p .all-yes)) (c .before .before .put-run .ensures), omega (arith, c .before .before .put-run .ensures .behind, text-fits _ (λ j. c .before .before .before .before .before .before .before .before .before .shared-slice-known .given j .fits) (p .all-yes) (ascending (programOf (now (c .before .before .before .before .before .before .before .before .before .before .args .file))))))
+    let p = accepted-there (c .before .before .before .before) in
+    (rw (accepted-text _ (p .accepted)) (c .before .before .put-run .ensures), omega (arith, c .before .before .put-run .ensures .behind, text-fits _ (λ j. c .before .before .before .before .before .before .before .before .before .shared-slice-known .given j .fits) (p .accepted) (ascending (programOf (now (c .before .before .before .before .before .before .before .before .before .before .args .file))))))
 
 pub put-text-spec : {M : Type 1} → statement M
 put-text-spec =
     tie.close
     (tie.spec
-    judge-file-requires
+    ask-file-requires
     enum-known-r
     number-requires
     cast-put-line
     put-line-requires
-    enum-known-seen
+    enum-known-counts
     put-run-requires
     same-length
     returns

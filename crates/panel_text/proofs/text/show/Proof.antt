@@ -4,7 +4,7 @@ use mathlib.Core.Path.{refl}
 use native.Mathlib.Omega.{arith}
 use lib.ListN.{length}
 use denote.Ref.{now}
-use Rattle.panel_text.proofs.Showing.{Copying, too-long, none-copied, one-copied, all-copied}
+use Rattle.panel_text.proofs.TextShown.{Copying, too-long, none-copied, one-copied, all-copied}
 use Rattle.panel_text.proofs.text.show.Statement.{statement}
 use Rattle.panel_text.proofs.text.show.Tie as tie
 

@@ -7,19 +7,16 @@ use native.Mathlib.Omega.{arith}
 use borrow.Author.Tests.{not-true, not-false}
 use denote.Ref.{now}
 use lib.ListN.{length}
-use Rattle.theory.specs.Lists.{clear}
-use Rattle.theory.specs.Rule.{FactSet, count, rule}
+use Rattle.theory.specs.Rule.{clear, FactSet, count, rule}
 use Rattle.reader.specs.declared.cursor.Read.the-variants.{Found}
-use Rattle.reader.specs.Program.{programOf}
+use Rattle.reader.specs.Questions.{programOf}
 use Rattle.reader.specs.Cursor.{nextAt}
 use Rattle.reader.proofs.Items.{found, closer}
-use Rattle.rules.specs.Sets.{has}
+use Rattle.rules.specs.Questions.{has, rowOf, stepOf}
 use Rattle.rules.specs.RuleAt.{ruleAt}
 use Rattle.closure.proofs.Ready.{rules-known}
-use Rattle.rules.specs.Rows.{rowOf}
-use Rattle.rules.specs.Rows.{stepOf}
-use Rattle.rules.proofs.Rows.{stepsFrom, no-step-left, other-item, step-read}
-use Rattle.proofcheck.proofs.Clearing.{Clearing, none-cleared, all-clear, clearing-along, rule-known, meets-first, meets-second, one-clear, constraints-there}
+use Rattle.rules.proofs.Rows.{stepsFrom, no-step-left, steps-ended, other-item, step-read}
+use Rattle.proofcheck.proofs.RowClear.{Clearing, none-cleared, all-clear, clearing-along, rule-known, meets-first, meets-second, one-clear, constraints-there}
 use Rattle.proofcheck.proofs.constraints.row_clear.Statement.{statement}
 use Rattle.proofcheck.proofs.constraints.row_clear.Tie as tie
 use Rattle.proofcheck.proofs.constraints.row_clear.Reads as reads
@@ -36,7 +33,7 @@ abbrev μ-loop : tie.MeasureT-loop
 
 -- once an item is read
 item-read : (c : tie.After-known-told Inv-loop μ-loop) → nextAt (now (c .before .before .before .before .before .before .before .before .before .args .proof)) (c .before .before .before .before .loop .cursor) ≡ Found (c .before .item .given .0 .0) (c .before .item .given .0 .1 .0)
-item-read c = sym (c .before .before .before .next .ensures) ∙ c .before .item .given .1
+item-read c = sym (c .before .before .before .next .ensures .0) ∙ c .before .item .given .1
 
 -- once it is a step
 a-step : (c : tie.After-known-told2 Inv-loop μ-loop) → stepsFrom (now (c .before .before .before .before .before .before .before .before .before .before .before .before .args .proof)) (c .before .before .before .before .before .before .before .loop .cursor) ≡ stepOf (c .before .item2 .given .0 .0) (c .before .item2 .given .0 .1 .0) ∷ stepsFrom (now (c .before .before .before .before .before .before .before .before .before .before .before .before .args .proof)) (c .before .before .before .before .item .given .0 .1 .0)
@@ -58,7 +55,7 @@ enum-told : tie.Need-enum-told Inv-loop μ-loop
 enum-told c = search needs
 
 returns : tie.Need-returns Inv-loop μ-loop
-returns c = all-clear (c .before .before .before .loop .inv) (no-step-left _ _ _ _ (sym (c .before .before .next .ensures) ∙ c .enum-told .given .1))
+returns c = all-clear (c .before .before .before .loop .inv) (no-step-left _ _ _ _ (sym (c .before .before .next .ensures .0) ∙ c .enum-told .given .1))
 
 enum-known-item : tie.Need-enum-known-item Inv-loop μ-loop
 enum-known-item c = search needs
@@ -93,6 +90,12 @@ loop-less-2 c = closer (found _ _ _ _ (item-read (c .before)))
 loop-again-2 : tie.Need-loop-again-2 Inv-loop μ-loop
 loop-again-2 c = clearing-along (c .before .before .before .before .before .loop .inv) _ (other-item _ _ _ _ (item-read (c .before)) (c .match2 .keys2))
 
+enum-told-2 : tie.Need-enum-told-2 Inv-loop μ-loop
+enum-told-2 c = search needs
+
+returns-4 : tie.Need-returns-4 Inv-loop μ-loop
+returns-4 c = all-clear (c .before .before .before .loop .inv) (steps-ended _ _ _ (sym (c .before .before .next .ensures .0) ∙ c .enum-told2 .given .1))
+
 pub row-clear-spec : {M : Type 1} → statement M
 row-clear-spec =
     tie.close
@@ -113,4 +116,6 @@ row-clear-spec =
     loop-less
     loop-again
     loop-less-2
-    loop-again-2)
+    loop-again-2
+    enum-told-2
+    returns-4)

@@ -3,11 +3,11 @@ use borrow.Author.Needs.{needs}
 use Prim.Native.Nat.{_-_}
 use mathlib.Core.Path.{refl, sym, ap, _∙_}
 use mathlib.Core.Bool.{not}
-use Rattle.reader.specs.Program.{constraintsOf}
-use Rattle.rules.specs.Sets.{has}
+use Rattle.reader.specs.Questions.{constraintsOf}
+use Rattle.rules.specs.Questions.{has}
 use Rattle.rules.specs.RuleAt.{ruleAt}
-use Rattle.view.proofs.Giving.{premise-given, constraint-given, none-given}
-use Rattle.proofcheck.proofs.Viewing.{Viewing, constraints-ahead, item-taken, less-left, taken-along, taken-fails, taken-passes, none-left}
+use Rattle.view.proofs.RangeItems.{premise-given, constraint-given, none-given}
+use Rattle.proofcheck.proofs.ReadByView.{Viewing, constraints-ahead, item-taken, less-left, taken-along, taken-fails, taken-passes, none-left}
 use Rattle.proofcheck.proofs.own.constraints_clear.Statement.{statement}
 use Rattle.proofcheck.proofs.own.constraints_clear.Tie as tie
 use Rattle.proofcheck.proofs.own.constraints_clear.Reads as reads

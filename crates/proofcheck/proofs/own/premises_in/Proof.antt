@@ -3,11 +3,11 @@ use borrow.Author.Needs.{needs}
 use Prim.Native.Nat.{_-_}
 use mathlib.Core.Path.{refl, sym, _∙_}
 use borrow.Author.Tests.{not-true, not-false}
-use Rattle.reader.specs.Program.{premisesOf}
-use Rattle.rules.specs.Sets.{has}
+use Rattle.reader.specs.Questions.{premisesOf}
+use Rattle.rules.specs.Questions.{has}
 use Rattle.rules.specs.RuleAt.{ruleAt}
-use Rattle.view.proofs.Giving.{premise-given, constraint-given, none-given}
-use Rattle.proofcheck.proofs.Viewing.{Viewing, premises-ahead, item-taken, less-left, taken-along, taken-fails, taken-passes, none-left}
+use Rattle.view.proofs.RangeItems.{premise-given, constraint-given, none-given}
+use Rattle.proofcheck.proofs.ReadByView.{Viewing, premises-ahead, item-taken, less-left, taken-along, taken-fails, taken-passes, none-left}
 use Rattle.proofcheck.proofs.own.premises_in.Statement.{statement}
 use Rattle.proofcheck.proofs.own.premises_in.Tie as tie
 use Rattle.proofcheck.proofs.own.premises_in.Reads as reads

@@ -7,9 +7,9 @@ use lib.ListN.{length}
 use Rattle.reader.specs.declared.cursor.Read.the-variants.{Found}
 use Rattle.reader.specs.Cursor.{nextAt}
 use Rattle.reader.proofs.Items.{found, closer}
-use Rattle.rules.specs.Rows.{rowOf}
-use Rattle.rules.proofs.Rows.{stepsFrom, no-step-left, other-item, step-read}
-use Rattle.proofcheck.proofs.Ending.{Ending, none-passed, all-passed, ending-along, one-passed}
+use Rattle.rules.specs.Questions.{rowOf}
+use Rattle.rules.proofs.Rows.{stepsFrom, no-step-left, steps-ended, other-item, step-read}
+use Rattle.proofcheck.proofs.RowEnds.{Ending, none-passed, all-passed, ending-along, one-passed}
 use Rattle.proofcheck.proofs.steps.ends_with.Statement.{statement}
 use Rattle.proofcheck.proofs.steps.ends_with.Tie as tie
 use Rattle.proofcheck.proofs.steps.ends_with.Reads as reads
@@ -24,7 +24,7 @@ abbrev μ-loop : tie.MeasureT-loop
 
 -- once an item is read
 item-read : (c : tie.After-known-told Inv-loop μ-loop) → nextAt (now (c .before .before .before .before .before .before .args .proof)) (c .before .before .before .before .loop .cursor) ≡ Found (c .before .item .given .0 .0) (c .before .item .given .0 .1 .0)
-item-read c = sym (c .before .before .before .next .ensures) ∙ c .before .item .given .1
+item-read c = sym (c .before .before .before .next .ensures .0) ∙ c .before .item .given .1
 
 loop-holds : tie.Need-loop-holds Inv-loop μ-loop
 loop-holds c = none-passed _ _
@@ -36,7 +36,7 @@ enum-told : tie.Need-enum-told Inv-loop μ-loop
 enum-told c = search needs
 
 returns : tie.Need-returns Inv-loop μ-loop
-returns c = all-passed (c .before .before .before .loop .inv) (no-step-left _ _ _ _ (sym (c .before .before .next .ensures) ∙ c .enum-told .given .1))
+returns c = all-passed (c .before .before .before .loop .inv) (no-step-left _ _ _ _ (sym (c .before .before .next .ensures .0) ∙ c .enum-told .given .1))
 
 enum-known-item : tie.Need-enum-known-item Inv-loop μ-loop
 enum-known-item c = search needs
@@ -56,6 +56,12 @@ loop-less-2 c = closer (found _ _ _ _ (item-read (c .before)))
 loop-again-2 : tie.Need-loop-again-2 Inv-loop μ-loop
 loop-again-2 c = ending-along (c .before .before .before .before .before .loop .inv) _ (other-item _ _ _ _ (item-read (c .before)) (c .match2 .keys2))
 
+enum-told-2 : tie.Need-enum-told-2 Inv-loop μ-loop
+enum-told-2 c = search needs
+
+returns-2 : tie.Need-returns-2 Inv-loop μ-loop
+returns-2 c = all-passed (c .before .before .before .loop .inv) (steps-ended _ _ _ (sym (c .before .before .next .ensures .0) ∙ c .enum-told2 .given .1))
+
 pub ends-with-spec : {M : Type 1} → statement M
 ends-with-spec =
     tie.close
@@ -71,4 +77,6 @@ ends-with-spec =
     loop-less
     loop-again
     loop-less-2
-    loop-again-2)
+    loop-again-2
+    enum-told-2
+    returns-2)

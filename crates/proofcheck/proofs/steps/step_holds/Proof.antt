@@ -1,8 +1,8 @@
--- `step_holds`: each way through the tests is a law of `Holding`.
+-- `step_holds`: each way through the tests is a law of `StepsHold`.
 use borrow.Author.Needs.{needs}
 use native.Mathlib.Omega.{arith}
 use Rattle.closure.proofs.Ready.{rules-known}
-use Rattle.proofcheck.proofs.Holding.{unknown-rule, other-conclusion, premises-decide}
+use Rattle.proofcheck.proofs.StepsHold.{unknown-rule, other-conclusion, premises-decide}
 use Rattle.proofcheck.proofs.steps.step_holds.Statement.{statement}
 use Rattle.proofcheck.proofs.steps.step_holds.Tie as tie
 use Rattle.proofcheck.proofs.steps.step_holds.Reads as reads

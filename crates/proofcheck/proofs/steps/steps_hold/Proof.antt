@@ -9,14 +9,13 @@ use denote.Ref.{now}
 use lib.ListN.{length, length-set}
 use Rattle.reader.specs.declared.cursor.Read.the-variants.{Found}
 use Rattle.reader.specs.Item.{maxFacts}
-use Rattle.reader.specs.Program.{programOf}
+use Rattle.reader.specs.Questions.{programOf}
 use Rattle.reader.specs.Cursor.{nextAt}
 use Rattle.reader.proofs.Items.{found, closer}
-use Rattle.rules.proofs.Sets.{marked}
-use Rattle.rules.specs.Rows.{rowOf}
-use Rattle.rules.specs.Rows.{stepOf}
-use Rattle.rules.proofs.Rows.{stepsFrom, no-step-left, other-item, step-read, fact-narrow}
-use Rattle.proofcheck.proofs.Holding.{Holding, none-held, all-hold, holding-along, one-fails, one-holds}
+use Rattle.rules.proofs.Sets.{has-set}
+use Rattle.rules.specs.Questions.{rowOf, stepOf}
+use Rattle.rules.proofs.Rows.{stepsFrom, no-step-left, steps-ended, other-item, step-read, fact-narrow}
+use Rattle.proofcheck.proofs.StepsHold.{Holding, none-held, all-hold, holding-along, one-fails, one-holds}
 use Rattle.proofcheck.proofs.steps.steps_hold.Statement.{statement}
 use Rattle.proofcheck.proofs.steps.steps_hold.Tie as tie
 use Rattle.proofcheck.proofs.steps.steps_hold.Reads as reads
@@ -32,7 +31,7 @@ abbrev μ-loop : tie.MeasureT-loop
 
 -- once an item is read
 item-read : (c : tie.After-known-told Inv-loop μ-loop) → nextAt (now (c .before .before .before .before .before .before .before .args .proof)) (c .before .before .before .before .loop .cursor) ≡ Found (c .before .item .given .0 .0) (c .before .item .given .0 .1 .0)
-item-read c = sym (c .before .before .before .next .ensures) ∙ c .before .item .given .1
+item-read c = sym (c .before .before .before .next .ensures .0) ∙ c .before .item .given .1
 
 -- once it is a step
 a-step : (c : tie.After-known-told2 Inv-loop μ-loop) → stepsFrom (now (c .before .before .before .before .before .before .before .before .before .before .args .proof)) (c .before .before .before .before .before .before .before .loop .cursor) ≡ stepOf (c .before .item2 .given .0 .0) (c .before .item2 .given .0 .1 .0) ∷ stepsFrom (now (c .before .before .before .before .before .before .before .before .before .before .args .proof)) (c .before .before .before .before .item .given .0 .1 .0)
@@ -52,7 +51,7 @@ enum-told c = search needs
 
 returns : tie.Need-returns Inv-loop μ-loop
 returns c =
-    let held = all-hold (c .before .before .before .loop .inv .1) (no-step-left _ _ _ _ (sym (c .before .before .next .ensures) ∙ c .enum-told .given .1)) in
+    let held = all-hold (c .before .before .before .loop .inv .1) (no-step-left _ _ _ _ (sym (c .before .before .next .ensures .0) ∙ c .enum-told .given .1)) in
     (held .0, (held .1, c .before .before .before .loop .inv .0))
 
 enum-known-item : tie.Need-enum-known-item Inv-loop μ-loop
@@ -79,7 +78,7 @@ loop-less c = closer (found _ _ _ _ (item-read (c .before .before .before .befor
 loop-again : tie.Need-loop-again Inv-loop μ-loop
 loop-again c = (
   length-set (c .before .before .before .before .before .before .before .before .before .before .before .before .loop .facts) _ 1 ∙ c .before .before .before .before .before .before .before .before .before .before .before .before .loop .inv .0,
-  one-holds (c .before .before .before .before .before .before .before .before .before .before .before .before .loop .inv .1) _ _ (a-step (c .before .before .before .before .before)) _ (sym (c .before .step-holds .ensures) ∙ not-false _ (c .if1 .left)) (marked (c .before .before .before .before .before .before .before .before .before .before .before .before .loop .facts) _ (omega (arith, a-fact (c .before .before .before .before .before), c .before .before .before .before .before .before .before .before .before .before .before .before .loop .inv .0))),
+  one-holds (c .before .before .before .before .before .before .before .before .before .before .before .before .loop .inv .1) _ _ (a-step (c .before .before .before .before .before)) _ (sym (c .before .step-holds .ensures) ∙ not-false _ (c .if1 .left)) (has-set (c .before .before .before .before .before .before .before .before .before .before .before .before .loop .facts) _ (omega (arith, a-fact (c .before .before .before .before .before), c .before .before .before .before .before .before .before .before .before .before .before .before .loop .inv .0))),
 )
 
 loop-less-2 : tie.Need-loop-less-2 Inv-loop μ-loop
@@ -87,6 +86,14 @@ loop-less-2 c = closer (found _ _ _ _ (item-read (c .before)))
 
 loop-again-2 : tie.Need-loop-again-2 Inv-loop μ-loop
 loop-again-2 c = (c .before .before .before .before .before .loop .inv .0, holding-along (c .before .before .before .before .before .loop .inv .1) _ (other-item _ _ _ _ (item-read (c .before)) (c .match2 .keys2)))
+
+enum-told-2 : tie.Need-enum-told-2 Inv-loop μ-loop
+enum-told-2 c = search needs
+
+returns-3 : tie.Need-returns-3 Inv-loop μ-loop
+returns-3 c =
+    let held = all-hold (c .before .before .before .loop .inv .1) (steps-ended _ _ _ (sym (c .before .before .next .ensures .0) ∙ c .enum-told2 .given .1)) in
+    (held .0, (held .1, c .before .before .before .loop .inv .0))
 
 pub steps-hold-spec : {M : Type 1} → statement M
 steps-hold-spec =
@@ -107,4 +114,6 @@ steps-hold-spec =
     loop-less
     loop-again
     loop-less-2
-    loop-again-2)
+    loop-again-2
+    enum-told-2
+    returns-3)

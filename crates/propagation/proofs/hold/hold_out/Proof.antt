@@ -5,7 +5,7 @@ use lib.ListN.{length, getD, take, replicate, length-replicate}
 use lib.Seq.{length-take-le}
 use denote.Ref.{now}
 use Rattle.reader.specs.Item.{maxFacts}
-use Rattle.reader.specs.Program.{programOf}
+use Rattle.reader.specs.Questions.{programOf}
 use Rattle.literals.specs.Literal.{literals}
 use Rattle.propagation.proofs.Holding.{Holding, none-held, fact-small, next-fact, one-held, all-held}
 use Rattle.propagation.proofs.hold.hold_out.Statement.{statement}

@@ -5,7 +5,7 @@ use native.Mathlib.Omega.{arith}
 use mathlib.Core.Path.{_≡_, refl, _∙_}
 use lib.ListN.{getD}
 use denote.Ref.{now}
-use Rattle.reader.specs.Program.{programOf}
+use Rattle.reader.specs.Questions.{programOf}
 use Rattle.literals.specs.Literal.{outside, literals}
 use Rattle.literals.specs.Rows.{Row}
 use Rattle.propagation.specs.State.{Between, told, toldCount}

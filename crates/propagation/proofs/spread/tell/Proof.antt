@@ -4,9 +4,8 @@ use lib.ListN.{getD}
 use denote.Ref.{now}
 use native.Mathlib.Omega.{arith}
 use mathlib.Core.Logic.{⊎-elim}
-use Rattle.reader.specs.Questions.{maxRules}
+use Rattle.reader.specs.Questions.{maxRules, programOf}
 use Rattle.closure.proofs.Ready.{rules-known}
-use Rattle.reader.specs.Program.{programOf}
 use Rattle.propagation.specs.State.{Telling, Onward}
 use Rattle.propagation.proofs.Spreading.{nothing-yet, RuleTold, at-slot, chain-ended, turn-on, turn-concluded}
 use Rattle.propagation.proofs.spread.tell.Statement.{statement}

@@ -5,8 +5,7 @@ use mathlib.Core.Logic.{⊎-elim}
 use lib.ListN.{replicate, length-replicate}
 use denote.Ref.{now}
 use Rattle.theory.specs.Rule.{count}
-use Rattle.reader.specs.Program.{programOf}
-use Rattle.reader.specs.Questions.{maxRules}
+use Rattle.reader.specs.Questions.{programOf, maxRules}
 use Rattle.literals.specs.Literal.{literals}
 use Rattle.closure.proofs.Ready.{rules-known}
 use Rattle.propagation.proofs.Spreading.{ready-known}

@@ -1,4 +1,4 @@
--- `accept_items`: what is to come gives the verdict of the whole.
+-- `accept_items`: what is to come gives the answer of the whole.
 use Rattle.reader.proofs.Items.{found, closer}
 use Prim.Native.Nat.{_-_}
 use mathlib.Core.Path.{_≡_, refl, sym, _∙_}
@@ -7,22 +7,22 @@ use denote.Ref.{now}
 use lib.ListN.{length}
 use Rattle.reader.specs.declared.cursor.Read.the-variants.{Found}
 use Rattle.reader.specs.Cursor.{nextAt}
-use Rattle.reader.proofs.Judging.{Along, refused, no-to-item, bytes-left, all-yes, next-item}
+use Rattle.reader.proofs.BodyAsked.{Along, refused, no-to-item, bytes-left, all-yes, next-item, cut-off}
 use Rattle.reader.proofs.questions.accept_items.Statement.{statement}
 use Rattle.reader.proofs.questions.accept_items.Tie as tie
 
 abbrev Inv-loop : tie.InvT-loop
-Inv-loop file cursor₀ seen₀ cursor seen = Along file cursor₀ seen₀ cursor seen
+Inv-loop file cursor₀ scan₀ cursor scan = Along file cursor₀ scan₀ cursor scan
 
 abbrev μ-loop : tie.MeasureT-loop
-μ-loop file cursor₀ seen₀ cursor seen = length file - cursor .at
+μ-loop file cursor₀ scan₀ cursor scan = length file - cursor .at
 
 -- once an item is read and its questions are answered
-walk : (c : tie.After-ask Inv-loop μ-loop) → Along (now (c .before .before .before .before .before .before .before .args .file)) (c .before .before .before .before .before .before .before .args .from) (c .before .before .before .before .before .before .before .args .before) (c .before .before .before .before .before .loop .cursor) (c .before .before .before .before .before .loop .seen)
+walk : (c : tie.After-ask Inv-loop μ-loop) → Along (now (c .before .before .before .before .before .before .before .args .file)) (c .before .before .before .before .before .before .before .args .from) (c .before .before .before .before .before .before .before .args .before) (c .before .before .before .before .before .loop .cursor) (c .before .before .before .before .before .loop .scan)
 walk c = c .before .before .before .before .before .loop .inv
 
 item-read : (c : tie.After-ask Inv-loop μ-loop) → nextAt (now (c .before .before .before .before .before .before .before .args .file)) (c .before .before .before .before .before .loop .cursor) ≡ Found (c .before .before .item .given .0 .0) (c .before .before .item .given .0 .1 .0)
-item-read c = sym (c .before .before .before .before .next .ensures) ∙ c .before .before .item .given .1
+item-read c = sym (c .before .before .before .before .next .ensures .0) ∙ c .before .before .item .given .1
 
 loop-holds : tie.Need-loop-holds Inv-loop μ-loop
 loop-holds c = record { body = c .before .pre; same = refl }
@@ -36,7 +36,7 @@ enum-known-r c = search needs
 returns : tie.Need-returns Inv-loop μ-loop
 returns c =
     refused _ _ _ _ _ (c .before .before .before .before .loop .inv) _ _
-    (sym (c .before .before .before .next .ensures) ∙ c .before .r .given .1)
+    (sym (c .before .before .before .next .ensures .0) ∙ c .before .r .given .1)
 
 enum-known-item : tie.Need-enum-known-item Inv-loop μ-loop
 enum-known-item c = search needs
@@ -76,6 +76,12 @@ loop-again c =
     let a = c .before .before .before in
     next-item _ _ _ _ _ (walk a) _ _ _ (item-read a) (a .ask .ensures) _ (c .before .s .given .1)
 
+enum-told-2 : tie.Need-enum-told-2 Inv-loop μ-loop
+enum-told-2 c = search needs
+
+returns-5 : tie.Need-returns-5 Inv-loop μ-loop
+returns-5 c = cut-off _ _ _ _ _ (c .before .before .before .loop .inv) _ (sym (c .before .before .next .ensures .0) ∙ c .enum-told2 .given .1)
+
 pub accept-items-spec : {M : Type 1} → statement M
 accept-items-spec =
     tie.close
@@ -95,4 +101,6 @@ accept-items-spec =
     returns-4
     enum-known-s
     loop-less
-    loop-again)
+    loop-again
+    enum-told-2
+    returns-5)

@@ -1,5 +1,5 @@
 -- `ask_opens`: the tests are the links of the chain of questions.
-use Rattle.reader.proofs.Judging.{one-rule-more}
+use Rattle.reader.proofs.BodyAsked.{one-rule-more}
 use borrow.Author.Tests.{le-ltb, lt-ltb}
 use borrow.Author.Needs.{needs}
 use Rattle.reader.proofs.questions.ask_opens.Statement.{statement}

@@ -1,6 +1,6 @@
 -- `ask_own`: the tests are the links of the chain of questions.
 use borrow.Author.Tests.{le-ltb, lt-ltb}
-use Rattle.reader.proofs.Judging.{pos-of-ne}
+use Rattle.reader.proofs.BodyAsked.{pos-of-ne}
 use Rattle.reader.proofs.questions.ask_own.Statement.{statement}
 use Rattle.reader.proofs.questions.ask_own.Tie as tie
 

@@ -6,7 +6,7 @@ use lib.ListN.{length}
 use Rattle.reader.specs.Rules.{RuleAfter}
 use mathlib.Core.Path.{sym, _∙_}
 use native.Mathlib.Omega.{arith}
-use Rattle.reader.proofs.Walks.{Counting, none-counted, all-counted, an-exception, a-plain-rule, nearer}
+use Rattle.reader.proofs.RuleWalks.{Counting, none-counted, all-counted, an-exception, a-plain-rule, nearer}
 use Rattle.reader.proofs.rules.count_exceptions.Statement.{statement}
 use Rattle.reader.proofs.rules.count_exceptions.Tie as tie
 

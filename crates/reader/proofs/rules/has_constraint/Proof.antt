@@ -10,8 +10,8 @@ use mathlib.Core.Bool.{not}
 use mathlib.Core.List.{List}
 use Rattle.theory.specs.Rule.{null}
 use Rattle.reader.specs.Cursor.{nextAt, itemsAt}
-use Rattle.reader.specs.Program.{constraintsOf}
-use Rattle.reader.proofs.Walks.{no-constraint, past-rule, a-premise, a-constraint}
+use Rattle.reader.specs.Questions.{constraintsOf}
+use Rattle.reader.proofs.RuleWalks.{no-constraint, none-constrains, past-rule, a-premise, a-constraint}
 use Rattle.reader.proofs.rules.has_constraint.Statement.{statement}
 use Rattle.reader.proofs.rules.has_constraint.Tie as tie
 
@@ -23,7 +23,7 @@ abbrev μ-loop : tie.MeasureT-loop
 
 -- once an item is read
 item-read : (c : tie.After-known-told Inv-loop μ-loop) → nextAt (now (c .before .before .before .before .before .before .args .file)) (c .before .before .before .before .loop .cursor) ≡ Found (c .before .item .given .0 .0) (c .before .item .given .0 .1 .0)
-item-read c = sym (c .before .before .before .next .ensures) ∙ c .before .item .given .1
+item-read c = sym (c .before .before .before .next .ensures .0) ∙ c .before .item .given .1
 
 loop-holds : tie.Need-loop-holds Inv-loop μ-loop
 loop-holds c = refl
@@ -35,7 +35,7 @@ enum-told : tie.Need-enum-told Inv-loop μ-loop
 enum-told c = search needs
 
 returns : tie.Need-returns Inv-loop μ-loop
-returns c = sym (ap (λ (cs : List ℕ). not (null cs)) (c .before .before .before .loop .inv ∙ no-constraint _ _ _ _ (sym (c .before .before .next .ensures) ∙ c .enum-told .given .1)))
+returns c = sym (ap (λ (cs : List ℕ). not (null cs)) (c .before .before .before .loop .inv ∙ no-constraint _ _ _ _ (sym (c .before .before .next .ensures .0) ∙ c .enum-told .given .1)))
 
 enum-known-item : tie.Need-enum-known-item Inv-loop μ-loop
 enum-known-item c = search needs
@@ -58,6 +58,12 @@ loop-again c = c .before .before .before .before .before .before .loop .inv ∙ 
 returns-3 : tie.Need-returns-3 Inv-loop μ-loop
 returns-3 c = sym (ap (λ (cs : List ℕ). not (null cs)) (c .before .before .before .before .before .loop .inv ∙ past-rule _ _ _ _ (item-read (c .before)) (c .match2 .keys3)))
 
+enum-told-4 : tie.Need-enum-told-4 Inv-loop μ-loop
+enum-told-4 c = search needs
+
+returns-4 : tie.Need-returns-4 Inv-loop μ-loop
+returns-4 c = sym (ap (λ (cs : List ℕ). not (null cs)) (c .before .before .before .loop .inv ∙ none-constrains _ _ _ (sym (c .before .before .next .ensures .0) ∙ c .enum-told4 .given .1)))
+
 pub has-constraint-spec : {M : Type 1} → statement M
 has-constraint-spec =
     tie.close
@@ -74,4 +80,6 @@ has-constraint-spec =
     enum-told-3
     loop-less
     loop-again
-    returns-3)
+    returns-3
+    enum-told-4
+    returns-4)

@@ -4,7 +4,7 @@ use borrow.Author.Needs.{needs}
 use denote.Ref.{now}
 use lib.ListN.{length}
 use Rattle.reader.specs.Rules.{RuleAfter}
-use Rattle.reader.proofs.Walks.{Marking, none-marked, all-marked, rule-marked, nearer}
+use Rattle.reader.proofs.RuleWalks.{Marking, none-marked, all-marked, rule-marked, nearer}
 use Rattle.reader.proofs.rules.mark_constraints.Statement.{statement}
 use Rattle.reader.proofs.rules.mark_constraints.Tie as tie
 

@@ -7,7 +7,7 @@ use lib.ListN.{length}
 use Rattle.reader.specs.declared.cursor.Read.the-variants.{Found}
 use Rattle.reader.specs.Cursor.{nextAt}
 use Rattle.reader.proofs.Items.{found, closer}
-use Rattle.reader.proofs.Walks.{no-constraint, past-rule, a-premise, a-constraint, constraint-below, MarkingOwn, own-marked, own-mark, own-pass}
+use Rattle.reader.proofs.RuleWalks.{no-constraint, none-constrains, past-rule, a-premise, a-constraint, constraint-below, MarkingOwn, own-marked, own-mark, own-pass}
 use Rattle.reader.proofs.rules.mark_own_constraints.Statement.{statement}
 use Rattle.reader.proofs.rules.mark_own_constraints.Tie as tie
 
@@ -19,7 +19,7 @@ abbrev μ-loop : tie.MeasureT-loop
 
 -- once an item is read
 item-read : (c : tie.After-known-told Inv-loop μ-loop) → nextAt (now (c .before .before .before .before .before .before .args .file)) (c .before .before .before .before .loop .cursor) ≡ Found (c .before .item .given .0 .0) (c .before .item .given .0 .1 .0)
-item-read c = sym (c .before .before .before .next .ensures) ∙ c .before .item .given .1
+item-read c = sym (c .before .before .before .next .ensures .0) ∙ c .before .item .given .1
 
 loop-holds : tie.Need-loop-holds Inv-loop μ-loop
 loop-holds c = record { same = refl }
@@ -31,7 +31,7 @@ enum-told : tie.Need-enum-told Inv-loop μ-loop
 enum-told c = search needs
 
 returns : tie.Need-returns Inv-loop μ-loop
-returns c = own-marked (c .before .before .before .loop .inv) (no-constraint _ _ _ _ (sym (c .before .before .next .ensures) ∙ c .enum-told .given .1))
+returns c = own-marked (c .before .before .before .loop .inv) (no-constraint _ _ _ _ (sym (c .before .before .next .ensures .0) ∙ c .enum-told .given .1))
 
 enum-known-item : tie.Need-enum-known-item Inv-loop μ-loop
 enum-known-item c = search needs
@@ -63,6 +63,12 @@ loop-again-2 c = own-pass (c .before .before .before .before .before .before .lo
 returns-2 : tie.Need-returns-2 Inv-loop μ-loop
 returns-2 c = own-marked (c .before .before .before .before .before .loop .inv) (past-rule _ _ _ _ (item-read (c .before)) (c .match2 .keys3))
 
+enum-told-3 : tie.Need-enum-told-3 Inv-loop μ-loop
+enum-told-3 c = search needs
+
+returns-3 : tie.Need-returns-3 Inv-loop μ-loop
+returns-3 c = own-marked (c .before .before .before .loop .inv) (none-constrains _ _ _ (sym (c .before .before .next .ensures .0) ∙ c .enum-told3 .given .1))
+
 pub mark-own-constraints-spec : {M : Type 1} → statement M
 mark-own-constraints-spec =
     tie.close
@@ -82,4 +88,6 @@ mark-own-constraints-spec =
     enum-told-2
     loop-less-2
     loop-again-2
-    returns-2)
+    returns-2
+    enum-told-3
+    returns-3)

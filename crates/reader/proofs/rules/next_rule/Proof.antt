@@ -8,7 +8,7 @@ use Rattle.reader.specs.declared.cursor.Read.the-variants.{Found}
 use Rattle.reader.specs.Cursor.{nextAt}
 use Rattle.reader.proofs.Items.{found, closer}
 use native.Mathlib.Omega.{arith}
-use Rattle.reader.proofs.Walks.{ToRule, no-rule, rule-found, rule-later}
+use Rattle.reader.proofs.RuleWalks.{ToRule, no-rule, no-rule-left, rule-found, rule-later}
 use Rattle.reader.proofs.rules.next_rule.Statement.{statement}
 use Rattle.reader.proofs.rules.next_rule.Tie as tie
 
@@ -20,7 +20,7 @@ abbrev μ-loop : tie.MeasureT-loop
 
 -- once an item is read
 item-read : (c : tie.After-known-told Inv-loop μ-loop) → nextAt (now (c .before .before .before .before .before .before .args .file)) (c .before .before .before .before .loop .cursor) ≡ Found (c .before .item .given .0 .0) (c .before .item .given .0 .1 .0)
-item-read c = sym (c .before .before .before .next .ensures) ∙ c .before .item .given .1
+item-read c = sym (c .before .before .before .next .ensures .0) ∙ c .before .item .given .1
 
 loop-holds : tie.Need-loop-holds Inv-loop μ-loop
 loop-holds c = record { same = refl; onward = omega arith }
@@ -32,7 +32,7 @@ enum-told : tie.Need-enum-told Inv-loop μ-loop
 enum-told c = search needs
 
 returns : tie.Need-returns Inv-loop μ-loop
-returns c = no-rule (c .before .before .before .loop .inv) _ _ (sym (c .before .before .next .ensures) ∙ c .enum-told .given .1)
+returns c = no-rule (c .before .before .before .loop .inv) _ _ (sym (c .before .before .next .ensures .0) ∙ c .enum-told .given .1)
 
 enum-known-item : tie.Need-enum-known-item Inv-loop μ-loop
 enum-known-item c = search needs
@@ -49,6 +49,12 @@ loop-less c = closer (found _ _ _ _ (item-read (c .before)))
 loop-again : tie.Need-loop-again Inv-loop μ-loop
 loop-again c = rule-later (c .before .before .before .before .before .loop .inv) _ _ (item-read (c .before)) (c .match2 .keys2)
 
+enum-told-2 : tie.Need-enum-told-2 Inv-loop μ-loop
+enum-told-2 c = search needs
+
+returns-3 : tie.Need-returns-3 Inv-loop μ-loop
+returns-3 c = no-rule-left (c .before .before .before .loop .inv) _ (sym (c .before .before .next .ensures .0) ∙ c .enum-told2 .given .1)
+
 pub next-rule-spec : {M : Type 1} → statement M
 next-rule-spec =
     tie.close
@@ -63,4 +69,6 @@ next-rule-spec =
     enum-known-item-2
     returns-2
     loop-less
-    loop-again)
+    loop-again
+    enum-told-2
+    returns-3)

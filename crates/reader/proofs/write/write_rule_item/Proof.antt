@@ -4,7 +4,7 @@ use native.Mathlib.Numerals.{add-one, add-two}
 use lib.ListN.{length-set}
 use denote.Ref.{now}
 use Rattle.reader.specs.Write.{ruleItem}
-use Rattle.reader.proofs.Written.{stored}
+use Rattle.reader.proofs.ReadBack.{stored}
 use borrow.Author.Needs.{needs}
 use Rattle.reader.proofs.write.write_rule_item.Statement.{statement}
 use Rattle.reader.proofs.write.write_rule_item.Tie as tie

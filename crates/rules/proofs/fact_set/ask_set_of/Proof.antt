@@ -1,9 +1,9 @@
--- `ask_set_of`: each way through the tests is a law of `Asking`.
+-- `ask_set_of`: each way through the tests is a law of `OperationAsked`.
 use native.Mathlib.Omega.{arith}
 use denote.Ref.{now}
 use mathlib.Core.Path.{sym, ap, _∙_}
 use Rattle.rules.specs.Answer.{answerOf}
-use Rattle.rules.proofs.Asking.{wrong-length, not-bits, bits}
+use Rattle.rules.proofs.OperationAsked.{wrong-length, not-bits, bits}
 use borrow.Author.Needs.{needs}
 use Rattle.rules.proofs.fact_set.ask_set_of.Statement.{statement}
 use Rattle.rules.proofs.fact_set.ask_set_of.Tie as tie

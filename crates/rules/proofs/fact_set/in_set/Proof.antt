@@ -1,6 +1,6 @@
 -- `in_set`: a place past the end holds no 1.
 use mathlib.Core.Path.{refl, sym}
-use Rattle.rules.specs.Sets.{has}
+use Rattle.rules.specs.Questions.{has}
 use Rattle.rules.proofs.Sets.{past-end}
 use borrow.Author.Needs.{needs}
 use Rattle.rules.proofs.fact_set.in_set.Statement.{statement}

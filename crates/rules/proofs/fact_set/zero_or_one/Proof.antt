@@ -8,7 +8,7 @@ use native.Mathlib.Omega.{arith}
 use lib.ListN.{length, getD, drop, drop-of-length-le}
 use lib.Seq.{drop-cons}
 use lib.Dec.{leb}
-use Rattle.rules.proofs.Walks.{Decides, whole-decides, all-pass, one-fails, one-passes}
+use Rattle.rules.proofs.ItemWalks.{Decides, whole-decides, all-pass, one-fails, one-passes}
 use Rattle.rules.proofs.fact_set.zero_or_one.Statement.{statement}
 use Rattle.rules.proofs.fact_set.zero_or_one.Tie as tie
 use Rattle.rules.proofs.fact_set.zero_or_one.Reads as reads

@@ -9,7 +9,7 @@ use denote.Ref.{now}
 use Rattle.reader.specs.declared.cursor.Read.the-variants.{Found}
 use Rattle.reader.specs.Cursor.{nextAt}
 use Rattle.reader.proofs.Items.{found, closer}
-use Rattle.rules.proofs.Indexing.{Indexing, none-indexed, all-indexed, other-item, place-fits, a-rule, rule-indexed, in-table}
+use Rattle.rules.proofs.RulesIndexed.{Indexing, none-indexed, all-indexed, all-indexed-left, other-item, place-fits, a-rule, rule-indexed, in-table}
 use Rattle.rules.proofs.index.index_rules.Statement.{statement}
 use Rattle.rules.proofs.index.index_rules.Tie as tie
 use Rattle.rules.proofs.index.index_rules.Reads as reads
@@ -25,7 +25,7 @@ abbrev μ-loop : tie.MeasureT-loop
 
 -- once an item is read
 item-read : (c : tie.After-known-told Inv-loop μ-loop) → nextAt (now (c .before .before .before .before .before .before .before .args .file)) (c .before .before .before .before .loop .cursor) ≡ Found (c .before .item .given .0 .0) (c .before .item .given .0 .1 .0)
-item-read c = sym (c .before .before .before .next .ensures) ∙ c .before .item .given .1
+item-read c = sym (c .before .before .before .next .ensures .0) ∙ c .before .item .given .1
 
 after-opening-requires : tie.Need-after-opening-requires Inv-loop μ-loop
 after-opening-requires c κs = search needs
@@ -44,7 +44,7 @@ enum-told : tie.Need-enum-told Inv-loop μ-loop
 enum-told c = search needs
 
 returns : tie.Need-returns Inv-loop μ-loop
-returns c = all-indexed (c .before .before .before .loop .inv) _ _ (sym (c .before .before .next .ensures) ∙ c .enum-told .given .1)
+returns c = all-indexed (c .before .before .before .loop .inv) _ _ (sym (c .before .before .next .ensures .0) ∙ c .enum-told .given .1)
 
 enum-known-item : tie.Need-enum-known-item Inv-loop μ-loop
 enum-known-item c = search needs
@@ -76,6 +76,12 @@ loop-less-2 c = closer (found _ _ _ _ (item-read (c .before)))
 loop-again-2 : tie.Need-loop-again-2 Inv-loop μ-loop
 loop-again-2 c = other-item (c .before .before .before .before .before .loop .inv) _ _ (item-read (c .before)) (c .match2 .keys2)
 
+enum-told-3 : tie.Need-enum-told-3 Inv-loop μ-loop
+enum-told-3 c = search needs
+
+returns-2 : tie.Need-returns-2 Inv-loop μ-loop
+returns-2 c = all-indexed-left (c .before .before .before .loop .inv) _ (sym (c .before .before .next .ensures .0) ∙ c .enum-told3 .given .1)
+
 pub index-rules-spec : {M : Type 1} → statement M
 index-rules-spec =
     tie.close
@@ -96,4 +102,6 @@ index-rules-spec =
     loop-less
     loop-again
     loop-less-2
-    loop-again-2)
+    loop-again-2
+    enum-told-3
+    returns-2)

@@ -8,8 +8,8 @@ use denote.Ref.{now}
 use lib.ListN.{length}
 use Rattle.reader.specs.Questions.{maxRules}
 use Rattle.reader.specs.Rules.{RuleAfter}
-use Rattle.reader.proofs.Walks.{nearer}
-use Rattle.rules.proofs.Indexing.{Marking, none-marked, all-marked, a-rule-more, an-exception, a-plain-rule, in-table}
+use Rattle.reader.proofs.RuleWalks.{nearer}
+use Rattle.rules.proofs.RulesIndexed.{Marking, none-marked, all-marked, a-rule-more, an-exception, a-plain-rule, in-table}
 use Rattle.rules.proofs.index.mark_exceptions.Statement.{statement}
 use Rattle.rules.proofs.index.mark_exceptions.Tie as tie
 use Rattle.rules.proofs.index.mark_exceptions.Reads as reads

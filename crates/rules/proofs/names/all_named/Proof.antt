@@ -3,10 +3,10 @@ use Prim.Native.Nat.{_-_, _≤_}
 use mathlib.Core.Bool.{not, _||_}
 use mathlib.Core.Logic.{⊎-elim}
 use native.Mathlib.Omega.{arith}
-use Rattle.theory.specs.Lists.{range}
-use Rattle.rules.specs.Sets.{has}
-use Rattle.rules.proofs.Naming.{known-unnamed, known-named, not-exception}
-use Rattle.rules.proofs.Walks.{Decides, whole-decides, not-tested, all-pass, one-fails, one-passes, range-all, range-cons, range-end}
+use Rattle.theory.specs.Rule.{range}
+use Rattle.rules.specs.Questions.{has}
+use Rattle.rules.proofs.NamesAsked.{known-unnamed, known-named, not-exception}
+use Rattle.rules.proofs.ItemWalks.{Decides, whole-decides, not-tested, all-pass, one-fails, one-passes, range-all, range-cons, range-end}
 use Rattle.rules.proofs.names.all_named.Statement.{statement}
 use Rattle.rules.proofs.names.all_named.Tie as tie
 use Rattle.rules.proofs.names.all_named.Reads as reads

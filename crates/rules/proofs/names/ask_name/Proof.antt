@@ -1,14 +1,14 @@
--- `ask_name`: each way through the tests is a law of `Naming`.
+-- `ask_name`: each way through the tests is a law of `NamesAsked`.
 use borrow.Author.Needs.{needs}
 use mathlib.Core.Path.{sym, ap, _∙_}
 use native.Mathlib.Omega.{arith}
 use borrow.Author.Tests.{eq-eqb, ne-eqb}
 use denote.Ref.{now}
 use lib.ListN.{length-set}
-use Rattle.rules.specs.Sets.{has}
+use Rattle.rules.specs.Questions.{has}
 use Rattle.rules.specs.Answer.{answerOf}
-use Rattle.rules.proofs.Sets.{past-end, marked}
-use Rattle.rules.proofs.Naming.{not-known, named-before, first-named}
+use Rattle.rules.proofs.Sets.{past-end, has-set}
+use Rattle.rules.proofs.NamesAsked.{not-known, named-before, first-named}
 use Rattle.rules.proofs.names.ask_name.Statement.{statement}
 use Rattle.rules.proofs.names.ask_name.Tie as tie
 use Rattle.rules.proofs.names.ask_name.Reads as reads
@@ -39,7 +39,7 @@ element-write-named c = search needs
 
 returns-4 : tie.Need-returns-4
 unfolding has
-returns-4 c = (sym (ap answerOf (first-named (has (now (c .before .before .before .before .before .before .args .kinds))) (has (now (c .before .before .before .before .before .before .args .named))) (c .before .before .before .before .before .before .args .rule .0) (eq-eqb _ _ (c .before .before .if2 .left)) (ne-eqb _ _ (c .if3 .left)))), (marked (now (c .before .before .before .before .before .before .args .named)) (c .before .before .before .before .before .before .args .rule .0) (omega arith), length-set (now (c .before .before .before .before .before .before .args .named)) _ 1 ∙ c .before .before .before .before .before .before .pre .1))
+returns-4 c = (sym (ap answerOf (first-named (has (now (c .before .before .before .before .before .before .args .kinds))) (has (now (c .before .before .before .before .before .before .args .named))) (c .before .before .before .before .before .before .args .rule .0) (eq-eqb _ _ (c .before .before .if2 .left)) (ne-eqb _ _ (c .if3 .left)))), (has-set (now (c .before .before .before .before .before .before .args .named)) (c .before .before .before .before .before .before .args .rule .0) (omega arith), length-set (now (c .before .before .before .before .before .before .args .named)) _ 1 ∙ c .before .before .before .before .before .before .pre .1))
 
 pub ask-name-spec : {M : Type 1} → statement M
 ask-name-spec =

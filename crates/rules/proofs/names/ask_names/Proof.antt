@@ -3,15 +3,14 @@ use borrow.Author.Needs.{needs}
 use Prim.Native.Nat.{_-_}
 use mathlib.Core.Path.{_≡_, refl, sym, ap, _∙_}
 use lib.ListN.{length}
-use Rattle.rules.specs.Sets.{has}
-use Rattle.rules.specs.Questions.{namesOf, namedIn}
+use Rattle.rules.specs.Questions.{has, namesOf, namedIn}
 use Rattle.reader.specs.Questions.{maxRules}
 use denote.Ref.{now}
 use Rattle.reader.specs.declared.cursor.Read.the-variants.{Found}
 use Rattle.reader.specs.Cursor.{nextAt}
-use Rattle.reader.proofs.Items.{found, closer}
-use Rattle.rules.proofs.Walks.{headed, none-read, past-names}
-use Rattle.rules.proofs.Naming.{Naming, said-yes, said-no, all-asked, not-asked, a-no, a-yes}
+use Rattle.reader.proofs.Items.{found, closer, row-ended}
+use Rattle.rules.proofs.ItemWalks.{headed, none-read, past-names}
+use Rattle.rules.proofs.NamesAsked.{Naming, said-yes, said-no, all-asked, not-asked, a-no, a-yes}
 use Rattle.rules.proofs.names.ask_names.Statement.{statement}
 use Rattle.rules.proofs.names.ask_names.Tie as tie
 use Rattle.rules.proofs.names.ask_names.Reads as reads
@@ -27,7 +26,7 @@ abbrev μ-loop : tie.MeasureT-loop
 
 -- once an item is read
 item-read : (c : tie.After-known-told Inv-loop μ-loop) → nextAt (now (c .before .before .before .before .before .before .args .bytes)) (c .before .before .before .before .loop .cursor) ≡ Found (c .before .item .given .0 .0) (c .before .item .given .0 .1 .0)
-item-read c = sym (c .before .before .before .next .ensures) ∙ c .before .item .given .1
+item-read c = sym (c .before .before .before .next .ensures .0) ∙ c .before .item .given .1
 
 loop-holds : tie.Need-loop-holds Inv-loop μ-loop
 loop-holds c = (c .before .pre .1, record { same = refl; marked = λ i. refl })
@@ -39,7 +38,7 @@ enum-told : tie.Need-enum-told Inv-loop μ-loop
 enum-told c = search needs
 
 returns : tie.Need-returns Inv-loop μ-loop
-returns c = all-asked _ _ _ _ _ _ (c .before .before .before .loop .inv .1) (none-read _ _ _ namesOf _ (sym (c .before .before .next .ensures) ∙ c .enum-told .given .1) refl)
+returns c = all-asked _ _ _ _ _ _ (c .before .before .before .loop .inv .1) (none-read _ _ _ namesOf _ (sym (c .before .before .next .ensures .0) ∙ c .enum-told .given .1) (λ fault. refl))
 
 enum-known-item : tie.Need-enum-known-item Inv-loop μ-loop
 enum-known-item c = search needs
@@ -74,6 +73,12 @@ loop-less-2 c = closer (found _ _ _ _ (item-read (c .before)))
 loop-again-2 : tie.Need-loop-again-2 Inv-loop μ-loop
 loop-again-2 c = (c .before .before .before .before .before .loop .inv .0, not-asked _ _ _ _ _ _ (c .before .before .before .before .before .loop .inv .1) _ (past-names _ _ _ _ (item-read (c .before)) (c .match2 .keys2)))
 
+enum-told-3 : tie.Need-enum-told-3 Inv-loop μ-loop
+enum-told-3 c = search needs
+
+returns-3 : tie.Need-returns-3 Inv-loop μ-loop
+returns-3 c = all-asked _ _ _ _ _ _ (c .before .before .before .loop .inv .1) (ap namesOf (row-ended _ _ _ (sym (c .before .before .next .ensures .0) ∙ c .enum-told3 .given .1)))
+
 pub ask-names-spec : {M : Type 1} → statement M
 ask-names-spec =
     tie.close
@@ -93,4 +98,6 @@ ask-names-spec =
     loop-less
     loop-again
     loop-less-2
-    loop-again-2)
+    loop-again-2
+    enum-told-3
+    returns-3)

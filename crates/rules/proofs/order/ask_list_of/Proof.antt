@@ -6,7 +6,7 @@ use borrow.Author.Tests.{not-true, not-false}
 use lib.ListN.{length-replicate}
 use Rattle.reader.specs.Questions.{maxRules}
 use Rattle.rules.specs.Answer.{answerOf}
-use Rattle.rules.proofs.Asking.{not-names, list-answered}
+use Rattle.rules.proofs.OperationAsked.{not-names, list-answered}
 use Rattle.rules.proofs.order.ask_list_of.Statement.{statement}
 use Rattle.rules.proofs.order.ask_list_of.Tie as tie
 use Rattle.rules.proofs.order.ask_list_of.Reads as reads
@@ -15,7 +15,7 @@ use Rattle.rules.proofs.names.ask_names.Reads as ask-names-reads
 use Rattle.rules.proofs.names.whole_items.Reads as whole-items-reads
 
 whole-items-requires : tie.Need-whole-items-requires
-whole-items-requires c κs = search needs
+whole-items-requires c κs = tt
 
 returns : tie.Need-returns
 returns c = sym (ap answerOf (not-names _ _ (sym (c .before .whole-items .ensures) ∙ not-true _ (c .if1 .taken))))

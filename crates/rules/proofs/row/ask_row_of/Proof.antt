@@ -1,8 +1,8 @@
--- `ask_row_of`: each way through the tests is a law of `Asking`.
+-- `ask_row_of`: each way through the tests is a law of `OperationAsked`.
 use native.Mathlib.Omega.{arith}
 use mathlib.Core.Path.{sym, ap, _∙_}
 use Rattle.rules.specs.Answer.{answerOf}
-use Rattle.rules.proofs.Asking.{fact-too-high, not-steps, steps}
+use Rattle.rules.proofs.OperationAsked.{fact-too-high, not-steps, steps}
 use borrow.Author.Needs.{needs}
 use Rattle.rules.proofs.row.ask_row_of.Statement.{statement}
 use Rattle.rules.proofs.row.ask_row_of.Tie as tie
@@ -14,7 +14,7 @@ returns : tie.Need-returns
 returns c = sym (ap answerOf (fact-too-high (c .before .before .args .facts) (c .before .before .args .fact) _ (omega arith)))
 
 whole-items-requires : tie.Need-whole-items-requires
-whole-items-requires c κs = search needs
+whole-items-requires c κs = tt
 
 returns-2 : tie.Need-returns-2
 returns-2 c = sym (ap answerOf (steps (c .before .before .before .before .args .facts) (c .before .before .before .before .args .fact) _ (omega arith) (sym (c .before .whole-items .ensures) ∙ c .if2 .taken)))

@@ -3,16 +3,16 @@ use borrow.Author.Needs.{needs}
 use Prim.Native.Nat.{_-_}
 use lib.ListN.{length}
 use Rattle.reader.specs.Cursor.{nextAt, itemsAt}
-use Rattle.reader.specs.Program.{constraintsOf}
-use Rattle.rules.specs.Sets.{has}
+use Rattle.reader.specs.Questions.{constraintsOf}
+use Rattle.rules.specs.Questions.{has}
 use Rattle.rules.specs.RuleAt.{ruleAt}
 use mathlib.Core.Path.{_≡_, refl, sym, ap, _∙_}
 use mathlib.Core.Bool.{not}
-use Rattle.reader.proofs.Walks.{past-rule}
+use Rattle.reader.proofs.RuleWalks.{past-rule}
 use denote.Ref.{now}
 use Rattle.reader.specs.declared.cursor.Read.the-variants.{Found}
-use Rattle.reader.proofs.Items.{found, closer}
-use Rattle.rules.proofs.Walks.{Decides, whole-decides, not-tested, all-pass, one-fails, one-passes, headed, none-read}
+use Rattle.reader.proofs.Items.{found, closer, row-ended}
+use Rattle.rules.proofs.ItemWalks.{Decides, whole-decides, not-tested, all-pass, one-fails, one-passes, headed, none-read}
 use Rattle.rules.proofs.rule.constraints_clear.Statement.{statement}
 use Rattle.rules.proofs.rule.constraints_clear.Tie as tie
 use Rattle.rules.proofs.rule.constraints_clear.Reads as reads
@@ -29,7 +29,7 @@ abbrev μ-loop : tie.MeasureT-loop
 
 -- once an item is read
 item-read : (c : tie.After-known-told Inv-loop μ-loop) → nextAt (now (c .before .before .before .before .before .before .before .before .args .file)) (c .before .before .before .before .loop .cursor) ≡ Found (c .before .item .given .0 .0) (c .before .item .given .0 .1 .0)
-item-read c = sym (c .before .before .before .next .ensures) ∙ c .before .item .given .1
+item-read c = sym (c .before .before .before .next .ensures .0) ∙ c .before .item .given .1
 
 own-items-requires : tie.Need-own-items-requires Inv-loop μ-loop
 own-items-requires c κs = search needs
@@ -44,7 +44,7 @@ enum-told : tie.Need-enum-told Inv-loop μ-loop
 enum-told c = search needs
 
 returns : tie.Need-returns Inv-loop μ-loop
-returns c = all-pass (c .before .before .before .loop .inv) (none-read _ _ _ constraintsOf _ (sym (c .before .before .next .ensures) ∙ c .enum-told .given .1) refl)
+returns c = all-pass (c .before .before .before .loop .inv) (none-read _ _ _ constraintsOf _ (sym (c .before .before .next .ensures .0) ∙ c .enum-told .given .1) (λ fault. refl))
 
 enum-known-item : tie.Need-enum-known-item Inv-loop μ-loop
 enum-known-item c = search needs
@@ -76,6 +76,12 @@ loop-again-2 c = not-tested (c .before .before .before .before .before .before .
 returns-3 : tie.Need-returns-3 Inv-loop μ-loop
 returns-3 c = all-pass (c .before .before .before .before .before .loop .inv) (past-rule _ _ _ _ (item-read (c .before)) (c .match2 .keys3))
 
+enum-told-3 : tie.Need-enum-told-3 Inv-loop μ-loop
+enum-told-3 c = search needs
+
+returns-4 : tie.Need-returns-4 Inv-loop μ-loop
+returns-4 c = all-pass (c .before .before .before .loop .inv) (ap constraintsOf (row-ended _ _ _ (sym (c .before .before .next .ensures .0) ∙ c .enum-told3 .given .1)))
+
 pub constraints-clear-spec : {M : Type 1} → statement M
 constraints-clear-spec =
     tie.close
@@ -96,4 +102,6 @@ constraints-clear-spec =
     enum-told-2
     loop-less-2
     loop-again-2
-    returns-3)
+    returns-3
+    enum-told-3
+    returns-4)

@@ -4,7 +4,7 @@ use mathlib.Core.Path.{refl}
 use mathlib.Core.Logic.{⊎-elim}
 use native.Mathlib.Omega.{arith}
 use Rattle.reader.specs.Write.{ruleItem}
-use Rattle.rules.proofs.Passing.{Passing, none-passed, all-passed, mark-fits, mark-put, mark-passed}
+use Rattle.rules.proofs.MarkedPut.{Passing, none-passed, all-passed, mark-fits, mark-put, mark-passed}
 use Rattle.rules.proofs.write.write_names.Statement.{statement}
 use Rattle.rules.proofs.write.write_names.Tie as tie
 

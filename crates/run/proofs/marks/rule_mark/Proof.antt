@@ -4,9 +4,9 @@ use borrow.Author.Tests.{not-true, not-false}
 use borrow.Author.Needs.{needs}
 use denote.Ref.{now}
 use Rattle.reader.specs.declared.item.FactId.{FactId}
-use Rattle.rules.specs.Sets.{has}
+use Rattle.rules.specs.Questions.{has}
 use Rattle.rules.specs.RuleAt.{ruleAt}
-use Rattle.run.proofs.Marking.{a-plain, an-applied, a-premise-out, a-constraint-in, a-conclusion-in, set-aside}
+use Rattle.run.proofs.MarksWritten.{a-plain, an-applied, a-premise-out, a-constraint-in, a-conclusion-in, set-aside}
 use Rattle.run.proofs.marks.rule_mark.Statement.{statement}
 use Rattle.run.proofs.marks.rule_mark.Tie as tie
 

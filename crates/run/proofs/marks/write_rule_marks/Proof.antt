@@ -7,15 +7,14 @@ use native.Mathlib.Omega.{arith}
 use borrow.Author.Needs.{needs}
 use denote.Ref.{now}
 use lib.ListN.{length, length-set}
-use Rattle.theory.specs.Lists.{mem, upTo}
-use Rattle.theory.specs.Rule.{everyRule}
+use Rattle.theory.specs.Rule.{mem, upTo, everyRule}
 use Rattle.theory.specs.Run.{Stand, ruleMark}
-use Rattle.reader.specs.Program.{programOf}
-use Rattle.rules.specs.Sets.{has}
+use Rattle.reader.specs.Questions.{programOf}
+use Rattle.rules.specs.Questions.{has}
 use Rattle.closure.proofs.Ready.{rules-known, indexed-rule}
 use Rattle.run.specs.Outcome.{over}
-use Rattle.run.proofs.Knowing.{known-rule}
-use Rattle.run.proofs.Marking.{Marking, none-written, one-written, all-written}
+use Rattle.run.proofs.KnownRules.{known-rule}
+use Rattle.run.proofs.MarksWritten.{Marking, none-written, one-written, all-written}
 use Rattle.run.proofs.marks.write_rule_marks.Statement.{statement}
 use Rattle.run.proofs.marks.write_rule_marks.Tie as tie
 

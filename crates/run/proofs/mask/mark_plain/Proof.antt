@@ -7,12 +7,11 @@ use native.Mathlib.Omega.{arith}
 use borrow.Author.Needs.{needs}
 use borrow.Author.Tests.{not-true, not-false}
 use denote.Ref.{now}
-use Rattle.theory.specs.Rule.{everyRule}
-use Rattle.theory.specs.Derive.{plainRules}
-use Rattle.reader.specs.Program.{programOf}
+use Rattle.theory.specs.Rule.{everyRule, plainRules}
+use Rattle.reader.specs.Questions.{programOf}
 use Rattle.closure.proofs.Ready.{rules-known, indexed-rule}
-use Rattle.run.proofs.Knowing.{known-rule}
-use Rattle.run.proofs.Plain.{Painting, none-painted, one-painted, not-painted, all-painted, plain-at, plain-known}
+use Rattle.run.proofs.KnownRules.{known-rule}
+use Rattle.run.proofs.PlainMask.{Painting, none-painted, one-painted, not-painted, all-painted, plain-at, plain-known}
 use Rattle.run.proofs.mask.mark_plain.Statement.{statement}
 use Rattle.run.proofs.mask.mark_plain.Tie as tie
 

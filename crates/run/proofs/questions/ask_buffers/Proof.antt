@@ -1,6 +1,6 @@
 -- `ask_buffers`: one question after the other.
 use borrow.Author.Needs.{needs}
-use Rattle.run.proofs.Asking.{facts-short, rules-short, steps-short, large-enough}
+use Rattle.run.proofs.RunAsked.{facts-short, rules-short, steps-short, large-enough}
 use Rattle.run.proofs.questions.ask_buffers.Statement.{statement}
 use Rattle.run.proofs.questions.ask_buffers.Tie as tie
 

@@ -8,17 +8,15 @@ use borrow.Author.Needs.{needs}
 use denote.Ref.{now}
 use Rattle.theory.specs.Rule.{everyRule}
 use Rattle.theory.specs.Run.{start}
-use Rattle.reader.specs.Program.{programOf}
-use Rattle.reader.specs.Questions.{maxRules}
+use Rattle.reader.specs.Questions.{programOf, maxRules}
 use Rattle.reader.proofs.EachKind.{Bytes}
-use Rattle.rules.specs.Sets.{has}
-use Rattle.rules.specs.Questions.{namedIn}
+use Rattle.rules.specs.Questions.{has, namedIn}
 use Rattle.rules.proofs.Sets.{unmarked}
 use Rattle.run.specs.Stands.{Holds}
-use Rattle.run.proofs.Paced.{missing-most}
-use Rattle.run.proofs.Knowing.{known-bounded, known-narrow}
-use Rattle.run.proofs.Shown.{start-shown}
-use Rattle.run.proofs.Standing.{Standing, standing-start, standing-on, few-stages, steps-kept, ended-shown, ended-stages, rule-known, stage-room, stage-closer}
+use Rattle.run.proofs.FewSteps.{missing-most}
+use Rattle.run.proofs.KnownRules.{known-bounded, known-narrow}
+use Rattle.run.proofs.MemoryShown.{start-shown}
+use Rattle.run.proofs.StandsKept.{Standing, standing-start, standing-on, few-stages, steps-kept, ended-shown, ended-stages, rule-known, stage-room, stage-closer}
 use Rattle.run.proofs.stages.all_stages.Statement.{statement}
 use Rattle.run.proofs.stages.all_stages.Tie as tie
 

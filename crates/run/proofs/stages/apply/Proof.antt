@@ -5,13 +5,13 @@ use borrow.Author.Needs.{needs}
 use denote.Ref.{now}
 use lib.ListN.{set}
 use Rattle.theory.specs.Rule.{rule}
-use Rattle.reader.specs.Program.{programOf}
+use Rattle.reader.specs.Questions.{programOf}
 use Rattle.reader.proofs.EachKind.{Bytes}
-use Rattle.rules.specs.Sets.{has}
+use Rattle.rules.specs.Questions.{has}
 use Rattle.closure.proofs.Ready.{rules-known}
-use Rattle.run.proofs.Knowing.{known-bounded, count-few, known-narrow, known-rule, conclusion-narrow, conclusion-there, constraints-there, room-kept}
-use Rattle.run.proofs.Paced.{fired-fits}
-use Rattle.run.proofs.Shown.{advanced}
+use Rattle.run.proofs.KnownRules.{known-bounded, count-few, known-narrow, known-rule, conclusion-narrow, conclusion-there, constraints-there, room-kept}
+use Rattle.run.proofs.FewSteps.{fired-fits}
+use Rattle.run.proofs.MemoryShown.{advanced}
 use Rattle.run.proofs.stages.apply.Statement.{statement}
 use Rattle.run.proofs.stages.apply.Tie as tie
 

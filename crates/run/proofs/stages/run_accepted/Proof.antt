@@ -6,17 +6,15 @@ use borrow.Author.Needs.{needs}
 use denote.Ref.{now}
 use lib.ListN.{length}
 use Rattle.theory.specs.Rule.{everyRule}
-use Rattle.reader.specs.declared.questions.Seen.{Seen}
 use Rattle.reader.proofs.EachKind.{Bytes}
-use Rattle.rules.specs.Sets.{has}
-use Rattle.rules.specs.Questions.{namedIn}
+use Rattle.rules.specs.Questions.{has, namedIn}
 use Rattle.closure.specs.Known.{Known}
-use Rattle.run.proofs.Answered.{written-there}
-use Rattle.run.proofs.Asking.{AllYesses, all-yes}
-use Rattle.run.proofs.Knowing.{known-bounded, known-narrow}
-use Rattle.run.proofs.Paced.{Paced, run-paced}
-use Rattle.run.proofs.Plain.{plain-mask}
-use Rattle.run.proofs.Shown.{outset-shown}
+use Rattle.run.proofs.Outcomes.{written-there}
+use Rattle.run.proofs.RunAsked.{AllYesses, all-yes}
+use Rattle.run.proofs.KnownRules.{known-bounded, known-narrow}
+use Rattle.run.proofs.FewSteps.{Paced, run-paced}
+use Rattle.run.proofs.PlainMask.{plain-mask}
+use Rattle.run.proofs.MemoryShown.{outset-shown}
 use Rattle.run.proofs.stages.run_accepted.Statement.{statement}
 use Rattle.run.proofs.stages.run_accepted.Tie as tie
 
@@ -24,8 +22,8 @@ accepted : (c : tie.After-struct-known) → AllYesses (now (c .before .before .b
 accepted c = all-yes _ _ _ _ _ (c .before .before .before .before .before .before .pre .0)
 
 -- the file with its index
-known : (c : tie.After-index-rules) → Known (now (c .before .before .before .before .before .before .before .before .args .file)) (c .index-rules .last .1 .0) (c .before .before .before .before .before .before .before .before .args .seen .rules)
-known c = record { accepted = accepted (c .before .before) .accepted; counted = ap (λ (x : Seen). x .rules) (c .before .before .before .before .before .before .before .before .pre .1); indexed = c .index-rules .ensures }
+known : (c : tie.After-index-rules) → Known (now (c .before .before .before .before .before .before .before .before .args .file)) (c .index-rules .last .1 .0) (c .before .before .before .before .before .before .before .before .args .counts .rules)
+known c = record { accepted = accepted (c .before .before) .accepted; counted = c .before .before .before .before .before .before .before .before .pre .1 .rules; indexed = c .index-rules .ensures }
 
 -- the bytes of the file
 bytes : (c : tie.After-shared-slice-known) → Bytes (now (c .before .args .file))
@@ -54,10 +52,10 @@ cast-write-fact-marks : tie.Need-cast-write-fact-marks
 cast-write-fact-marks c = search needs
 
 write-fact-marks-requires : tie.Need-write-fact-marks-requires
-write-fact-marks-requires c κs = (omega (arith, known-narrow (known (c .before .before .before .before .before .before .before .before .before .before .before .before .before .before .before .before)) (bytes (c .before .before .before .before .before .before .before .before .before .before .before .before .before .before .before .before .before .before .before .before .before .before .before)), ap (λ (x : Seen). x .facts) (c .before .before .before .before .before .before .before .before .before .before .before .before .before .before .before .before .before .before .before .before .before .before .before .before .pre .1)), omega (arith, accepted (c .before .before .before .before .before .before .before .before .before .before .before .before .before .before .before .before .before .before) .facts-fit, ap (λ (x : Seen). x .facts) (c .before .before .before .before .before .before .before .before .before .before .before .before .before .before .before .before .before .before .before .before .before .before .before .before .pre .1)))
+write-fact-marks-requires c κs = (omega (arith, known-narrow (known (c .before .before .before .before .before .before .before .before .before .before .before .before .before .before .before .before)) (bytes (c .before .before .before .before .before .before .before .before .before .before .before .before .before .before .before .before .before .before .before .before .before .before .before)), c .before .before .before .before .before .before .before .before .before .before .before .before .before .before .before .before .before .before .before .before .before .before .before .before .pre .1 .facts), omega (arith, accepted (c .before .before .before .before .before .before .before .before .before .before .before .before .before .before .before .before .before .before) .facts-fit, c .before .before .before .before .before .before .before .before .before .before .before .before .before .before .before .before .before .before .before .before .before .before .before .before .pre .1 .facts))
 
 write-rule-marks-requires : tie.Need-write-rule-marks-requires
-write-rule-marks-requires c κs = (known (c .before .before .before .before .before .before .before .before .before .before .before .before .before .before .before .before .before .before .before .before .before .before .before), omega (arith, accepted (c .before .before .before .before .before .before .before .before .before .before .before .before .before .before .before .before .before .before .before .before .before .before .before .before .before) .rules-fit, ap (λ (x : Seen). x .rules) (c .before .before .before .before .before .before .before .before .before .before .before .before .before .before .before .before .before .before .before .before .before .before .before .before .before .before .before .before .before .before .before .pre .1)))
+write-rule-marks-requires c κs = (known (c .before .before .before .before .before .before .before .before .before .before .before .before .before .before .before .before .before .before .before .before .before .before .before), omega (arith, accepted (c .before .before .before .before .before .before .before .before .before .before .before .before .before .before .before .before .before .before .before .before .before .before .before .before .before) .rules-fit, c .before .before .before .before .before .before .before .before .before .before .before .before .before .before .before .before .before .before .before .before .before .before .before .before .before .before .before .before .before .before .before .pre .1 .rules))
 
 cast-t35 : tie.Need-cast-t35
 cast-t35 c = omega (arith, few (c .before .before .before .before .before .before .before .before .before .before .before .before .before .before .before .before .before))
@@ -76,7 +74,7 @@ same-length-3 c = search needs
 
 returns : tie.Need-returns
 returns c = let held = c .before .before .before .before .before .before .before .before .before .before .before .before .before .before .before .before .before .before .all-stages .ensures .0 in
-    written-there _ _ _ _ _ _ _ _ _ _ (c .before .before .before .before .before .before .before .before .before .before .before .before .before .before .before .before .before .before .all-stages .ensures .1) (held .counted) (c .before .before .before .before .before .before .before .before .before .before .before .write-fact-marks .ensures _ _ (ap (λ (x : Seen). x .facts) (c .before .before .before .before .before .before .before .before .before .before .before .before .before .before .before .before .before .before .before .before .before .before .before .before .before .before .before .before .before .before .before .before .before .before .before .before .pre .1)) (held .sets .d) (held .sets .r)) (c .before .before .before .before .write-rule-marks .ensures _ (held .applied-shown) (held .sets .d)) (held .steps-shown)
+    written-there _ _ _ _ _ _ _ _ _ _ (c .before .before .before .before .before .before .before .before .before .before .before .before .before .before .before .before .before .before .all-stages .ensures .1) (held .counted) (c .before .before .before .before .before .before .before .before .before .before .before .write-fact-marks .ensures _ _ (c .before .before .before .before .before .before .before .before .before .before .before .before .before .before .before .before .before .before .before .before .before .before .before .before .before .before .before .before .before .before .before .before .before .before .before .before .pre .1 .facts) (held .sets .d) (held .sets .r)) (c .before .before .before .before .write-rule-marks .ensures _ (held .applied-shown) (held .sets .d)) (held .steps-shown)
 
 pub run-accepted-spec : {M : Type 1} → statement M
 run-accepted-spec =

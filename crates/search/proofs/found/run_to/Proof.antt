@@ -5,12 +5,11 @@ use lib.ListN.{length}
 use lib.Seq.{length-take-le}
 use denote.Ref.{now}
 use Rattle.theory.specs.Rule.{everyRule}
-use Rattle.theory.specs.Search.{orderFor}
-use Rattle.reader.specs.Program.{programOf}
-use Rattle.rules.specs.Sets.{has}
-use Rattle.rules.specs.Orders.{naming}
-use Rattle.search.proofs.Asking.{AllYesses, all-yes}
-use Rattle.search.proofs.Running.{front-inside, not-refused, found-there}
+use Rattle.theory.specs.Stable.{orderFor}
+use Rattle.reader.specs.Questions.{programOf}
+use Rattle.rules.specs.Questions.{has, naming}
+use Rattle.search.proofs.SearchAsked.{AllYesses, all-yes}
+use Rattle.search.proofs.RunUnder.{front-inside, not-refused, found-there}
 use borrow.Author.Needs.{needs}
 use Rattle.search.proofs.found.run_to.Statement.{statement}
 use Rattle.search.proofs.found.run_to.Tie as tie
@@ -24,7 +23,7 @@ inside : (c : tie.After-write-order) → c .write-order .result ≤ length (c .w
 inside c = front-inside (naming (orderFor (programOf (now (c .before .before .before .before .before .before .before .args .file))) everyRule (has (now (c .before .before .before .before .before .before .before .args .set))))) (now (c .before .before .before .before .before .before .before .args .order)) _ _ (c .write-order .ensures)
 
 write-order-requires : tie.Need-write-order-requires
-write-order-requires c κs = ((yesses (c .before .before .before .before .before) .accepted, c .before .before .before .before .before .before .pre .1), yesses (c .before .before .before .before .before) .order-fits)
+write-order-requires c κs = (c .before .before .before .before .before .before .pre .1, yesses (c .before .before .before .before .before) .order-fits)
 
 slice-reshare-prefix-run : tie.Need-slice-reshare-prefix-run
 slice-reshare-prefix-run c = inside (c .before .before)
@@ -54,7 +53,7 @@ same-length-4 : tie.Need-same-length-4
 same-length-4 c = search needs
 
 returns : tie.Need-returns
-returns c = found-there _ _ _ _ _ (yesses (c .before .before .before .before .before .before .before .before .before .before .before .before .before .before .before .before .before .before .before .before .before .before)) _ _ _ (c .before .before .before .before .before .before .before .before .before .before .before .before .before .before .before .before .write-order .ensures) _ _ _ _ (c .before .before .before .before .before .before .before .before .before .run .ensures) _ _ (c .before .stages .given .1)
+returns c = found-there _ _ _ _ _ (yesses (c .before .before .before .before .before .before .before .before .before .before .before .before .before .before .before .before .before .before .before .before .before .before)) _ _ _ (c .before .before .before .before .before .before .before .before .before .before .before .before .before .before .before .before .write-order .ensures) _ _ _ _ (c .before .before .before .before .before .before .before .before .before .run .ensures .0) _ _ (c .before .stages .given .1)
 
 same-length-5 : tie.Need-same-length-5
 same-length-5 c = search needs
@@ -69,7 +68,7 @@ same-length-8 : tie.Need-same-length-8
 same-length-8 c = search needs
 
 returns-2 : tie.Need-returns-2
-returns-2 c = absurd (not-refused _ _ _ _ _ (yesses (c .before .before .before .before .before .before .before .before .before .before .before .before .before .before .before .before .before .before .before .before .before .before)) _ _ _ (c .before .before .before .before .before .before .before .before .before .before .before .before .before .before .before .before .write-order .ensures) _ _ _ _ (c .before .before .before .before .before .before .before .before .before .run .ensures) _ (c .before .r .given .1))
+returns-2 c = absurd (not-refused _ _ _ _ _ (yesses (c .before .before .before .before .before .before .before .before .before .before .before .before .before .before .before .before .before .before .before .before .before .before)) _ _ _ (c .before .before .before .before .before .before .before .before .before .before .before .before .before .before .before .before .write-order .ensures) _ _ _ _ (c .before .before .before .before .before .before .before .before .before .run .ensures .0) _ (c .before .r .given .1))
 
 pub run-to-spec : {M : Type 1} → statement M
 run-to-spec =

@@ -9,19 +9,18 @@ use denote.Ref.{now}
 use borrow.Author.Needs.{needs}
 use borrow.Author.Tests.{not-true, not-false}
 use lib.ListN.{length}
-use Rattle.theory.specs.Lists.{mem}
+use Rattle.theory.specs.Rule.{mem}
 use Rattle.reader.specs.declared.cursor.Read.the-variants as Read
 use Rattle.reader.specs.Cursor.{nextAt, itemsAt}
-use Rattle.reader.specs.Program.{constraintsOf, programOf}
-use Rattle.reader.specs.Questions.{maxRules}
+use Rattle.reader.specs.Questions.{constraintsOf, programOf, maxRules}
 use Rattle.reader.proofs.Items.{found, closer}
-use Rattle.reader.proofs.Walks.{no-constraint, past-rule, a-premise, a-constraint}
-use Rattle.rules.specs.Sets.{has}
+use Rattle.reader.proofs.Tags.{nothing-read}
+use Rattle.reader.proofs.RuleWalks.{past-rule, a-premise, a-constraint}
+use Rattle.rules.specs.Questions.{has, namesOf, namedIn}
 use Rattle.rules.specs.RuleAt.{ruleAt}
-use Rattle.rules.specs.Questions.{namesOf, namedIn}
-use Rattle.rules.proofs.Walks.{Decides, whole-decides, not-tested, all-pass, one-fails, one-passes, headed, none-read, past-names}
+use Rattle.rules.proofs.ItemWalks.{Decides, whole-decides, not-tested, all-pass, one-fails, one-passes, headed, past-names}
 use Rattle.closure.proofs.Ready.{rules-known}
-use Rattle.stage.proofs.Looking.{Looking, none-looked, none-eligible, no-name-here, is-named, passed-over, refused-now, found-first, skipped, named-known, unfounded, concluded, Tried, tried}
+use Rattle.stage.proofs.FirstFound.{Looking, none-looked, none-eligible, no-name-here, is-named, passed-over, refused-now, found-first, skipped, named-known, unfounded, concluded, Tried, tried}
 use Rattle.stage.proofs.eligible.first_eligible.Statement.{statement}
 use Rattle.stage.proofs.eligible.first_eligible.Tie as tie
 
@@ -41,7 +40,7 @@ abbrev μ-rules : tie.MeasureT-rules
 
 -- once an item of the order is read
 item-read : (c : tie.After-known-told Inv-loop μ-loop Inv-rules μ-rules) → nextAt (now (c .before .before .before .before .before .before .before .args .order)) (c .before .before .before .before .rules .cursor) ≡ Read.Found (c .before .read .given .0 .0) (c .before .read .given .0 .1 .0)
-item-read c = sym (c .before .before .before .next .ensures) ∙ c .before .read .given .1
+item-read c = sym (c .before .before .before .next .ensures .0) ∙ c .before .read .given .1
 
 onward : (c : tie.After-known-told Inv-loop μ-loop Inv-rules μ-rules) → length (now (c .before .before .before .before .before .before .before .args .order)) - c .before .read .given .0 .1 .0 .at < length (now (c .before .before .before .before .before .before .before .args .order)) - c .before .before .before .before .rules .cursor .at
 onward c = closer (found _ _ _ _ (item-read c))
@@ -67,14 +66,14 @@ one-tried c =
 
 -- once an item of the rule is read
 own-read : (c : tie.After-known-told3 Inv-loop μ-loop Inv-rules μ-rules) → nextAt (now (c .before .before .before .before .before .before .before .before .before .before .before .before .before .before .before .before .before .before .before .before .before .before .before .before .before .before .before .before .before .args .file)) (c .before .before .before .before .loop .own) ≡ Read.Found (c .before .read2 .given .0 .0) (c .before .read2 .given .0 .1 .0)
-own-read c = sym (c .before .before .before .next2 .ensures) ∙ c .before .read2 .given .1
+own-read c = sym (c .before .before .before .next2 .ensures .0) ∙ c .before .read2 .given .1
 
 -- where the ways out of the inner loop meet, no constraint is left
 none-left : (c : tie.At-match3-came Inv-loop μ-loop Inv-rules μ-rules) → constraintsOf (itemsAt (now (c .before .before .before .before .before .before .before .before .before .before .before .before .before .before .before .before .before .before .before .before .before .before .before .before .before .before .before .args .file)) (c .before .before .loop .own)) ≡ []
 none-left c =
-    let read = sym (c .before .next2 .ensures) in
+    let read = sym (c .before .next2 .ensures .0) in
     ⊎-elim
-    (λ v. no-constraint _ _ _ _ (read ∙ v .1 .given .1))
+    (λ v. nothing-read constraintsOf (λ fault. refl) _ _ _ read (v .keys2))
     (λ v. past-rule _ _ _ _ (read ∙ v .1 .given .1) (v .3 .keys3))
     (c .match3 .came)
 
@@ -86,9 +85,6 @@ next-requires c κs = search needs
 
 enum-known-read : tie.Need-enum-known-read Inv-loop μ-loop Inv-rules μ-rules
 enum-known-read c = search needs
-
-enum-told : tie.Need-enum-told Inv-loop μ-loop Inv-rules μ-rules
-enum-told c = search needs
 
 enum-known-item : tie.Need-enum-known-item Inv-loop μ-loop Inv-rules μ-rules
 enum-known-item c = search needs
@@ -153,9 +149,6 @@ next-requires-2 c κs = search needs
 enum-known-read-2 : tie.Need-enum-known-read-2 Inv-loop μ-loop Inv-rules μ-rules
 enum-known-read-2 c = search needs
 
-enum-told-2 : tie.Need-enum-told-2 Inv-loop μ-loop Inv-rules μ-rules
-enum-told-2 c = search needs
-
 enum-known-item-2 : tie.Need-enum-known-item-2 Inv-loop μ-loop Inv-rules μ-rules
 enum-known-item-2 c = search needs
 
@@ -174,14 +167,14 @@ loop-less c = closer (found _ _ _ _ (own-read (c .before .before .before .before
 loop-again : tie.Need-loop-again Inv-loop μ-loop Inv-rules μ-rules
 loop-again c = one-passes (c .before .before .before .before .before .before .before .before .before .before .loop .inv) _ _ (a-constraint _ _ _ _ _ (own-read (c .before .before .before .before .before .before)) (c .before .before .before .before .item2 .given .1)) (ap not (sym (c .before .in-set2 .ensures) ∙ c .if4 .left))
 
-enum-told-3 : tie.Need-enum-told-3 Inv-loop μ-loop Inv-rules μ-rules
-enum-told-3 c = search needs
+enum-told : tie.Need-enum-told Inv-loop μ-loop Inv-rules μ-rules
+enum-told c = search needs
 
 loop-less-2 : tie.Need-loop-less-2 Inv-loop μ-loop Inv-rules μ-rules
 loop-less-2 c = closer (found _ _ _ _ (own-read (c .before .before)))
 
 loop-again-2 : tie.Need-loop-again-2 Inv-loop μ-loop Inv-rules μ-rules
-loop-again-2 c = not-tested (c .before .before .before .before .before .before .loop .inv) _ (a-premise _ _ _ _ _ (own-read (c .before .before)) (c .enum-told3 .given .1))
+loop-again-2 c = not-tested (c .before .before .before .before .before .before .loop .inv) _ (a-premise _ _ _ _ _ (own-read (c .before .before)) (c .enum-told .given .1))
 
 apart-requires : tie.Need-apart-requires Inv-loop μ-loop Inv-rules μ-rules
 apart-requires c κs = search needs
@@ -193,7 +186,7 @@ rules-again-6 : tie.Need-rules-again-6 Inv-loop μ-loop Inv-rules μ-rules
 rules-again-6 c = refused-now (c .before .before .before .before .before .before .before .before .before .before .before .before .before .before .before .before .before .before .before .before .before .before .before .before .before .before .rules .inv) _ _ (one-named (c .before .before .before .before .before .before .before .before .before .before .before .before .before .before .before .before .before .before .before)) (one-tried (c .before .before .before .before .before .before .before) .meets-rejected (sym (c .before .apart .ensures) ∙ c .if5 .left))
 
 returns : tie.Need-returns Inv-loop μ-loop Inv-rules μ-rules
-returns c = none-eligible (c .before .before .before .rules .inv) (none-read _ _ _ namesOf _ (sym (c .before .before .next .ensures) ∙ c .enum-told .given .1) refl)
+returns c = none-eligible (c .before .before .rules .inv) (nothing-read namesOf (λ fault. refl) _ _ _ (sym (c .before .next .ensures .0)) (c .match .keys2))
 
 returns-2 : tie.Need-returns-2 Inv-loop μ-loop Inv-rules μ-rules
 returns-2 c = found-first (c .before .before .before .before .before .before .before .before .before .before .before .before .before .before .before .before .before .before .before .before .before .before .before .before .before .before .rules .inv) _ _ (one-named (c .before .before .before .before .before .before .before .before .before .before .before .before .before .before .before .before .before .before .before)) (one-tried (c .before .before .before .before .before .before .before) .meets-neither (sym (all-pass (c .before .before .before .before .loop .inv) (none-left (c .before .before)))) (sym (c .before .apart .ensures) ∙ c .if5 .taken))
@@ -209,7 +202,6 @@ first-eligible-spec =
     rules-holds
     next-requires
     enum-known-read
-    enum-told
     enum-known-item
     rules-less
     rules-again
@@ -231,14 +223,13 @@ first-eligible-spec =
     loop-holds
     next-requires-2
     enum-known-read-2
-    enum-told-2
     enum-known-item-2
     in-set-requires-2
     rules-less-5
     rules-again-5
     loop-less
     loop-again
-    enum-told-3
+    enum-told
     loop-less-2
     loop-again-2
     apart-requires

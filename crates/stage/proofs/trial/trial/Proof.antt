@@ -2,7 +2,7 @@
 use native.Mathlib.Omega.{arith}
 use denote.Ref.{now}
 use Rattle.closure.proofs.Ready.{rules-known}
-use Rattle.stage.proofs.Trials.{conclusion-small, trial-room, trial-made}
+use Rattle.stage.proofs.TrialClosed.{conclusion-small, trial-room, trial-made}
 use borrow.Author.Needs.{needs}
 use Rattle.stage.proofs.trial.trial.Statement.{statement}
 use Rattle.stage.proofs.trial.trial.Tie as tie

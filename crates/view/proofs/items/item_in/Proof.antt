@@ -1,6 +1,6 @@
--- `item_in`: each way of the read at the front is a law of `Giving`.
+-- `item_in`: each way of the read at the front is a law of `RangeItems`.
 use mathlib.Core.Path.{sym, _∙_}
-use Rattle.view.proofs.Giving.{empty-range, none-there, other-there, premise-there, constraint-there}
+use Rattle.view.proofs.RangeItems.{empty-range, none-there, none-left-there, other-there, premise-there, constraint-there}
 use borrow.Author.Needs.{needs}
 use Rattle.view.proofs.items.item_in.Statement.{statement}
 use Rattle.view.proofs.items.item_in.Tie as tie
@@ -26,17 +26,23 @@ enum-known-item-2 c = search needs
 enum-known-item-3 : tie.Need-enum-known-item-3
 enum-known-item-3 c = search needs
 
+enum-told-2 : tie.Need-enum-told-2
+enum-told-2 c = search needs
+
 returns-2 : tie.Need-returns-2
-returns-2 c = sym (none-there _ _ _ (c .before .before .before .if1 .left) _ _ (sym (c .before .before .next .ensures) ∙ c .enum-told .given .1))
+returns-2 c = sym (none-there _ _ _ (c .before .before .before .if1 .left) _ _ (sym (c .before .before .next .ensures .0) ∙ c .enum-told .given .1))
 
 returns-3 : tie.Need-returns-3
-returns-3 c = sym (premise-there _ _ _ (c .before .before .before .before .before .before .before .if1 .left) _ _ _ (sym (c .before .before .before .before .before .before .next .ensures) ∙ c .before .before .before .before .item .given .1) (c .before .item2 .given .1))
+returns-3 c = sym (premise-there _ _ _ (c .before .before .before .before .before .before .before .if1 .left) _ _ _ (sym (c .before .before .before .before .before .before .next .ensures .0) ∙ c .before .before .before .before .item .given .1) (c .before .item2 .given .1))
 
 returns-4 : tie.Need-returns-4
-returns-4 c = sym (constraint-there _ _ _ (c .before .before .before .before .before .before .before .if1 .left) _ _ _ (sym (c .before .before .before .before .before .before .next .ensures) ∙ c .before .before .before .before .item .given .1) (c .before .item3 .given .1))
+returns-4 c = sym (constraint-there _ _ _ (c .before .before .before .before .before .before .before .if1 .left) _ _ _ (sym (c .before .before .before .before .before .before .next .ensures .0) ∙ c .before .before .before .before .item .given .1) (c .before .item3 .given .1))
 
 returns-5 : tie.Need-returns-5
-returns-5 c = sym (other-there _ _ _ (c .before .before .before .before .before .if1 .left) _ _ (sym (c .before .before .before .before .next .ensures) ∙ c .before .before .item .given .1) (c .match2 .keys3))
+returns-5 c = sym (other-there _ _ _ (c .before .before .before .before .before .if1 .left) _ _ (sym (c .before .before .before .before .next .ensures .0) ∙ c .before .before .item .given .1) (c .match2 .keys3))
+
+returns-6 : tie.Need-returns-6
+returns-6 c = sym (none-left-there _ _ _ (c .before .before .before .if1 .left) _ (sym (c .before .before .next .ensures .0) ∙ c .enum-told2 .given .1))
 
 pub item-in-spec : {M : Type 1} → statement M
 item-in-spec =
@@ -48,7 +54,9 @@ item-in-spec =
     enum-known-item
     enum-known-item-2
     enum-known-item-3
+    enum-told-2
     returns-2
     returns-3
     returns-4
-    returns-5)
+    returns-5
+    returns-6)

@@ -1,6 +1,6 @@
--- `past_item`: each way of the read at the front is a law of `Giving`.
+-- `past_item`: each way of the read at the front is a law of `RangeItems`.
 use mathlib.Core.Path.{sym, _∙_}
-use Rattle.view.proofs.Giving.{empty-range, none-there, other-there, past-premise, past-constraint, nothing-past}
+use Rattle.view.proofs.RangeItems.{empty-range, none-there, none-left-there, other-there, past-premise, past-constraint, nothing-past}
 use borrow.Author.Needs.{needs}
 use Rattle.view.proofs.items.past_item.Statement.{statement}
 use Rattle.view.proofs.items.past_item.Tie as tie
@@ -26,17 +26,23 @@ enum-told-2 c = search needs
 enum-told-3 : tie.Need-enum-told-3
 enum-told-3 c = search needs
 
+enum-told-4 : tie.Need-enum-told-4
+enum-told-4 c = search needs
+
 returns-2 : tie.Need-returns-2
-returns-2 c = nothing-past _ _ _ (none-there _ _ _ (c .before .before .before .if1 .left) _ _ (sym (c .before .before .next .ensures) ∙ c .enum-told .given .1))
+returns-2 c = nothing-past _ _ _ (none-there _ _ _ (c .before .before .before .if1 .left) _ _ (sym (c .before .before .next .ensures .0) ∙ c .enum-told .given .1))
 
 returns-3 : tie.Need-returns-3
-returns-3 c = past-premise _ _ _ (c .before .before .before .before .before .before .if1 .left) _ _ _ (sym (c .before .before .before .before .before .next .ensures) ∙ c .before .before .before .item .given .1) (c .enum-told2 .given .1)
+returns-3 c = past-premise _ _ _ (c .before .before .before .before .before .before .if1 .left) _ _ _ (sym (c .before .before .before .before .before .next .ensures .0) ∙ c .before .before .before .item .given .1) (c .enum-told2 .given .1)
 
 returns-4 : tie.Need-returns-4
-returns-4 c = past-constraint _ _ _ (c .before .before .before .before .before .before .if1 .left) _ _ _ (sym (c .before .before .before .before .before .next .ensures) ∙ c .before .before .before .item .given .1) (c .enum-told3 .given .1)
+returns-4 c = past-constraint _ _ _ (c .before .before .before .before .before .before .if1 .left) _ _ _ (sym (c .before .before .before .before .before .next .ensures .0) ∙ c .before .before .before .item .given .1) (c .enum-told3 .given .1)
 
 returns-5 : tie.Need-returns-5
-returns-5 c = nothing-past _ _ _ (other-there _ _ _ (c .before .before .before .before .before .if1 .left) _ _ (sym (c .before .before .before .before .next .ensures) ∙ c .before .before .item .given .1) (c .match2 .keys3))
+returns-5 c = nothing-past _ _ _ (other-there _ _ _ (c .before .before .before .before .before .if1 .left) _ _ (sym (c .before .before .before .before .next .ensures .0) ∙ c .before .before .item .given .1) (c .match2 .keys3))
+
+returns-6 : tie.Need-returns-6
+returns-6 c = nothing-past _ _ _ (none-left-there _ _ _ (c .before .before .before .if1 .left) _ (sym (c .before .before .next .ensures .0) ∙ c .enum-told4 .given .1))
 
 pub past-item-spec : {M : Type 1} → statement M
 past-item-spec =
@@ -48,7 +54,9 @@ past-item-spec =
     enum-known-item
     enum-told-2
     enum-told-3
+    enum-told-4
     returns-2
     returns-3
     returns-4
-    returns-5)
+    returns-5
+    returns-6)

@@ -1,5 +1,5 @@
 -- `range_of`: the rule's own items, and where they end.
-use Rattle.view.proofs.Giving.{own-range}
+use Rattle.view.proofs.RangeItems.{own-range}
 use borrow.Author.Needs.{needs}
 use Rattle.view.proofs.items.range_of.Statement.{statement}
 use Rattle.view.proofs.items.range_of.Tie as tie

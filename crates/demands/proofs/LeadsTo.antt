@@ -1,0 +1,159 @@
+-- For every stable set of an accepted file, the order that names first the exception rules with premises in the set and no constraint in it
+-- leads to the set.
+use Prim.Native.Nat.{ℕ, _<_}
+use native.Mathlib.Omega.{arith}
+use native.Mathlib.Decide.{decLt}
+use mathlib.Core.Path.{_≡_, refl, sym, _∙_, ap, fun-ext, subst}
+use mathlib.Core.Bool.{Bool, true, false, cond}
+use mathlib.Core.List.{List, _++_}
+use mathlib.Core.Option.{Option, none}
+use borrow.Author.Tests.{lt-ltb}
+use lib.ListN.{length}
+use lib.Dec.{eqb}
+use Rattle.theory.specs.Rule.{howMany, Program, FactSet, everyRule, count, exception, Step}
+use Rattle.theory.specs.Run.{Stand, run}
+use Rattle.theory.specs.Stable.{Stable, Within, Proof, Admits, rowTo, orderFor}
+use Rattle.theory.proofs.Bools.{never}
+use Rattle.theory.proofs.Search.{order-once, order-only}
+use Rattle.theory.proofs.Order.{order-reaches, order-none-aside}
+use Rattle.theory.proofs.Rows.{run-proof, run-admits}
+use Rattle.theory.proofs.Stable.{stable-within, outside-no-proof}
+use Rattle.theory.proofs.Check.{test-of-proof}
+use Rattle.reader.specs.declared.refusal.Refusal.{Refusal}
+use Rattle.reader.specs.Cursor.{itemsAt, stepsStart}
+use Rattle.reader.specs.Questions.{programOf, fileQuestions, fileNo}
+use Rattle.reader.proofs.Accepted.{accepted-file, bounded}
+use Rattle.reader.proofs.FirstNo.{all-yes}
+use Rattle.rules.specs.Questions.{has, whole, orderQuestions, setQuestions, rowQuestions, rowOf, bufferQuestions, runQuestions, buffersNo, runNo, checkQuestions, checkNo, naming}
+use Rattle.rules.proofs.Orders.{naming-names}
+use Rattle.closure.specs.Steps.{stepBytes}
+use Rattle.run.specs.Outcome.{RunOutcome, runOf, runWritten, runOutcome}
+use Rattle.run.specs.Outcome as running
+use Rattle.run.proofs.StepsWritten.{steps-read, steps-whole}
+use Rattle.proofcheck.specs.declared.answer.Checked.{Checked}
+use Rattle.proofcheck.specs.declared.answer.Checked.the-variants as checking
+use Rattle.proofcheck.specs.Checked.{checked}
+use Rattle.proofcheck.specs.Checked as check
+use Rattle.proofcheck.proofs.Meaning.{checked-means}
+use Rattle.search.proofs.OrderGroups.{order-width}
+use Rattle.search.proofs.RunUnder.{search-order-yes}
+use Rattle.demands.specs.Results.{setBytes, RowsProve, rowUpTo, EndsAt, LeadsTo}
+use Rattle.demands.proofs.SetsReadBack.{set-back, set-yes}
+use Rattle.demands.proofs.Outcomes.{run-written, check-checked}
+use Rattle.demands.proofs.RunIs.{derived-is, aside-is, trace-is, row-is}
+
+-- a verdict that is not yes is 0
+not-yes : (a : Checked) → (check.number a ≡ 0 → check.verdict a ≡ 1 → ⊥) → check.verdict a ≡ 0
+not-yes checking.Yes n = absurd (n refl refl)
+not-yes checking.No n = refl
+not-yes (checking.Refused r) n = refl
+
+module _ (file : List ℕ) (accepted : _≡_ {A = Option Refusal} (fileNo file) none) (M : FactSet) (stable : Stable (programOf file) everyRule M) where
+  abbrev P : Program
+  P = programOf file
+
+  abbrev row : List ℕ
+  row = orderFor P everyRule M
+
+  abbrev s : Stand
+  s = run P everyRule row
+
+  pub reaches : s .derived ≡ M
+  reaches = fun-ext (order-reaches P everyRule M stable)
+
+  -- The set as bytes.
+  within : Within P M
+  within = stable-within P everyRule M (bounded (accepted-file file accepted)) stable
+
+  known : (f : ℕ) → M f ≡ true → f < P .facts
+  known f m = go (decLt f (P .facts))
+    where
+      go : Dec (f < P .facts) → f < P .facts
+      go (yes l) = l
+      go (no n) = never m (within f (omega arith))
+
+  set-is : has (setBytes file M) ≡ M
+  set-is = set-back (P .facts) M within
+
+  -- The rows up to each fact's own step, wherever they are written.
+  module _ (rows : ℕ → List ℕ) (written : (f : ℕ) → rows f ≡ stepBytes (rowTo f (s .trace))) where
+    pub rows-read : (f : ℕ) → rowOf (rows f) ≡ rowTo f (s .trace)
+    rows-read f = ap rowOf (written f) ∙ steps-read (rowTo f (s .trace))
+
+    proves : (f : ℕ) → M f ≡ true → Proof P everyRule (rowOf (rows f)) f
+    proves f m = rw (rows-read f) (run-proof P everyRule row f (ap (λ (X : FactSet). X f) reaches ∙ m))
+
+    admits : (f : ℕ) → Admits P M (rowOf (rows f))
+    admits f = rw (rows-read f) (subst (λ (X : FactSet). Admits P X (rowTo f (s .trace))) reaches (run-admits P everyRule row f))
+
+    may-check : (f : ℕ) → M f ≡ true → _≡_ {A = Option Refusal} (checkNo file (setBytes file M) f (rows f)) none
+    unfolding checkQuestions rowQuestions
+    may-check f m =
+        all-yes (fileQuestions file) (setQuestions (P .facts) (setBytes file M) ++ rowQuestions (P .facts) f (rows f)) accepted
+        (all-yes (setQuestions (P .facts) (setBytes file M)) (rowQuestions (P .facts) f (rows f)) (set-yes (P .facts) M)
+        (rw (lt-ltb f (P .facts) (known f m), ap (λ (bs : List ℕ). whole (itemsAt bs stepsStart)) (written f) ∙ steps-whole (rowTo f (s .trace)))))
+
+    yes-said : (f : ℕ) → M f ≡ true → checked file (setBytes file M) f (rows f) ≡ checking.Yes
+    yes-said f m =
+        check-checked file (setBytes file M) f (rows f) (may-check f m)
+        ∙ ap (λ (b : Bool). cond b checking.Yes checking.No) (test-of-proof P everyRule (has (setBytes file M)) (rowOf (rows f)) f .1 (proves f m, rw set-is (admits f)))
+
+    pub rows-prove : RowsProve file M rows
+    rows-prove = record { proves = proves; admitted = λ f _. admits f; says-yes = yes-said }
+
+  -- The run under the order.
+  module _ (facts rules steps : List ℕ) (fit : _≡_ {A = Option Refusal} (buffersNo P (length facts) (length rules) (length steps)) none) where
+    may-run : _≡_ {A = Option Refusal} (runNo file (naming row) (length facts) (length rules) (length steps)) none
+    unfolding runQuestions
+    may-run =
+        all-yes (fileQuestions file) (orderQuestions (exception P) (count P) (naming row) ++ bufferQuestions P (length facts) (length rules) (length steps)) accepted
+        (all-yes (orderQuestions (exception P) (count P) (naming row)) (bufferQuestions P (length facts) (length rules) (length steps)) (search-order-yes P M) fit)
+
+    pub ran-under : runOf file (naming row) ≡ s
+    ran-under = ap (run P everyRule) (naming-names row)
+
+    abbrev o : RunOutcome
+    o = runOutcome file (naming row) facts rules steps
+
+    pub ran : o ≡ runWritten P s facts rules steps
+    ran =
+        run-written file (naming row) facts rules steps may-run
+        ∙ ap (λ (t : Stand). runWritten P t facts rules steps) ran-under
+
+    row-there : (f : ℕ) → rowUpTo f o ≡ stepBytes (rowTo f (s .trace))
+    row-there f =
+        row-is file (naming row) facts rules steps may-run f
+        ∙ ap (λ (t : Stand). stepBytes (rowTo f (t .trace))) ran-under
+
+    ends : EndsAt file M o
+    unfolding runWritten
+    ends =
+        record {
+          number = ap (λ (x : RunOutcome). running.number (x .answer)) ran;
+          ends-there = derived-is file (naming row) facts rules steps may-run ∙ (ap (λ (t : Stand). t .derived) ran-under ∙ reaches);
+          none-aside = λ i. rw (aside-is file (naming row) facts rules steps may-run, ran-under) (order-none-aside P everyRule M stable i);
+          rows-are = λ f. rows-read (λ g. rowUpTo g o) row-there f ∙ ap (rowTo f) (sym (trace-is file (naming row) facts rules steps may-run ∙ ap (λ (t : Stand). t .trace) ran-under));
+          rows-prove = rows-prove (λ g. rowUpTo g o) row-there;
+        }
+
+  outside : (f : ℕ) → M f ≡ false → (taken : List Step) → Proof P everyRule taken f → Admits P M taken → ⊥
+  outside f out taken p a = outside-no-proof P everyRule M f stable out taken p a
+
+  no-said : (f : ℕ) → M f ≡ false → (bytes : List ℕ) → check.verdict (checked file (setBytes file M) f bytes) ≡ 0
+  no-said f out bytes =
+      not-yes (checked file (setBytes file M) f bytes)
+      (λ n v.
+      let t = checked-means file (setBytes file M) f bytes .yes-exactly n .0 v in
+      outside f out (rowOf bytes) (t .0) (rw set-is at (t .1)))
+
+  pub leads-to : LeadsTo file (naming row) M
+  leads-to =
+      record {
+        named-once = λ r e. ap (howMany (eqb r)) (naming-names row) ∙ order-once P everyRule M r e;
+        named-only = λ r e. ap (howMany (eqb r)) (naming-names row) ∙ order-only P everyRule M r e;
+        whole-items = order-width P M;
+        order-right = search-order-yes P M;
+        run-ends = ends;
+        outside-unproved = outside;
+        outside-unchecked = no-said;
+      }

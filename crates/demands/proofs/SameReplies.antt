@@ -1,0 +1,255 @@
+-- Two accepted files whose programs are alike get the same replies. Each equation is the definition itself, with the parts of the program on
+-- their way from one file to the other.
+use Prim.Native.Nat.{ℕ, _*_}
+use mathlib.Core.Path.{_≡_, refl, sym, _∙_, ap}
+use mathlib.Core.Bool.{Bool, true, false, cond}
+use mathlib.Core.List.{List, [], _∷_, _++_, append-assoc}
+use mathlib.Core.Option.{Option, none, some}
+use lib.ListN.{length}
+use lib.Dec.{eqb, leb}
+use Rattle.theory.specs.Rule.{keep, upTo, Program, FactSet, everyRule, nothing, null, count, exception, Alike}
+use Rattle.theory.specs.Run.{run, stageCount, stepCount}
+use Rattle.theory.specs.Stable.{orderFor}
+use Rattle.theory.specs.Search.{search}
+use Rattle.theory.proofs.Repeats.{alike-exception, alike-exception-count, alike-constraint-count, alike-run, alike-aside, alike-factMark, alike-factMarks, alike-ruleMarks, alike-isStable, alike-isProof, alike-search, alike-orderFor}
+use Rattle.reader.specs.declared.answer.Accept.the-variants.{Accepted}
+use Rattle.reader.specs.declared.refusal.Refusal.{Refusal}
+use Rattle.reader.specs.declared.refusal.Refusal.the-variants.{FactMarksShort, RuleMarksShort, StepsShort, OrderShort, TooManyConstraints, NoStableSet}
+use Rattle.reader.specs.Question.{Question, ask, firstNo}
+use Rattle.reader.specs.Item.{stepWidth, nameWidth}
+use Rattle.reader.specs.Questions.{programOf, maxGuessed, fileQuestions, fileNo, exceptions, constraintFacts}
+use Rattle.reader.specs.Accept.{acceptOf}
+use Rattle.reader.proofs.FileAsked.{accepted-answer}
+use Rattle.reader.proofs.FirstNo.{first-yes}
+use Rattle.rules.specs.Answer.{answerOf}
+use Rattle.rules.specs.Questions.{has, rowOf, namedIn, listQuestions, orderQuestions, setQuestions, rowQuestions, askListQuestions, askOrderQuestions, askSetQuestions, askRowQuestions, bufferQuestions, runQuestions, runNo, judgeQuestions, judgeNo, checkQuestions, checkNo, someStable, stableQuestion, limitQuestions, earlyQuestions, searchQuestions, searchNo, each, naming}
+use Rattle.closure.specs.Steps.{stepBytes}
+use Rattle.run.specs.declared.answer.Ran.the-variants as ran
+use Rattle.run.specs.Outcome.{RunOutcome, over, runOf, runWritten, runOutcome}
+use Rattle.judge.specs.declared.answer.Judged.{Judged}
+use Rattle.judge.specs.declared.answer.Judged.the-variants as judgement
+use Rattle.judge.specs.Judged.{unlisted, judged}
+use Rattle.proofcheck.specs.declared.answer.Checked.{Checked}
+use Rattle.proofcheck.specs.declared.answer.Checked.the-variants as checking
+use Rattle.proofcheck.specs.Checked.{checked}
+use Rattle.search.specs.declared.answer.Searched.the-variants as searched
+use Rattle.search.specs.Outcome.{SearchOutcome, searchWritten, refusedWith, takenSet, searchOutcome}
+use Rattle.panel_text.specs.Text.{headLine, stepLine, line, lastLine, rejectedFacts, asideRules, runText, ascending, panelText, shown}
+use Rattle.retention.specs.Reply.{fileOf, verdictOfJudged, verdictOfChecked, runReply, searchReply}
+use Rattle.demands.specs.Results.{SameReplies}
+
+module _ (s t : List ℕ) (yes-s : _≡_ {A = Option Refusal} (fileNo s) none) (yes-t : _≡_ {A = Option Refusal} (fileNo t) none) (a : Alike (programOf s) (programOf t)) where
+  abbrev P : Program
+  P = programOf s
+
+  abbrev Q : Program
+  Q = programOf t
+
+  -- The file's questions got yes; what is asked behind them is the same.
+  behind : (xs ys : List Question) → firstNo xs ≡ firstNo ys → firstNo (fileQuestions s ++ xs) ≡ firstNo (fileQuestions t ++ ys)
+  behind xs ys e = first-yes (fileQuestions s) xs yes-s ∙ (e ∙ sym (first-yes (fileQuestions t) ys yes-t))
+
+  same-list : (list : List ℕ) → listQuestions (exception P) list ≡ listQuestions (exception Q) list
+  same-list list i = listQuestions (alike-exception a i) list
+
+  same-order : (order : List ℕ) → orderQuestions (exception P) (count P) order ≡ orderQuestions (exception Q) (count Q) order
+  same-order order i = orderQuestions (alike-exception a i) (a .same-count i) order
+
+  same-set : (set : List ℕ) → setQuestions (P .facts) set ≡ setQuestions (Q .facts) set
+  same-set set i = setQuestions (a .same-facts i) set
+
+  same-row : (fact : ℕ) (row : List ℕ) → rowQuestions (P .facts) fact row ≡ rowQuestions (Q .facts) fact row
+  same-row fact row i = rowQuestions (a .same-facts i) fact row
+
+  same-buffers : (facts rules steps : ℕ) → bufferQuestions P facts rules steps ≡ bufferQuestions Q facts rules steps
+  unfolding bufferQuestions
+  same-buffers facts rules steps i =
+      ask FactMarksShort (leb (a .same-facts i) facts)
+      ∷ ask RuleMarksShort (leb (a .same-count i) rules)
+      ∷ ask StepsShort (leb (stepWidth * a .same-facts i) steps)
+      ∷ []
+
+  same-exceptions : exceptions P ≡ exceptions Q
+  unfolding exceptions
+  same-exceptions = alike-exception-count a
+
+  same-constraints : constraintFacts P ≡ constraintFacts Q
+  unfolding constraintFacts
+  same-constraints = alike-constraint-count a everyRule
+
+  same-limits : (order : ℕ) → limitQuestions P order ≡ limitQuestions Q order
+  unfolding limitQuestions
+  same-limits order i =
+      ask OrderShort (leb (nameWidth * same-exceptions i) order)
+      ∷ ask TooManyConstraints (leb (same-constraints i) maxGuessed)
+      ∷ []
+
+  accepted : acceptOf s ≡ acceptOf t
+  accepted =
+      sym (accepted-answer s _ _ _ _ yes-s refl refl refl refl)
+      ∙ ((λ i. Accepted (a .same-facts i) (a .same-count i) (same-exceptions i) (same-constraints i))
+      ∙ accepted-answer t _ _ _ _ yes-t refl refl refl refl)
+
+  -- The four questions beside the file.
+  list-asked : (list : List ℕ) → firstNo (askListQuestions s list) ≡ firstNo (askListQuestions t list)
+  unfolding askListQuestions
+  list-asked list =
+      behind (listQuestions (exception P) list) (listQuestions (exception Q) list) (ap firstNo (same-list list))
+
+  order-asked : (order : List ℕ) → firstNo (askOrderQuestions s order) ≡ firstNo (askOrderQuestions t order)
+  unfolding askOrderQuestions
+  order-asked order =
+      behind (orderQuestions (exception P) (count P) order) (orderQuestions (exception Q) (count Q) order) (ap firstNo (same-order order))
+
+  set-asked : (set : List ℕ) → firstNo (askSetQuestions s set) ≡ firstNo (askSetQuestions t set)
+  unfolding askSetQuestions
+  set-asked set = behind (setQuestions (P .facts) set) (setQuestions (Q .facts) set) (ap firstNo (same-set set))
+
+  row-asked : (fact : ℕ) (row : List ℕ) → firstNo (askRowQuestions s fact row) ≡ firstNo (askRowQuestions t fact row)
+  unfolding askRowQuestions
+  row-asked fact row =
+      behind (rowQuestions (P .facts) fact row) (rowQuestions (Q .facts) fact row) (ap firstNo (same-row fact row))
+
+  -- The run.
+  run-asked : (order : List ℕ) (facts rules steps : ℕ) → runNo s order facts rules steps ≡ runNo t order facts rules steps
+  unfolding runQuestions
+  run-asked order facts rules steps =
+      behind (orderQuestions (exception P) (count P) order ++ bufferQuestions P facts rules steps) (orderQuestions (exception Q) (count Q) order ++ bufferQuestions Q facts rules steps)
+      (λ i. firstNo (same-order order i ++ same-buffers facts rules steps i))
+
+  same-run : (order facts rules steps : List ℕ) → runOutcome s order facts rules steps ≡ runOutcome t order facts rules steps
+  unfolding runOutcome runWritten
+  same-run order facts rules steps i =
+      elim (run-asked order (length facts) (length rules) (length steps) i) as (λ _. RunOutcome) [
+        | none ↦ record {
+          answer = ran.Done (stageCount (end i)) (stepCount (end i));
+          fact-marks = over (alike-factMarks a (end i) i) facts;
+          rule-marks = over (alike-ruleMarks a everyRule (end i) i) rules;
+          steps = over (stepBytes (end i .trace)) steps;
+        }
+        | some r ↦ record { answer = ran.Refused r; fact-marks = facts; rule-marks = rules; steps = steps }
+      ]
+    where
+      end : runOf s order ≡ runOf t order
+      end = alike-run a everyRule (namedIn order)
+
+  -- The judge and the proof check.
+  judge-asked : (list set : List ℕ) → judgeNo s list set ≡ judgeNo t list set
+  unfolding judgeQuestions
+  judge-asked list set =
+      behind (listQuestions (exception P) list ++ setQuestions (P .facts) set) (listQuestions (exception Q) list ++ setQuestions (Q .facts) set)
+      (λ i. firstNo (same-list list i ++ same-set set i))
+
+  same-judge : (list set : List ℕ) → judged s list set ≡ judged t list set
+  unfolding judged
+  same-judge list set i =
+      elim (judge-asked list set i) as (λ _. Judged) [
+        | none ↦ cond (alike-isStable a (unlisted list) (has set) i) judgement.Stable judgement.NotStable
+        | some r ↦ judgement.Refused r
+      ]
+
+  check-asked : (set : List ℕ) (fact : ℕ) (row : List ℕ) → checkNo s set fact row ≡ checkNo t set fact row
+  unfolding checkQuestions
+  check-asked set fact row =
+      behind (setQuestions (P .facts) set ++ rowQuestions (P .facts) fact row) (setQuestions (Q .facts) set ++ rowQuestions (Q .facts) fact row)
+      (λ i. firstNo (same-set set i ++ same-row fact row i))
+
+  same-check : (set : List ℕ) (fact : ℕ) (row : List ℕ) → checked s set fact row ≡ checked t set fact row
+  unfolding checked
+  same-check set fact row i =
+      elim (check-asked set fact row i) as (λ _. Checked) [
+        | none ↦ cond (alike-isProof a everyRule (has set) (rowOf row) fact i) checking.Yes checking.No
+        | some r ↦ checking.Refused r
+      ]
+
+  -- The search.
+  same-stable : someStable P ≡ someStable Q
+  unfolding someStable
+  same-stable i = elim (alike-search a everyRule i) as (λ _. Bool) [ some M ↦ true | none ↦ false ]
+
+  same-taken : takenSet P ≡ takenSet Q
+  unfolding takenSet
+  same-taken i = elim (alike-search a everyRule i) as (λ _. FactSet) [ some M ↦ M | none ↦ nothing ]
+
+  later : Program → ℕ → ℕ → ℕ → ℕ → List Question
+  later R facts rules steps order =
+      (bufferQuestions R facts rules steps ++ limitQuestions R order) ++ (stableQuestion R ∷ [])
+
+  same-later : (facts rules steps order : ℕ) → later P facts rules steps order ≡ later Q facts rules steps order
+  unfolding later
+  same-later facts rules steps order i =
+      (same-buffers facts rules steps i ++ same-limits order i) ++ (ask NoStableSet (same-stable i) ∷ [])
+
+  search-asked : (facts rules steps order : ℕ) → searchNo s facts rules steps order ≡ searchNo t facts rules steps order
+  unfolding searchQuestions earlyQuestions later
+  search-asked facts rules steps order =
+      ap firstNo (append-assoc (fileQuestions s) (bufferQuestions P facts rules steps ++ limitQuestions P order) (stableQuestion P ∷ []))
+      ∙ (behind (later P facts rules steps order) (later Q facts rules steps order) (ap firstNo (same-later facts rules steps order))
+      ∙ sym (ap firstNo (append-assoc (fileQuestions t) (bufferQuestions Q facts rules steps ++ limitQuestions Q order) (stableQuestion Q ∷ []))))
+
+  -- the order for the set that is taken, and the run under it
+  same-written : orderFor P everyRule (takenSet P) ≡ orderFor Q everyRule (takenSet Q)
+  same-written i = alike-orderFor a everyRule (same-taken i) i
+
+  same-end : run P everyRule (orderFor P everyRule (takenSet P)) ≡ run Q everyRule (orderFor Q everyRule (takenSet Q))
+  same-end i = alike-run a everyRule (same-written i) i
+
+  same-search : (facts rules steps order : List ℕ) → searchOutcome s facts rules steps order ≡ searchOutcome t facts rules steps order
+  unfolding searchOutcome searchWritten
+  same-search facts rules steps order i =
+      elim (search-asked (length facts) (length rules) (length steps) (length order) i) as (λ _. SearchOutcome) [
+        | none ↦ record {
+          answer = searched.Found (stageCount (same-end i)) (stepCount (same-end i));
+          fact-marks = over (alike-factMarks a (same-end i) i) facts;
+          rule-marks = over (alike-ruleMarks a everyRule (same-end i) i) rules;
+          steps = over (stepBytes (same-end i .trace)) steps;
+          order = over (naming (same-written i)) order;
+        }
+        | some r ↦ refusedWith r facts rules steps order
+      ]
+
+  -- The panel's text.
+  text-of : (u : List ℕ) → _≡_ {A = Option Refusal} (fileNo u) none → panelText u ≡ runText (programOf u) (run (programOf u) everyRule (ascending (programOf u)))
+  unfolding panelText
+  text-of u e = rw (e, panelText)
+
+  same-ascending : run P everyRule (ascending P) ≡ run Q everyRule (ascending Q)
+  same-ascending i = alike-run a everyRule (keep (alike-exception a i) (upTo (a .same-count i))) i
+
+  same-rejected : rejectedFacts P (run P everyRule (ascending P)) ≡ rejectedFacts Q (run Q everyRule (ascending Q))
+  same-rejected i = keep (λ f. eqb (alike-factMark a i (same-ascending i) f) 2) (upTo (a .same-facts i))
+
+  same-aside : asideRules P (run P everyRule (ascending P)) ≡ asideRules Q (run Q everyRule (ascending Q))
+  same-aside i = keep (alike-aside a everyRule i (same-ascending i .derived)) (upTo (a .same-count i))
+
+  same-lines : runText P (run P everyRule (ascending P)) ≡ runText Q (run Q everyRule (ascending Q))
+  unfolding runText
+  same-lines i =
+      headLine (a .same-facts i) (a .same-count i) (stageCount (same-ascending i))
+      ++ (each stepLine (same-ascending i .trace)
+      ++ (each (line 0x58) (same-rejected i)
+      ++ (each (line 0x41) (same-aside i)
+      ++ lastLine (null (same-aside i)))))
+
+  same-text : panelText s ≡ panelText t
+  same-text = text-of s yes-s ∙ (same-lines ∙ sym (text-of t yes-t))
+
+  pub same-replies : SameReplies s t
+  same-replies =
+      record {
+        accept = accepted;
+        ask-list = λ list. ap answerOf (list-asked list);
+        ask-order = λ order. ap answerOf (order-asked order);
+        ask-set = λ set. ap answerOf (set-asked set);
+        ask-row = λ fact row. ap answerOf (row-asked fact row);
+        run = same-run;
+        judge = same-judge;
+        check = same-check;
+        search = same-search;
+        render = λ room. (ap length same-text, ap (λ (text : List ℕ). shown text room) same-text);
+        retention-accept = ap fileOf accepted;
+        retention-run = λ order facts rules steps. ap runReply (same-run order facts rules steps);
+        retention-judge = λ list set. ap verdictOfJudged (same-judge list set);
+        retention-check = λ set fact row. ap verdictOfChecked (same-check set fact row);
+        retention-search = λ facts rules steps order. ap searchReply (same-search facts rules steps order);
+      }

@@ -1,0 +1,262 @@
+-- Demand 1 (document 01, "Questions before a result"), of one call of an operation: each no stops with its number, and a number is returned
+-- only for a no to its own question, asked of that operation.
+use Prim.Native.Nat.{ℕ, _<_, _≤_}
+use mathlib.Core.Path.{_≡_}
+use mathlib.Core.Bool.{true}
+use mathlib.Core.List.{List, [], _∷_, _++_}
+use mathlib.Core.Logic.{_↔_}
+use mathlib.Core.Option.{Option, none, some, Option·map}
+use lib.Dec.{eqb}
+use Rattle.theory.specs.Rule.{all, mem}
+use Rattle.reader.specs.Question.{Question, firstNo}
+use lib.ListN.{length, drop}
+use Rattle.reader.specs.declared.refusal.Refusal.{Refusal}
+use Rattle.reader.specs.declared.cursor.Row.{Row}
+use Rattle.reader.specs.declared.cursor.Row.the-variants.{Opening, Body, Order, Steps}
+use Rattle.reader.specs.declared.cursor.Cursor.{Cursor}
+use Rattle.reader.specs.declared.cursor.Read.the-variants.{Ended, Refused}
+use Rattle.reader.specs.Cursor.{front, placeQuestions, nextAt}
+use Rattle.reader.specs.Questions.{fileQuestions}
+use Rattle.reader.specs.Accept.{acceptOf}
+use Rattle.rules.specs.Questions.{askListQuestions, askOrderQuestions, askSetQuestions, askRowQuestions, runQuestions, judgeQuestions, checkQuestions, searchQuestions}
+use Rattle.rules.specs.Answer.{answerOf}
+use Rattle.run.specs.Outcome.{runOutcome}
+use Rattle.judge.specs.Judged.{judged}
+use Rattle.proofcheck.specs.Checked.{checked}
+use Rattle.search.specs.Outcome.{searchOutcome}
+use Rattle.panel_text.specs.Text.{panelText, shown}
+use Rattle.retention.specs.declared.reply.FileCounts.{FileCounts}
+use Rattle.retention.specs.declared.reply.Verdict.{Verdict}
+use Rattle.retention.specs.Reply.{fileOf, verdictOfJudged, verdictOfChecked, RunReply, runReply, SearchReply, searchReply}
+use Rattle.reader.specs.Question as refusal
+use Rattle.reader.specs.Cursor as read
+use Rattle.reader.specs.Accept as accepted
+use Rattle.rules.specs.Answer as answer
+use Rattle.run.specs.Outcome as ran
+use Rattle.judge.specs.Judged as judgement
+use Rattle.proofcheck.specs.Checked as checking
+use Rattle.search.specs.Outcome as searched
+
+-- The number of the first no; none where every question gets yes.
+abbrev pub firstNumber : List Question → Option ℕ
+firstNumber qs = Option·map refusal.number (firstNo qs)
+
+-- What an operation hands back: its number, every other value of its answer, and the buffers that were lent to it.
+pub record Reply : Type 0 where
+  pub number : ℕ
+  pub counts : List ℕ
+  pub left : List (List ℕ)
+
+-- A call: the operation's questions in their order, with their answers; the numbers that it may refuse with; the buffers lent to it; its reply.
+pub record Call : Type 0 where
+  pub questions : List Question
+  pub own : List ℕ
+  pub lent : List (List ℕ)
+  pub reply : Reply
+
+-- The operation refuses with n exactly where n is the number of the first no. Then n is one of its own numbers, every count is 0, and every
+-- lent buffer is as it was. Else the number is 0.
+pub record RefusesExactly (c : Call) : Type 0 where
+  pub refuses : (n : ℕ) → (firstNumber (c .questions) ≡ some n) ↔ ((c .reply .number ≡ n) × (0 < n))
+  pub own-number : (n : ℕ) → firstNumber (c .questions) ≡ some n → mem n (c .own) ≡ true
+  pub counts-zero : (n : ℕ) → firstNumber (c .questions) ≡ some n → all (eqb 0) (c .reply .counts) ≡ true
+  pub lent-kept : (n : ℕ) → firstNumber (c .questions) ≡ some n → c .reply .left ≡ c .lent
+  pub else-zero : _≡_ {A = Option ℕ} (firstNumber (c .questions)) none → c .reply .number ≡ 0
+
+-- Every public operation as a call, from its inputs: its questions, its own numbers, what it is lent, and its reply.
+
+-- The numbers of the questions on a file, a list of rules, an order, a fact set, a proof row, the run's buffers, and of the search alone.
+abbrev pub fileNumbers : List ℕ
+fileNumbers = 1 ∷ 2 ∷ 3 ∷ 4 ∷ 5 ∷ 6 ∷ 7 ∷ 8 ∷ 9 ∷ 10 ∷ []
+
+abbrev pub listNumbers : List ℕ
+listNumbers = 11 ∷ 12 ∷ 13 ∷ []
+
+abbrev pub orderNumbers : List ℕ
+orderNumbers = listNumbers ++ (14 ∷ [])
+
+abbrev pub setNumbers : List ℕ
+setNumbers = 21 ∷ 22 ∷ []
+
+abbrev pub rowNumbers : List ℕ
+rowNumbers = 24 ∷ 23 ∷ []
+
+abbrev pub bufferNumbers : List ℕ
+bufferNumbers = 31 ∷ 32 ∷ 33 ∷ []
+
+abbrev pub limitNumbers : List ℕ
+limitNumbers = 34 ∷ 40 ∷ []
+
+-- Of each operation that asks more than a file's questions.
+abbrev pub runNumbers : List ℕ
+runNumbers = fileNumbers ++ (orderNumbers ++ bufferNumbers)
+
+abbrev pub judgeNumbers : List ℕ
+judgeNumbers = fileNumbers ++ (listNumbers ++ setNumbers)
+
+abbrev pub checkNumbers : List ℕ
+checkNumbers = fileNumbers ++ (setNumbers ++ rowNumbers)
+
+abbrev pub searchNumbers : List ℕ
+searchNumbers = fileNumbers ++ (bufferNumbers ++ limitNumbers) ++ (41 ∷ [])
+
+-- A call of an operation that is lent no buffer.
+abbrev pub lentNothing : List Question → List ℕ → ℕ → List ℕ → Call
+lentNothing questions own number counts =
+    record { questions = questions; own = own; lent = []; reply = record { number = number; counts = counts; left = [] } }
+
+-- `accept`
+abbrev pub acceptCall : List ℕ → Call
+acceptCall file =
+    let a = acceptOf file in
+    lentNothing (fileQuestions file) fileNumbers (accepted.number a)
+    (accepted.facts a ∷ accepted.rules a ∷ accepted.exceptionRules a ∷ accepted.constraints a ∷ [])
+
+-- `Cursor::next`: the questions on the place where it stands.
+abbrev pub placeNumbers : Row → List ℕ
+placeNumbers Opening = 2 ∷ []
+placeNumbers Body = 3 ∷ 4 ∷ 5 ∷ []
+placeNumbers Order = 11 ∷ []
+placeNumbers Steps = 23 ∷ []
+
+abbrev pub nextCall : List ℕ → Cursor → Call
+nextCall bytes c =
+    lentNothing (placeQuestions (c .row) (front (c .row) (drop (c .at) bytes))) (placeNumbers (c .row)) (read.number (nextAt bytes c)) []
+
+-- A refusal hands out the cursor as it was, and so does an end. Where no byte is left an order, a list and a proof row have ended.
+pub record Stays (bytes : List ℕ) (c : Cursor) : Type 0 where
+  pub refused : (r : Refusal) (here : Cursor) → nextAt bytes c ≡ Refused r here → here ≡ c
+  pub ended : (here : Cursor) → nextAt bytes c ≡ Ended here → here ≡ c
+  pub order-ends : c .row ≡ Order → length bytes ≤ c .at → nextAt bytes c ≡ Ended c
+  pub row-ends : c .row ≡ Steps → length bytes ≤ c .at → nextAt bytes c ≡ Ended c
+
+-- `ask_list`, `ask_order`, `ask_set` and `ask_row`: the answer to their questions.
+abbrev pub askCall : List Question → List ℕ → Call
+askCall questions own = lentNothing questions own (answer.number (answerOf (firstNo questions))) []
+
+abbrev pub askListCall : List ℕ → List ℕ → Call
+askListCall file list = askCall (askListQuestions file list) (fileNumbers ++ listNumbers)
+
+abbrev pub askOrderCall : List ℕ → List ℕ → Call
+askOrderCall file order = askCall (askOrderQuestions file order) (fileNumbers ++ orderNumbers)
+
+abbrev pub askSetCall : List ℕ → List ℕ → Call
+askSetCall file set = askCall (askSetQuestions file set) (fileNumbers ++ setNumbers)
+
+abbrev pub askRowCall : List ℕ → ℕ → List ℕ → Call
+askRowCall file fact row = askCall (askRowQuestions file fact row) (fileNumbers ++ rowNumbers)
+
+-- `run`
+abbrev pub runReplied : ran.RunOutcome → Reply
+runReplied o =
+    record {
+      number = ran.number (o .answer);
+      counts = ran.stages (o .answer) ∷ ran.steps (o .answer) ∷ [];
+      left = o .fact-marks ∷ o .rule-marks ∷ o .steps ∷ [];
+    }
+
+abbrev pub runCall : List ℕ → List ℕ → List ℕ → List ℕ → List ℕ → Call
+runCall file order facts rules steps =
+    record {
+      questions = runQuestions file order (length facts) (length rules) (length steps);
+      own = runNumbers;
+      lent = facts ∷ rules ∷ steps ∷ [];
+      reply = runReplied (runOutcome file order facts rules steps);
+    }
+
+-- `judge`
+abbrev pub judgeCall : List ℕ → List ℕ → List ℕ → Call
+judgeCall file list set =
+    let a = judged file list set in
+    lentNothing (judgeQuestions file list set) judgeNumbers (judgement.number a) (judgement.verdict a ∷ [])
+
+-- `check`
+abbrev pub checkCall : List ℕ → List ℕ → ℕ → List ℕ → Call
+checkCall file set fact row =
+    let a = checked file set fact row in
+    lentNothing (checkQuestions file set fact row) checkNumbers (checking.number a) (checking.verdict a ∷ [])
+
+-- `search`
+abbrev pub searchReplied : searched.SearchOutcome → Reply
+searchReplied o =
+    record {
+      number = searched.number (o .answer);
+      counts = searched.stages (o .answer) ∷ searched.steps (o .answer) ∷ [];
+      left = o .fact-marks ∷ o .rule-marks ∷ o .steps ∷ o .order ∷ [];
+    }
+
+abbrev pub searchCall : List ℕ → List ℕ → List ℕ → List ℕ → List ℕ → Call
+searchCall file facts rules steps order =
+    record {
+      questions = searchQuestions file (length facts) (length rules) (length steps) (length order);
+      own = searchNumbers;
+      lent = facts ∷ rules ∷ steps ∷ order ∷ [];
+      reply = searchReplied (searchOutcome file facts rules steps order);
+    }
+
+-- `render`: it asks nothing and refuses nothing. A file's first no stands in its text.
+abbrev pub renderCall : List ℕ → List ℕ → Call
+renderCall file out =
+    record {
+      questions = [];
+      own = [];
+      lent = out ∷ [];
+      reply = record { number = 0; counts = length (panelText file) ∷ []; left = shown (panelText file) out ∷ [] };
+    }
+
+-- The operations for C: each is the one above, and replies in plain numbers.
+abbrev pub replying : Call → Reply → Call
+replying c reply = record { questions = c .questions; own = c .own; lent = c .lent; reply = reply }
+
+-- `retention_accept`: with the bytes of one step beside the counts.
+abbrev pub retentionAcceptCall : List ℕ → Call
+retentionAcceptCall file = replying (acceptCall file) (counted (fileOf (acceptOf file)))
+  where
+    counted : FileCounts → Reply
+    counted c =
+        record {
+          number = c .refusal;
+          counts = c .facts ∷ c .rules ∷ c .exceptions ∷ c .constraints ∷ c .«step_bytes» ∷ [];
+          left = [];
+        }
+
+-- `retention_run`
+abbrev pub retentionRunCall : List ℕ → List ℕ → List ℕ → List ℕ → List ℕ → Call
+retentionRunCall file order facts rules steps =
+    replying (runCall file order facts rules steps) (counted (runReply (runOutcome file order facts rules steps)))
+  where
+    counted : RunReply → Reply
+    counted o =
+        record {
+          number = o .reply .refusal;
+          counts = o .reply .stages ∷ o .reply .steps ∷ [];
+          left = o .fact-marks ∷ o .rule-marks ∷ o .steps ∷ [];
+        }
+
+-- `retention_judge` and `retention_check`
+abbrev pub verdictReplied : Verdict → Reply
+verdictReplied v = record { number = v .refusal; counts = v .verdict ∷ []; left = [] }
+
+abbrev pub retentionJudgeCall : List ℕ → List ℕ → List ℕ → Call
+retentionJudgeCall file list set = replying (judgeCall file list set) (verdictReplied (verdictOfJudged (judged file list set)))
+
+abbrev pub retentionCheckCall : List ℕ → List ℕ → ℕ → List ℕ → Call
+retentionCheckCall file set fact row =
+    replying (checkCall file set fact row) (verdictReplied (verdictOfChecked (checked file set fact row)))
+
+-- `retention_search`
+abbrev pub retentionSearchCall : List ℕ → List ℕ → List ℕ → List ℕ → List ℕ → Call
+retentionSearchCall file facts rules steps order =
+    replying (searchCall file facts rules steps order) (counted (searchReply (searchOutcome file facts rules steps order)))
+  where
+    counted : SearchReply → Reply
+    counted o =
+        record {
+          number = o .reply .refusal;
+          counts = o .reply .stages ∷ o .reply .steps ∷ [];
+          left = o .fact-marks ∷ o .rule-marks ∷ o .steps ∷ o .order ∷ [];
+        }
+
+-- `retention_panel`
+abbrev pub retentionPanelCall : List ℕ → List ℕ → Call
+retentionPanelCall file out = renderCall file out

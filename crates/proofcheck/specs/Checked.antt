@@ -1,0 +1,41 @@
+-- What the proof check answers (document 01, "Judge and proof check").
+use Prim.Native.Nat.{ℕ}
+use mathlib.Core.Path.{_≡_}
+use mathlib.Core.Bool.{cond}
+use mathlib.Core.List.{List}
+use mathlib.Core.Logic.{_↔_}
+use mathlib.Core.Option.{none, some}
+use Rattle.theory.specs.Rule.{everyRule}
+use Rattle.theory.specs.Stable.{Proof, Admits}
+use Rattle.theory.specs.Check.{isProof}
+use Rattle.reader.specs.Question as refusal
+use Rattle.reader.specs.Question.{noNumber}
+use Rattle.reader.specs.Questions.{programOf}
+use Rattle.rules.specs.Questions.{checkNo, has, rowOf}
+use Rattle.proofcheck.specs.declared.answer.Checked.{Checked}
+use Rattle.proofcheck.specs.declared.answer.Checked.the-variants.{Yes, No, Refused}
+
+-- Is the row a proof of the asked fact that the set admits?
+unfoldable pub checked : List ℕ → List ℕ → ℕ → List ℕ → Checked
+checked file set fact row =
+    elim (checkNo file set fact row) [
+      | none ↦ cond (isProof (programOf file) everyRule (has set) (rowOf row) fact) Yes No
+      | some r ↦ Refused r
+    ]
+
+-- The answer's number, 0 where there is none, and its verdict, 1 for yes.
+abbrev pub number : Checked → ℕ
+number Yes = 0
+number No = 0
+number (Refused r) = refusal.number r
+
+abbrev pub verdict : Checked → ℕ
+verdict Yes = 1
+verdict No = 0
+verdict (Refused r) = 0
+
+-- What an answer means: its number is that of the first no; where no question got no, the verdict is yes exactly where the row is a proof of the
+-- asked fact that the set admits.
+pub record CheckMeans (file set : List ℕ) (fact : ℕ) (row : List ℕ) (r : Checked) : Type 0 where
+  pub numbered : number r ≡ noNumber (checkNo file set fact row)
+  pub yes-exactly : number r ≡ 0 → (verdict r ≡ 1) ↔ (Proof (programOf file) everyRule (rowOf row) fact × Admits (programOf file) (has set) (rowOf row))

@@ -1,0 +1,110 @@
+-- Marks written one after another, and the mark of each rule.
+use Prim.Native.Nat.{ℕ, zero, suc, _+_, _≤_, _<_}
+use mathlib.Core.Path.{_≡_, refl, sym, ap, ap₂, _∙_}
+use mathlib.Core.Bool.{Bool, true, false, cond, not, _&&_}
+use mathlib.Core.List.{List, map}
+use native.Mathlib.Omega.{arith}
+use native.Mathlib.Nat.{zero-add, add-zero}
+use native.Mathlib.Numerals.{add-one}
+use borrow.Author.Tests.{lt-ltb, eq-eqb, ne-eqb}
+use lib.ListN.{length, getD, set, length-set, length-map}
+use lib.Seq.{paste, paste-zero, paste-suc, take-all}
+use Rattle.theory.specs.Rule.{all, clear, mem, range, upTo, Rule, Program, FactSet, everyRule, null, count, rule, plain}
+use Rattle.theory.specs.Run.{Stand, rejected, setAside, factMark, ruleMark, factMarks}
+use Rattle.theory.proofs.Lists.{length-range}
+use Rattle.rules.specs.Questions.{has}
+use Rattle.run.specs.Outcome.{over}
+
+-- The first i of the marks that f gives to the numbers below n are written.
+pub record Marking (f : ℕ → ℕ) (n : ℕ) (before now : List ℕ) (i : ℕ) : Type 0 where
+  pub inside : i ≤ n
+  pub length-kept : length now ≡ length before
+  pub written : now ≡ paste before 0 (map f (upTo n)) i
+
+mark-at : (f : ℕ → ℕ) (a n i : ℕ) → i < n → getD (map f (range a n)) i 0 ≡ f (a + i)
+mark-at f a zero i h = absurd (omega arith)
+mark-at f a (suc n) zero h = ap f (sym (add-zero a))
+mark-at f a (suc n) (suc i) h =
+    let next : suc a + i ≡ a + suc i = omega arith in
+    mark-at f (suc a) n i (omega arith) ∙ ap f next
+
+marks-length : (f : ℕ → ℕ) (n : ℕ) → length (map f (upTo n)) ≡ n
+marks-length f n = length-map (upTo n) f ∙ length-range 0 n
+
+pub none-written : (f : ℕ → ℕ) (n : ℕ) (before : List ℕ) → Marking f n before before 0
+none-written f n before =
+    record { inside = omega arith; length-kept = refl; written = paste-zero before 0 (map f (upTo n)) }
+
+module _ (f : ℕ → ℕ) (n : ℕ) (before now : List ℕ) (i : ℕ) (w : Marking f n before now i) where
+  pub one-written : n ≤ length before → i < n → (v : ℕ) → v ≡ f i → Marking f n before (set now i v) (i + 1)
+  one-written room h v e =
+      record {
+        inside = omega arith;
+        length-kept = length-set now i v ∙ w .length-kept;
+        written =
+            ap₂ (λ (l : List ℕ) (x : ℕ). set l i x) (w .written) (e ∙ sym (mark-at f 0 n i h ∙ ap f (zero-add i)))
+            ∙ ap (λ (k : ℕ). set (paste before 0 (map f (upTo n)) i) k (getD (map f (upTo n)) i 0)) (sym (zero-add i))
+            ∙ paste-suc before 0 (map f (upTo n)) i 0 (omega arith) (omega (arith, marks-length f n))
+            ∙ ap (paste before 0 (map f (upTo n))) (sym (add-one i));
+      }
+
+  pub all-written : n ≤ i → now ≡ over (map f (upTo n)) before
+  all-written h =
+      let last : i ≡ n = omega (arith, w .inside) in
+      w .written
+      ∙ rw (last, take-all n (map f (upTo n)) (omega (arith, marks-length f n)), zero-add n, marks-length f n)
+
+-- Fact marks by the sets that the memory shows.
+abbrev pub factMarkBy : FactSet → FactSet → ℕ → ℕ
+factMarkBy D R f = cond (D f) 1 (cond (R f) 2 0)
+
+pub fact-marks : (P : Program) (s : Stand) (n : ℕ) (D R : FactSet) (out : List ℕ) → n ≡ P .facts → D ≡ s .derived → R ≡ rejected P (s .applied) → over (map (factMarkBy D R) (upTo n)) out ≡ over (factMarks P s) out
+unfolding factMark
+fact-marks P s n D R out e d r = rw (e, d, r)
+
+-- The ways to the mark of one fact.
+module _ (derived rejections : List ℕ) (f : ℕ) where
+  pub a-derived : getD derived f 0 ≡ 1 → 1 ≡ factMarkBy (has derived) (has rejections) f
+  unfolding has
+  a-derived e = rw (eq-eqb _ 1 e)
+
+  module _ (o : getD derived f 0 ≡ 1 → ⊥) where
+    pub a-rejected : getD rejections f 0 ≡ 1 → 2 ≡ factMarkBy (has derived) (has rejections) f
+    unfolding has
+    a-rejected e = rw (ne-eqb _ 1 o, eq-eqb _ 1 e)
+
+    pub an-open : (getD rejections f 0 ≡ 1 → ⊥) → 0 ≡ factMarkBy (has derived) (has rejections) f
+    unfolding has
+    an-open e = rw (ne-eqb _ 1 o, ne-eqb _ 1 e)
+
+-- The ways to the mark of one rule, by what the rule says of D.
+module _ (P : Program) (s : Stand) (i : ℕ) (h : i < count P) (R : Rule) (r : R ≡ rule P i) (a : Bool) (q : a ≡ mem i (s .applied)) (D : FactSet) (d : D ≡ s .derived) where
+  rule-mark : cond (not (null (R .constraints))) (cond a 1 (cond (all D (R .premises) && clear D (R .constraints) && not (D (R .conclusion))) 2 3)) 0 ≡ ruleMark P everyRule s i
+  unfolding ruleMark setAside plain
+  rule-mark = rw (r, q, d, lt-ltb i (count P) h) (go (null (rule P i .constraints)) _)
+    where
+      go : (b : Bool) (x : ℕ) → cond (not b) x 0 ≡ cond b 0 x
+      go true x = refl
+      go false x = refl
+
+  pub a-plain : not (null (R .constraints)) ≡ false → 0 ≡ ruleMark P everyRule s i
+  a-plain e = rw e at rule-mark
+
+  module _ (e : not (null (R .constraints)) ≡ true) where
+    pub an-applied : a ≡ true → 1 ≡ ruleMark P everyRule s i
+    an-applied t = rw (e, t) at rule-mark
+
+    module _ (t : a ≡ false) where
+      pub a-premise-out : all D (R .premises) ≡ false → 3 ≡ ruleMark P everyRule s i
+      a-premise-out p = rw (e, t, p) at rule-mark
+
+      module _ (p : all D (R .premises) ≡ true) where
+        pub a-constraint-in : clear D (R .constraints) ≡ false → 3 ≡ ruleMark P everyRule s i
+        a-constraint-in k = rw (e, t, p, k) at rule-mark
+
+        module _ (k : clear D (R .constraints) ≡ true) where
+          pub a-conclusion-in : D (R .conclusion) ≡ true → 3 ≡ ruleMark P everyRule s i
+          a-conclusion-in f = rw (e, t, p, k, f) at rule-mark
+
+          pub set-aside : D (R .conclusion) ≡ false → 2 ≡ ruleMark P everyRule s i
+          set-aside f = rw (e, t, p, k, f) at rule-mark

@@ -1,0 +1,136 @@
+-- The marks that a run writes, read back: D, R, the plain rules, the rules applied and those set aside.
+use Prim.Native.Nat.{ℕ, zero, suc, _+_, _≤_, _<_}
+use native.Mathlib.Omega.{arith}
+use native.Mathlib.Decide.{decLt}
+use native.Mathlib.Nat.{add-zero, zero-add, suc-add, add-suc}
+use mathlib.Core.Path.{_≡_, refl, sym, _∙_, ap, fun-ext}
+use mathlib.Core.Bool.{Bool, true, false, cond, _&&_}
+use mathlib.Core.List.{List, [], _∷_, map}
+use borrow.Author.Tests.{lt-ltb, le-ltb, ltb-true}
+use lib.ListN.{length, getD, take, drop, length-map, List·getD-append}
+use lib.Seq.{take-at, drop-at}
+use lib.Dec.{eqb, ltb}
+use Rattle.theory.specs.Rule.{mem, range, upTo, Program, Bounded, everyRule, count, rule, plain}
+use Rattle.theory.specs.Run.{rejected, run, setAside, factMark, ruleMark, factMarks, ruleMarks}
+use Rattle.theory.proofs.Bools.{never, and-left, false-of}
+use Rattle.theory.proofs.Lists.{length-range, all-elem, any-witness}
+use Rattle.theory.proofs.Run.{run-sound, run-disjoint, not-both, exception-known}
+use Rattle.theory.proofs.Absent.{run-absent}
+use Rattle.theory.proofs.RunStable.{concluded-kept}
+use Rattle.theory.proofs.Marks.{aside-supported, aside-exception}
+use Rattle.run.specs.Outcome.{over}
+use Rattle.rules.specs.Questions.{marked}
+
+pub getD-range : (f : ℕ → ℕ) (n a i : ℕ) → i < n → getD (map f (range a n)) i 0 ≡ f (a + i)
+getD-range f zero a i l = absurd (omega arith)
+getD-range f (suc n) a zero l = ap f (sym (add-zero a))
+getD-range f (suc n) a (suc i) l = getD-range f n (suc a) i (omega arith) ∙ ap f (suc-add a i ∙ sym (add-suc a i))
+
+pub length-marks : (f : ℕ → ℕ) (n : ℕ) → length (map f (upTo n)) ≡ n
+length-marks f n = length-map (upTo n) f ∙ length-range 0 n
+
+-- a mark in front is the mark of its number
+pub mark-at : (f : ℕ → ℕ) (n : ℕ) (room : List ℕ) (i : ℕ) → i < n → getD (over (map f (upTo n)) room) i 0 ≡ f i
+mark-at f n room i l =
+    List·getD-append (map f (upTo n)) (drop (length (map f (upTo n))) room) 0 i (rw (length-marks f n) l)
+    ∙ (getD-range f n 0 i l ∙ ap f (zero-add i))
+
+pub marks-front : (f : ℕ → ℕ) (n : ℕ) (room : List ℕ) → take n (over (map f (upTo n)) room) ≡ map f (upTo n)
+marks-front f n room = take-at (map f (upTo n)) (drop (length (map f (upTo n))) room) n (length-marks f n)
+
+pub marked-past : (n mark : ℕ) (bytes : List ℕ) (i : ℕ) → n ≤ i → marked n mark bytes i ≡ false
+unfolding marked
+marked-past n mark bytes i l = rw (le-ltb i n l) refl
+
+-- a set that holds no number past the last is read off its marks
+pub read-marks : (f : ℕ → ℕ) (n mark : ℕ) (room : List ℕ) (S : ℕ → Bool) → ((i : ℕ) → i < n → eqb (f i) mark ≡ S i) → ((i : ℕ) → n ≤ i → S i ≡ false) → marked n mark (over (map f (upTo n)) room) ≡ S
+unfolding marked
+read-marks f n mark room S inside outside = fun-ext (λ i. go i (decLt i n))
+  where
+    go : (i : ℕ) → Dec (i < n) → ltb i n && eqb (getD (over (map f (upTo n)) room) i 0) mark ≡ S i
+    go i (yes l) = rw (lt-ltb i n l, mark-at f n room i l) (inside i l)
+    go i (no h) = let l : n ≤ i = omega arith in rw (le-ltb i n l) (sym (outside i l))
+
+module _ (P : Program) (b : Bounded P) (order : List ℕ) where
+  pub read-derived : (room : List ℕ) → marked (P .facts) 1 (over (factMarks P (run P everyRule order)) room) ≡ run P everyRule order .derived
+  unfolding factMark
+  read-derived room =
+      read-marks (factMark P (run P everyRule order)) (P .facts) 1 room (run P everyRule order .derived)
+      (λ f _. one (run P everyRule order .derived f) (rejected P (run P everyRule order .applied) f))
+      (λ f l. run-absent P everyRule order f (λ i k _ e. let c : rule P i .conclusion < P .facts = b .conclusion-below i k in absurd (omega arith)))
+    where
+      one : (d r : Bool) → eqb (cond d 1 (cond r 2 0)) 1 ≡ d
+      one true r = refl
+      one false true = refl
+      one false false = refl
+
+  pub read-rejected : (room : List ℕ) → marked (P .facts) 2 (over (factMarks P (run P everyRule order)) room) ≡ rejected P (run P everyRule order .applied)
+  unfolding factMark rejected
+  read-rejected room =
+      read-marks (factMark P (run P everyRule order)) (P .facts) 2 room (rejected P (run P everyRule order .applied))
+      (λ f _. two (run P everyRule order .derived f) (rejected P (run P everyRule order .applied) f) (run-disjoint P everyRule order f))
+      outside
+    where
+      two : (d r : Bool) → (d ≡ true → r ≡ true → ⊥) → eqb (cond d 1 (cond r 2 0)) 2 ≡ r
+      two true true n = absurd (n refl refl)
+      two true false n = refl
+      two false true n = refl
+      two false false n = refl
+
+      outside : (f : ℕ) → P .facts ≤ f → rejected P (run P everyRule order .applied) f ≡ false
+      outside f l = false-of (rejected P (run P everyRule order .applied) f) clash
+        where
+          clash : rejected P (run P everyRule order .applied) f ≡ true → ⊥
+          clash t =
+              let w = any-witness (λ i. mem f (rule P i .constraints)) (run P everyRule order .applied) t in
+              let e = run-sound P everyRule order .excepted (w .0) (w .1) in
+              never (all-elem (λ g. ltb g (P .facts)) (rule P (w .0) .constraints) (b .constraints-below (w .0) (exception-known P everyRule (w .0) e)) f (w .2)) (le-ltb f (P .facts) l)
+
+  pub read-aside : (room : List ℕ) → marked (count P) 2 (over (ruleMarks P everyRule (run P everyRule order)) room) ≡ setAside P everyRule (run P everyRule order .derived)
+  unfolding ruleMark
+  read-aside room =
+      read-marks (ruleMark P everyRule (run P everyRule order)) (count P) 2 room (setAside P everyRule (run P everyRule order .derived))
+      (λ i _. two (plain P i) (mem i (run P everyRule order .applied)) (setAside P everyRule (run P everyRule order .derived) i)
+      (λ p a. not-both P everyRule i p (aside-exception P everyRule (run P everyRule order) (run-sound P everyRule order) i (aside-supported P everyRule (run P everyRule order .derived) i a)))
+      (λ m a. never a (concluded-kept P everyRule (run P everyRule order .derived) i (run-sound P everyRule order .concluded i m))))
+      (λ i l. false-of (setAside P everyRule (run P everyRule order .derived) i) (λ a. let k : i < count P = aside-supported P everyRule (run P everyRule order .derived) i a .known in absurd (omega arith)))
+    where
+      two : (p a s : Bool) → (p ≡ true → s ≡ true → ⊥) → (a ≡ true → s ≡ true → ⊥) → eqb (cond p 0 (cond a 1 (cond s 2 3))) 2 ≡ s
+      two true a true n m = absurd (n refl refl)
+      two true a false n m = refl
+      two false true true n m = absurd (m refl refl)
+      two false true false n m = refl
+      two false false true n m = refl
+      two false false false n m = refl
+
+  pub read-plain : (room : List ℕ) → marked (count P) 0 (over (ruleMarks P everyRule (run P everyRule order)) room) ≡ plain P
+  unfolding ruleMark plain
+  read-plain room =
+      read-marks (ruleMark P everyRule (run P everyRule order)) (count P) 0 room (plain P)
+      (λ i _. zero-mark (plain P i) (mem i (run P everyRule order .applied)) (setAside P everyRule (run P everyRule order .derived) i))
+      (λ i l. false-of (plain P i) (λ a. let k : i < count P = ltb-true i (count P) (and-left (ltb i (count P)) _ a) in absurd (omega arith)))
+    where
+      zero-mark : (p a s : Bool) → eqb (cond p 0 (cond a 1 (cond s 2 3))) 0 ≡ p
+      zero-mark true a s = refl
+      zero-mark false true s = refl
+      zero-mark false false true = refl
+      zero-mark false false false = refl
+
+  pub read-applied : (room : List ℕ) → marked (count P) 1 (over (ruleMarks P everyRule (run P everyRule order)) room) ≡ (λ i. mem i (run P everyRule order .applied))
+  unfolding ruleMark
+  read-applied room =
+      read-marks (ruleMark P everyRule (run P everyRule order)) (count P) 1 room (λ i. mem i (run P everyRule order .applied))
+      (λ i _. one (plain P i) (mem i (run P everyRule order .applied)) (setAside P everyRule (run P everyRule order .derived) i)
+      (λ p m. not-both P everyRule i p (run-sound P everyRule order .excepted i m)))
+      (λ i l. false-of (mem i (run P everyRule order .applied)) (λ m. let k : i < count P = exception-known P everyRule i (run-sound P everyRule order .excepted i m) in absurd (omega arith)))
+    where
+      one : (p a s : Bool) → (p ≡ true → a ≡ true → ⊥) → eqb (cond p 0 (cond a 1 (cond s 2 3))) 1 ≡ a
+      one true true s n = absurd (n refl refl)
+      one true false s n = refl
+      one false true s n = refl
+      one false false true n = refl
+      one false false false n = refl
+
+-- what is past the front of a buffer keeps its contents
+pub over-kept : (xs ys : List ℕ) (n : ℕ) → length xs ≡ n → drop n (over xs ys) ≡ drop n ys
+over-kept xs ys n e = drop-at xs (drop (length xs) ys) n e ∙ ap (λ (m : ℕ). drop m ys) e

@@ -1,0 +1,40 @@
+-- No question before the last has number 41, so 41 tells of the last one alone.
+use Prim.Native.Nat.{ℕ, _<_}
+use native.Mathlib.Omega.{arith}
+use mathlib.Core.Path.{_≡_}
+use mathlib.Core.List.{List}
+use mathlib.Core.Option.{some}
+use Rattle.reader.specs.declared.refusal.Refusal.{Refusal}
+use Rattle.reader.specs.Question as refusal
+use Rattle.reader.specs.Questions.{programOf, fileQuestions}
+use Rattle.reader.proofs.FileRefusals.{each-first, each-append, FileRefusals, each-file}
+use Rattle.rules.specs.Questions.{bufferQuestions, limitQuestions, earlyQuestions, earlyNo}
+
+-- a number, and below that of the last question
+abbrev Early : Refusal → Type 0
+Early r = (0 < refusal.number r) × (refusal.number r < 41)
+
+file-early : FileRefusals Early
+file-early =
+    record {
+      one = (omega arith, omega arith);
+      two = (omega arith, omega arith);
+      three = (omega arith, omega arith);
+      four = (omega arith, omega arith);
+      five = (omega arith, omega arith);
+      six = (omega arith, omega arith);
+      seven = (omega arith, omega arith);
+      eight = (omega arith, omega arith);
+      nine = (omega arith, omega arith);
+      ten = (omega arith, omega arith);
+    }
+
+pub early-numbers : (file : List ℕ) (facts rules steps order : ℕ) (r : Refusal) → earlyNo file facts rules steps order ≡ some r → (0 < refusal.number r) × (refusal.number r < 41)
+unfolding earlyQuestions bufferQuestions limitQuestions
+early-numbers file facts rules steps order r e =
+    each-first Early (earlyQuestions file facts rules steps order) r
+    (each-append Early (fileQuestions file) _ (each-file Early file-early file)
+    (each-append Early (bufferQuestions (programOf file) facts rules steps) (limitQuestions (programOf file) order)
+    ((omega arith, omega arith), ((omega arith, omega arith), ((omega arith, omega arith), tt)))
+    ((omega arith, omega arith), ((omega arith, omega arith), tt))))
+    e

@@ -1,0 +1,80 @@
+-- The outcome of a search, by what its questions came to and by the set that was found.
+use Prim.Native.Nat.{ℕ, _≤_, _<_}
+use native.Mathlib.Omega.{arith}
+use mathlib.Core.Path.{_≡_, refl, sym, ap, ap₂, _∙_}
+use mathlib.Core.Bool.{Bool, true, false}
+use mathlib.Core.List.{List, [], _∷_}
+use mathlib.Core.Option.{Option, none, some}
+use lib.ListN.{length, replicate}
+use Rattle.theory.specs.Rule.{keep, howMany, upTo, downFrom, Program, FactSet, everyRule, constraintFact}
+use Rattle.theory.specs.Search.{guessed, search}
+use Rattle.theory.proofs.Bools.{never}
+use Rattle.theory.proofs.Lists.{mem-downFrom}
+use Rattle.reader.specs.declared.refusal.Refusal.{Refusal}
+use Rattle.reader.specs.declared.refusal.Refusal.the-variants.{NoStableSet}
+use Rattle.reader.specs.Item.{maxFacts}
+use Rattle.reader.specs.Questions.{programOf, constraintFacts}
+use Rattle.reader.specs.Rules.{paint}
+use Rattle.reader.proofs.Marks.{painted, painted-count}
+use Rattle.rules.specs.Questions.{has, someStable, stableQuestion, earlyQuestions, searchQuestions, earlyNo, searchNo}
+use Rattle.rules.proofs.Orders.{keep-same}
+use Rattle.earliest.specs.Branch.{Shown}
+use Rattle.reader.specs.Question.{firstNo}
+use Rattle.reader.proofs.FirstNo.{first-no, first-yes}
+use Rattle.search.specs.Outcome.{SearchOutcome, foundAt, refusedWith, takenSet, searchOutcome}
+
+module _ (file facts rules steps order : List ℕ) where
+  -- by the first no of all questions
+  searched-no : (r : Refusal) → searchNo file (length facts) (length rules) (length steps) (length order) ≡ some r → _≡_ {A = SearchOutcome} (refusedWith r facts rules steps order) (searchOutcome file facts rules steps order)
+  unfolding searchOutcome
+  searched-no r e = sym (rw (e, searchOutcome))
+
+  pub searched-refused : (r : Refusal) → earlyNo file (length facts) (length rules) (length steps) (length order) ≡ some r → _≡_ {A = SearchOutcome} (refusedWith r facts rules steps order) (searchOutcome file facts rules steps order)
+  unfolding searchQuestions
+  searched-refused r e = searched-no r (first-no (earlyQuestions file (length facts) (length rules) (length steps) (length order)) _ r e)
+
+  module _ (e : _≡_ {A = Option Refusal} (earlyNo file (length facts) (length rules) (length steps) (length order)) none) where
+    -- what is left is the last question
+    last-asked : searchNo file (length facts) (length rules) (length steps) (length order) ≡ firstNo (stableQuestion (programOf file) ∷ [])
+    unfolding searchQuestions
+    last-asked = first-yes (earlyQuestions file (length facts) (length rules) (length steps) (length order)) _ e
+
+    pub searched-without : _≡_ {A = Option FactSet} (search (programOf file) everyRule) none → _≡_ {A = SearchOutcome} (refusedWith NoStableSet facts rules steps order) (searchOutcome file facts rules steps order)
+    unfolding someStable
+    searched-without q = searched-no NoStableSet (last-asked ∙ rw (q, someStable))
+
+    pub searched-with : (M : FactSet) → search (programOf file) everyRule ≡ some M → _≡_ {A = SearchOutcome} (foundAt (programOf file) M facts rules steps order) (searchOutcome file facts rules steps order)
+    unfolding someStable searchOutcome takenSet
+    searched-with M q =
+        let all-yes : _≡_ {A = Option Refusal} (searchNo file (length facts) (length rules) (length steps) (length order)) none = last-asked ∙ rw (q, someStable) in
+        sym (rw (all-yes, searchOutcome, q, takenSet))
+
+    -- by the answer whether there is a set, and the set that the bytes show
+    pub searched-none : (bytes : List ℕ) (r : Bool) → r ≡ false → Shown (search (programOf file) everyRule) r bytes → _≡_ {A = SearchOutcome} (refusedWith NoStableSet facts rules steps order) (searchOutcome file facts rules steps order)
+    searched-none bytes r f s = go (search (programOf file) everyRule) refl s
+      where
+        go : (o : Option FactSet) → search (programOf file) everyRule ≡ o → Shown o r bytes → _≡_ {A = SearchOutcome} (refusedWith NoStableSet facts rules steps order) (searchOutcome file facts rules steps order)
+        go none q w = searched-without q
+        go (some M) q w = never (w .0) f
+
+    pub searched-found : (bytes : List ℕ) (r : Bool) → r ≡ true → Shown (search (programOf file) everyRule) r bytes → _≡_ {A = SearchOutcome} (foundAt (programOf file) (has bytes) facts rules steps order) (searchOutcome file facts rules steps order)
+    searched-found bytes r t s = go (search (programOf file) everyRule) refl s
+      where
+        go : (o : Option FactSet) → search (programOf file) everyRule ≡ o → Shown o r bytes → _≡_ {A = SearchOutcome} (foundAt (programOf file) (has bytes) facts rules steps order) (searchOutcome file facts rules steps order)
+        go none q w = never t w
+        go (some M) q w = ap (λ (N : FactSet). foundAt (programOf file) N facts rules steps order) (w .1) ∙ searched-with M q
+
+-- The constraint facts, as marked.
+module _ (P : Program) (h : P .facts ≤ maxFacts) (marks : List ℕ) (m : marks ≡ paint (constraintFact P everyRule) (replicate maxFacts 0)) (n : ℕ) (f : n ≡ P .facts) where
+  pub guesses-counted : howMany (has marks) (upTo n) ≡ constraintFacts P
+  unfolding has
+  guesses-counted = ap₂ (λ (l : List ℕ) (k : ℕ). howMany (has l) (upTo k)) m f ∙ painted-count P maxFacts h
+
+  pub guesses-listed : keep (has marks) (downFrom n) ≡ guessed P everyRule
+  unfolding has guessed
+  guesses-listed =
+      ap₂ (λ (l : List ℕ) (k : ℕ). keep (has l) (downFrom k)) m f
+      ∙ keep-same _ (constraintFact P everyRule) (downFrom (P .facts)) (λ k d. painted maxFacts (constraintFact P everyRule) k (below (mem-downFrom (P .facts) k d)))
+    where
+      below : {k : ℕ} → k < P .facts → k < maxFacts
+      below l = omega arith

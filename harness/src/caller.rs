@@ -1,0 +1,124 @@
+//! What a caller does with the answer of a search, as cases: the search; the
+//! check of the row for each fact in the set; for facts outside it a row that
+//! tries; and the run under the search's order, in equal buffers.
+//!
+//! The inputs of the checks and of the run come from the reference's search. If
+//! the engine's search agrees with it, they are what a caller reads from the
+//! engine's own buffers.
+
+use crate::cases::{Case, Operation, Reply};
+use crate::list::{Buffers, Named};
+use reference::{RULE_NUMBER_BYTES, RuleFile, STEP_BYTES, kind};
+
+/// The cases for a file; only the search where it is to refuse.
+pub fn cases(
+    name: &str,
+    file: &[u8],
+    lent: &Buffers,
+    refused: Option<u32>,
+) -> Result<Vec<Named>, String> {
+    let title = |what: &str| format!("{name}, as a caller: {what}");
+    let search = Case { lent: lent.lengths.clone(), ..Case::new(Operation::Search, file) };
+    if let Some(refusal) = refused {
+        let untouched = lent.lengths.iter().map(|&length| vec![lent.fill; length]).collect();
+        let expected = Reply { numbers: vec![refusal, 0, 0], buffers: untouched };
+        return Ok(vec![Named::new(title("the search"), search, lent.fill, expected)?]);
+    }
+    let found = search.expected(|_| lent.fill);
+    if found.numbers[0] != 0 {
+        return Err(format!("{name}: the search refuses with {}", found.numbers[0]));
+    }
+    let parsed = RuleFile::parse(file).expect("the search did not refuse it");
+    let mut cases = vec![Named::new(title("the search"), search, lent.fill, found.clone())?];
+    let answer = Answer::of(&parsed, found);
+    let rows = answer.rows().chain(answer.attempts(&parsed));
+    for Row { what, asked, steps, verdict } in rows {
+        let check = Case {
+            set: answer.set.clone(),
+            asked: asked as u32,
+            proof: steps,
+            ..Case::new(Operation::Check, file)
+        };
+        let expected = Reply { numbers: vec![0, u32::from(verdict)], buffers: vec![] };
+        cases.push(Named::new(title(&what), check, lent.fill, expected)?);
+    }
+    let run = Case {
+        rules: answer.order.clone(),
+        lent: lent.lengths[..3].to_vec(),
+        ..Case::new(Operation::Run, file)
+    };
+    cases.push(Named::new(title("the run under its order"), run, lent.fill, answer.same_run)?);
+    Ok(cases)
+}
+
+/// What a caller reads from the buffers of a search.
+struct Answer {
+    set: Vec<u8>,
+    steps: Vec<u8>,
+    order: Vec<u8>,
+    /// The search's counts and its first three buffers, which the run must give.
+    same_run: Reply,
+}
+
+/// A row for a fact, with the verdict that demand 3 gives it.
+struct Row {
+    what: String,
+    asked: usize,
+    steps: Vec<u8>,
+    verdict: bool,
+}
+
+impl Answer {
+    fn of(file: &RuleFile, found: Reply) -> Answer {
+        let [fact_marks, _, steps, order] = &found.buffers[..] else {
+            unreachable!("a search lends four buffers")
+        };
+        let in_set = |&mark: &u8| u8::from(mark == 1);
+        Answer {
+            set: fact_marks[..file.facts].iter().map(in_set).collect(),
+            steps: steps[..STEP_BYTES * found.numbers[2] as usize].to_vec(),
+            order: order[..RULE_NUMBER_BYTES * file.exceptions().count()].to_vec(),
+            same_run: Reply {
+                numbers: found.numbers.clone(),
+                buffers: found.buffers[..3].to_vec(),
+            },
+        }
+    }
+
+    /// For each fact in the set the steps up to its own.
+    fn rows(&self) -> impl Iterator<Item = Row> {
+        let facts = (0..self.set.len()).filter(|&fact| self.set[fact] == 1);
+        facts.map(|fact| {
+            let own = |step: &[u8]| usize::from(step[1]) == fact;
+            let last = self.steps.chunks(STEP_BYTES).position(own);
+            let last = last.expect("every fact of the set has a step");
+            Row {
+                what: format!("the row for {fact}"),
+                asked: fact,
+                steps: self.steps[..STEP_BYTES * (last + 1)].to_vec(),
+                verdict: true,
+            }
+        })
+    }
+
+    /// For each rule that concludes a fact outside the set, all steps and then
+    /// that rule; and the same by rule 0 for the first fact that no rule
+    /// concludes.
+    fn attempts(&self, file: &RuleFile) -> impl Iterator<Item = Row> {
+        let outside = |&fact: &usize| self.set[fact] == 0;
+        let concluding = file.rules.iter().enumerate().map(|(rule, body)| (body.conclusion, rule));
+        let concluding: Vec<_> = concluding.filter(|(fact, _)| outside(fact)).collect();
+        let concluded = |fact: usize| file.rules.iter().any(|rule| rule.conclusion == fact);
+        let other = (0..file.facts).filter(outside).find(|&fact| !concluded(fact));
+        let other = other.filter(|_| !file.rules.is_empty()).map(|fact| (fact, 0));
+        concluding.into_iter().chain(other).map(|(fact, rule)| {
+            let [high, low] = (rule as u16).to_be_bytes();
+            Row {
+                what: format!("no row for {fact} by rule {rule}"),
+                asked: fact,
+                steps: [&self.steps[..], &[kind::STEP, fact as u8, high, low]].concat(),
+                verdict: false,
+            }
+        })
+    }
+}

@@ -1,0 +1,58 @@
+//! Large rule files by a name and a count, for the list of named cases.
+
+use crate::draft::Draft;
+
+/// The most facts that a file can have.
+const FACTS: usize = 255;
+
+/// The rules 0<!0, 0<!1 and so on up to the last constraint fact, by turns.
+pub fn exceptions(rules: usize, constraint_facts: usize) -> Draft {
+    let mut draft = Draft::new(FACTS);
+    (0..rules).for_each(|rule| draft.rule(0, &[], &[rule % constraint_facts]));
+    draft
+}
+
+/// The rules 0<!1, 1<!2 and so on up to 254<!0, by turns.
+pub fn ring(rules: usize) -> Draft {
+    let mut draft = Draft::new(FACTS);
+    (0..rules).for_each(|rule| draft.rule(rule % FACTS, &[], &[(rule + 1) % FACTS]));
+    draft
+}
+
+/// A file with 16 constraint facts and no stable set. Fact 0 wants itself out; 1
+/// to 15 want it out, and 16 wants each of them out, so none is sure before 0 is
+/// decided; the others are a chain from 1 down, each rule before the one that it
+/// waits for.
+pub fn tangled(rules: usize) -> Draft {
+    let mut draft = Draft::new(FACTS);
+    for rule in 0..rules {
+        let link = rule % 200 + 20;
+        match rule {
+            0..15 => draft.rule(rule + 1, &[], &[0]),
+            15..30 => draft.rule(16, &[], &[rule - 14]),
+            30 => draft.rule(0, &[], &[0]),
+            _ if rule % 200 == 199 => draft.rule(link, &[1], &[]),
+            _ => draft.rule(link, &[link + 1], &[]),
+        }
+    }
+    draft
+}
+
+/// Eight pairs that exclude each other, so 16 constraint facts and 256 stable
+/// sets; a chain of plain rules from fact 0 over the facts 16 to 59; then
+/// exception rules for the facts of that chain, each against a fact of a pair.
+pub fn ladder(rules: usize) -> Draft {
+    let (pairs, top) = (16, 60);
+    let mut draft = Draft::new(top);
+    for fact in 0..pairs {
+        draft.rule(fact, &[], &[fact ^ 1]);
+    }
+    draft.rule(pairs, &[0], &[]);
+    for fact in pairs + 1..top {
+        draft.rule(fact, &[fact - 1], &[]);
+    }
+    for rule in draft.rules.len()..rules {
+        draft.rule(pairs + rule % (top - pairs), &[], &[rule % pairs]);
+    }
+    draft
+}

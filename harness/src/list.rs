@@ -1,0 +1,374 @@
+//! The list of named cases: text that says for each case its operation, its
+//! inputs and buffers, and the reply and the bytes that are expected.
+//!
+//! A line that begins with `#` is a comment; one that begins with a blank goes on
+//! with the line before. A line is one of:
+//!
+//! - `let <name> = <file>` names a file, for the lines after it;
+//! - `lend <operation> <lengths> of <byte>` says which buffers the cases of an
+//!   operation after it lend, and what every byte of them holds before;
+//! - `<operation> <name> | <field> | ..` is a case;
+//! - `all <name> | file <file> | refused <number>` is a case of every operation: the
+//!   file gets that number although everything else that is handed over would get
+//!   a no too;
+//! - `sets <name> | file <file> | stable <set> | ..` is a case of the judge for every
+//!   set of facts: these are stable, with no rule listed, and no other is;
+//! - `caller <name> | file <file> | lent ..` is a row of cases (see `caller.rs`), and
+//!   with `refused <number>` only the search that refuses.
+//!
+//! Inputs are the fields `file`, `order`, `list`, `set`, `asked`, `row` and, for
+//! other buffers than before, `lent`. What is expected is `refused <number>`, with
+//! every count 0 and every buffer as it was; or the counts, as `1 stages, 2 steps`,
+//! or a verdict; and the buffers that are written: `facts`, `rules`, `steps`,
+//! `order`, `text`, each from its start, and past that as it was.
+//!
+//! The reference must agree with everything that is expected.
+
+use crate::caller;
+use crate::cases::{Case, Operation, Reply};
+use crate::notation::{bytes, file, lines, number, rule_numbers, steps};
+use reference::accept;
+use std::collections::{BTreeMap, BTreeSet};
+
+/// A file for which every set is judged has no more facts.
+const MOST_FACTS_OF_SETS: usize = 6;
+
+/// A case with its name, what its buffers hold before, and what is expected.
+pub struct Named {
+    pub name: String,
+    pub case: Case,
+    pub fill: u8,
+    pub expected: Reply,
+}
+
+impl Named {
+    /// The case, if the reference gives what is expected of it.
+    pub fn new(name: String, case: Case, fill: u8, expected: Reply) -> Result<Named, String> {
+        let reference = case.expected(|_| fill);
+        if reference != expected {
+            return Err(format!(
+                "{name}: the list expects\n{expected:?}\nand the reference\n{reference:?}"
+            ));
+        }
+        Ok(Named { name: format!("{} {name}", case.operation.name()), case, fill, expected })
+    }
+}
+
+/// The lengths of lent buffers, and the byte that they hold before.
+#[derive(Clone)]
+pub struct Buffers {
+    pub lengths: Vec<usize>,
+    pub fill: u8,
+}
+
+#[derive(Default)]
+pub struct List {
+    files: BTreeMap<String, Vec<u8>>,
+    lent: BTreeMap<String, Buffers>,
+    pub cases: Vec<Named>,
+    names: BTreeSet<String>,
+}
+
+impl List {
+    /// Takes in the text of one file of the list.
+    pub fn read(&mut self, text: &str) -> Result<(), String> {
+        for (place, line) in joined_lines(text) {
+            self.line(&line).map_err(|message| format!("line {place}: {message}"))?;
+        }
+        Ok(())
+    }
+
+    fn line(&mut self, line: &str) -> Result<(), String> {
+        let (word, rest) = line.split_once(' ').unwrap_or((line, ""));
+        match word {
+            "let" => {
+                let (name, text) = rest.split_once(" = ").ok_or("a name, =, and a file")?;
+                let bytes = file(text, &self.files)?;
+                let new = self.files.insert(name.trim().to_string(), bytes).is_none();
+                if new { Ok(()) } else { Err(format!("a second file {name}")) }
+            }
+            "lend" => {
+                let (operation, text) = rest.split_once(' ').ok_or("an operation and lengths")?;
+                self.lent.insert(operation.to_string(), lent(text)?);
+                Ok(())
+            }
+            "all" => self.all(rest)?.into_iter().try_for_each(|case| self.put(case)),
+            "sets" => self.sets(rest)?.into_iter().try_for_each(|case| self.put(case)),
+            "caller" => self.caller(rest)?.into_iter().try_for_each(|case| self.put(case)),
+            _ => {
+                let of_word = |operation: &Operation| operation.name() == word;
+                let operation = Operation::ALL.into_iter().find(of_word);
+                let operation = operation.ok_or_else(|| format!("no operation: {word:?}"))?;
+                self.case(operation, rest).and_then(|case| self.put(case))
+            }
+        }
+    }
+
+    fn put(&mut self, case: Named) -> Result<(), String> {
+        if !self.names.insert(case.name.clone()) {
+            return Err(format!("a second case {:?}", case.name));
+        }
+        self.cases.push(case);
+        Ok(())
+    }
+
+    fn lent_to(&self, word: &str) -> Buffers {
+        self.lent.get(word).cloned().unwrap_or(Buffers { lengths: vec![], fill: 0 })
+    }
+
+    fn caller(&self, text: &str) -> Result<Vec<Named>, String> {
+        let mut fields = text.split('|').map(str::trim);
+        let name = fields.next().unwrap_or_default();
+        let (mut bytes, mut buffers, mut refused) = (None, self.lent_to("search"), None);
+        for field in fields {
+            match field.split_once(' ') {
+                Some(("file", text)) => bytes = Some(file(text, &self.files)?),
+                Some(("lent", text)) => buffers = lent(text)?,
+                Some(("refused", text)) => refused = Some(number(text)?),
+                _ => return Err(format!("not a field of a caller: {field:?}")),
+            }
+        }
+        caller::cases(name, &bytes.ok_or("no file")?, &buffers, refused)
+    }
+
+    fn sets(&self, text: &str) -> Result<Vec<Named>, String> {
+        let mut fields = text.split('|').map(str::trim);
+        let (name, file_field) =
+            (fields.next().unwrap_or_default(), fields.next().unwrap_or_default());
+        let file_text = file_field.strip_prefix("file ").ok_or("no file")?;
+        let facts = accept(&file(file_text, &self.files)?).map_err(|no| format!("{no:?}"))?.facts;
+        let set = |field: &str| bytes(field.strip_prefix("stable ").ok_or("not a stable set")?);
+        let stable: BTreeSet<Vec<u8>> = fields.map(set).collect::<Result<_, String>>()?;
+        if facts > MOST_FACTS_OF_SETS || stable.iter().any(|set| set.len() != facts) {
+            return Err(format!("{name}: too many facts, or not the sets of this file"));
+        }
+        let case = |number: usize| {
+            let set: Vec<u8> = (0..facts).map(|fact| (number >> fact & 1) as u8).collect();
+            let digits: Vec<String> = set.iter().map(u8::to_string).collect();
+            let digits = if facts == 0 { "none".to_string() } else { digits.join(" ") };
+            let verdict = if stable.contains(&set) { "stable" } else { "not stable" };
+            let fields = format!("{file_field} | list none | set {digits} | {verdict}");
+            self.case(Operation::Judge, &format!("{name}, every set: {digits} | {fields}"))
+        };
+        (0..1 << facts).map(case).collect()
+    }
+
+    /// The calls of a refused file: cut rows, a byte 2 for a set, a fact that no
+    /// file has, and one byte for each buffer.
+    fn all(&self, text: &str) -> Result<Vec<Named>, String> {
+        let fields: Vec<&str> = text.split('|').map(str::trim).collect();
+        let [name, file, refused] = fields[..] else { return Err("three fields".to_string()) };
+        let case = |operation: Operation| {
+            let others = match operation {
+                Operation::Accept | Operation::Panel => "",
+                Operation::Run => "| order hex 05 | lent 1 1 1 of 9",
+                Operation::Judge => "| list hex 05 | set 2",
+                Operation::Check => "| set 2 | asked 4294967295 | row hex 06",
+                Operation::Search => "| lent 1 1 1 1 of 9",
+                Operation::AskOrder => "| order hex 05",
+                Operation::AskList => "| list hex 05",
+                Operation::AskSet => "| set 2",
+                Operation::AskRow => "| asked 4294967295 | row hex 06",
+            };
+            let expected = match operation {
+                Operation::Panel => refused.replace("refused", "text E"),
+                _ => refused.to_string(),
+            };
+            self.case(operation, &format!("{name} | {file} {others} | {expected}"))
+        };
+        Operation::ALL.into_iter().map(case).collect()
+    }
+
+    fn case(&self, operation: Operation, text: &str) -> Result<Named, String> {
+        let mut fields = text.split('|').map(str::trim);
+        let name = fields.next().unwrap_or_default().to_string();
+        let mut draft = CaseDraft::new(operation, self.lent_to(operation.name()));
+        for field in fields {
+            if !draft.input(field, &self.files)? && !draft.output(field)? {
+                return Err(format!("not a field of {}: {field:?}", operation.name()));
+            }
+        }
+        draft.finish(name)
+    }
+}
+
+/// Lines without comments, those that begin with a blank joined to the line
+/// before, each with the place of its beginning.
+fn joined_lines(text: &str) -> Vec<(usize, String)> {
+    let mut all: Vec<(usize, String)> = Vec::new();
+    for (place, line) in text.lines().enumerate() {
+        if line.trim().is_empty() || line.starts_with('#') {
+            continue;
+        }
+        match all.last_mut() {
+            Some((_, before)) if line.starts_with(' ') => {
+                *before += " ";
+                *before += line.trim();
+            }
+            _ => all.push((place + 1, line.trim_end().to_string())),
+        }
+    }
+    all
+}
+
+/// `8 8 28 of 9`.
+fn lent(text: &str) -> Result<Buffers, String> {
+    let (lengths, fill) = text.split_once(" of ").ok_or("lengths, of, and a byte")?;
+    let lengths: Result<Vec<usize>, String> = lengths.split_whitespace().map(number).collect();
+    Ok(Buffers { lengths: lengths?, fill: number(fill)? })
+}
+
+/// `1 stages, 2 steps`: the numbers, if the words after them are these.
+fn counted(field: &str, names: &[&str]) -> Result<Vec<u32>, String> {
+    let parts: Vec<&str> = field.split(", ").collect();
+    if parts.len() != names.len() {
+        return Err(format!("the counts are {names:?}: {field:?}"));
+    }
+    let count = |(part, name): (&str, &&str)| {
+        let (count, word) = part.split_once(' ').unwrap_or((part, ""));
+        if word == *name { number(count) } else { Err(format!("not {name}: {part:?}")) }
+    };
+    parts.into_iter().zip(names).map(count).collect()
+}
+
+/// A case as far as its fields were read.
+struct CaseDraft {
+    case: Case,
+    fill: u8,
+    /// The inputs that the operation takes and that were not given yet.
+    missing: Vec<&'static str>,
+    numbers: Option<Vec<u32>>,
+    /// What is written at the start of each buffer.
+    written: Vec<Option<Vec<u8>>>,
+}
+
+impl CaseDraft {
+    fn new(operation: Operation, lent: Buffers) -> CaseDraft {
+        let missing: &[&str] = match operation {
+            Operation::Accept | Operation::Search | Operation::Panel => &["file"],
+            Operation::Run | Operation::AskOrder => &["file", "order"],
+            Operation::Judge => &["file", "list", "set"],
+            Operation::Check => &["file", "set", "asked", "row"],
+            Operation::AskList => &["file", "list"],
+            Operation::AskSet => &["file", "set"],
+            Operation::AskRow => &["file", "asked", "row"],
+        };
+        let mut draft = CaseDraft {
+            case: Case::new(operation, &[]),
+            fill: 0,
+            missing: missing.to_vec(),
+            numbers: None,
+            written: vec![],
+        };
+        draft.lend(lent);
+        draft
+    }
+
+    fn lend(&mut self, lent: Buffers) {
+        self.written = vec![None; lent.lengths.len()];
+        self.case.lent = lent.lengths;
+        self.fill = lent.fill;
+    }
+
+    /// Takes a field that is an input of the operation.
+    fn input(&mut self, field: &str, files: &BTreeMap<String, Vec<u8>>) -> Result<bool, String> {
+        let (word, text) = field.split_once(' ').unwrap_or((field, ""));
+        if word == "lent" {
+            self.lend(lent(text)?);
+            return Ok(true);
+        }
+        let Some(place) = self.missing.iter().position(|missing| *missing == word) else {
+            return Ok(false);
+        };
+        self.missing.remove(place);
+        match word {
+            "file" => self.case.file = file(text, files)?,
+            "order" | "list" => self.case.rules = rule_numbers(text)?,
+            "set" => self.case.set = bytes(text)?,
+            "asked" => self.case.asked = number(text)?,
+            _ => self.case.proof = steps(text)?,
+        }
+        Ok(true)
+    }
+
+    /// Takes a field that is expected of the operation.
+    fn output(&mut self, field: &str) -> Result<bool, String> {
+        let (word, text) = field.split_once(' ').unwrap_or((field, ""));
+        if let Some(refusal) = field.strip_prefix("refused ") {
+            let mut numbers = vec![0; self.numbers_of_a_reply()];
+            numbers[0] = number(refusal)?;
+            self.written.fill(Some(vec![]));
+            return self.reply(numbers);
+        }
+        match (self.case.operation, word) {
+            (Operation::Run | Operation::Search, "facts") => self.wrote(0, bytes(text)?),
+            (Operation::Run | Operation::Search, "rules") => self.wrote(1, bytes(text)?),
+            (Operation::Run | Operation::Search, "steps") => self.wrote(2, steps(text)?),
+            (Operation::Search, "order") => self.wrote(3, rule_numbers(text)?),
+            (Operation::Panel, "text") => {
+                let text = lines(text);
+                self.reply(vec![text.len() as u32])?;
+                self.wrote(0, text)
+            }
+            (Operation::Panel, "length") => {
+                let length = text.strip_suffix(", nothing written").ok_or("nothing written?")?;
+                self.wrote(0, vec![])?;
+                self.reply(vec![number(length)?])
+            }
+            (Operation::Judge, _) if field == "stable" => self.reply(vec![0, 1]),
+            (Operation::Judge, _) if field == "not stable" => self.reply(vec![0, 0]),
+            (Operation::Check, _) if field == "yes" => self.reply(vec![0, 1]),
+            (Operation::Check, _) if field == "no" => self.reply(vec![0, 0]),
+            (question, _) if question.is_question() && field == "yes" => self.reply(vec![0]),
+            (Operation::Accept, _) => {
+                let names = ["facts", "rules", "exceptions", "constraints", "step bytes"];
+                self.reply([vec![0], counted(field, &names)?].concat())
+            }
+            (Operation::Run | Operation::Search, _) => {
+                self.reply([vec![0], counted(field, &["stages", "steps"])?].concat())
+            }
+            _ => Ok(false),
+        }
+    }
+
+    fn numbers_of_a_reply(&self) -> usize {
+        match self.case.operation {
+            Operation::Accept => 6,
+            Operation::Run | Operation::Search => 3,
+            Operation::Judge | Operation::Check => 2,
+            _ => 1,
+        }
+    }
+
+    fn reply(&mut self, numbers: Vec<u32>) -> Result<bool, String> {
+        match self.numbers.replace(numbers) {
+            None => Ok(true),
+            Some(_) => Err("two replies".to_string()),
+        }
+    }
+
+    fn wrote(&mut self, buffer: usize, bytes: Vec<u8>) -> Result<bool, String> {
+        let lent = self.written.get_mut(buffer).ok_or("that buffer is not lent")?;
+        match lent.replace(bytes) {
+            None => Ok(true),
+            Some(_) => Err("a buffer twice".to_string()),
+        }
+    }
+
+    fn finish(self, name: String) -> Result<Named, String> {
+        if !self.missing.is_empty() {
+            return Err(format!("{name}: no {}", self.missing.join(", no ")));
+        }
+        let numbers = self.numbers.ok_or_else(|| format!("{name}: no reply"))?;
+        let mut buffers = Vec::new();
+        for (written, &length) in self.written.into_iter().zip(&self.case.lent) {
+            let mut buffer = written.ok_or_else(|| format!("{name}: what is in each buffer?"))?;
+            if buffer.len() > length {
+                return Err(format!("{name}: more is written than was lent"));
+            }
+            buffer.resize(length, self.fill);
+            buffers.push(buffer);
+        }
+        Named::new(name, self.case, self.fill, Reply { numbers, buffers })
+    }
+}

@@ -1,0 +1,167 @@
+//! The notation in which the list of named cases gives files, rows and bytes.
+
+use crate::draft::{Draft, DraftRule};
+use crate::large;
+use reference::kind;
+use std::collections::BTreeMap;
+use std::str::FromStr;
+
+type Bytes = Result<Vec<u8>, String>;
+
+pub fn number<T: FromStr>(word: &str) -> Result<T, String> {
+    word.trim().parse().map_err(|_| format!("not a number in range: {word:?}"))
+}
+
+/// Words, between which a comma may stand too.
+fn words(text: &str) -> Vec<&str> {
+    text.split([' ', ',']).filter(|word| !word.is_empty()).collect()
+}
+
+/// Two digits for each byte: `10 01 05`.
+fn hexadecimal(text: &str) -> Bytes {
+    let byte = |word: &str| {
+        u8::from_str_radix(word, 16)
+            .ok()
+            .filter(|_| word.len() == 2)
+            .ok_or_else(|| format!("not a byte: {word:?}"))
+    };
+    words(text).into_iter().map(byte).collect()
+}
+
+/// The bytes themselves after the word `hex`, or what `read` makes of the text
+/// where that word is missing; `none` is no byte at all.
+fn bytes_or(text: &str, read: impl FnOnce(&str) -> Bytes) -> Bytes {
+    match text {
+        "none" => Ok(vec![]),
+        "hex" => Err("no byte after hex; none is no byte".to_string()),
+        _ => text.strip_prefix("hex ").map_or_else(|| read(text), hexadecimal),
+    }
+}
+
+/// Bytes in decimal, with `243 of 0` for that many equal ones.
+pub fn bytes(text: &str) -> Bytes {
+    bytes_or(text, |text| {
+        let mut bytes = Vec::new();
+        let mut rest = &words(text)[..];
+        while let [first, after @ ..] = rest {
+            rest = match after {
+                ["of", byte, after @ ..] => {
+                    bytes.extend(std::iter::repeat_n(number::<u8>(byte)?, number(first)?));
+                    after
+                }
+                _ => {
+                    bytes.push(number(first)?);
+                    after
+                }
+            };
+        }
+        Ok(bytes)
+    })
+}
+
+/// Rule numbers as 05 items, with `0 to 299` or `299 to 0` for all between.
+pub fn rule_numbers(text: &str) -> Bytes {
+    bytes_or(text, |text| {
+        let mut numbers: Vec<u16> = Vec::new();
+        let mut rest = &words(text)[..];
+        while let [first, after @ ..] = rest {
+            let first: u16 = number(first)?;
+            rest = match after {
+                ["to", last, after @ ..] => {
+                    let last: u16 = number(last)?;
+                    if first <= last {
+                        numbers.extend(first..=last);
+                    } else {
+                        numbers.extend((last..=first).rev());
+                    }
+                    after
+                }
+                _ => {
+                    numbers.push(first);
+                    after
+                }
+            };
+        }
+        let item = |number: u16| {
+            let [high, low] = number.to_be_bytes();
+            [kind::RULE_NUMBER, high, low]
+        };
+        Ok(numbers.into_iter().flat_map(item).collect())
+    })
+}
+
+/// Steps as 06 items: `(2,2) (3,3)`, each its fact and its rule.
+pub fn steps(text: &str) -> Bytes {
+    bytes_or(text, |text| {
+        let mut bytes = Vec::new();
+        for word in text.split_whitespace() {
+            let inner = word.strip_prefix('(').and_then(|word| word.strip_suffix(')'));
+            let (fact, rule) = inner
+                .and_then(|inner| inner.split_once(','))
+                .ok_or_else(|| format!("not a step: {word:?}"))?;
+            bytes.extend([kind::STEP, number(fact)?]);
+            bytes.extend(number::<u16>(rule)?.to_be_bytes());
+        }
+        Ok(bytes)
+    })
+}
+
+/// Lines of text, between which ` / ` stands.
+pub fn lines(text: &str) -> Vec<u8> {
+    let line = |line: &str| format!("{}\n", line.trim());
+    text.split(" / ").map(line).collect::<String>().into_bytes()
+}
+
+/// A file: a name, bytes, equal bytes as `32765 of 02`, rules in the notation of
+/// document 01, a large file by its builder, or several of these with `then`
+/// between them.
+pub fn file(text: &str, named: &BTreeMap<String, Vec<u8>>) -> Bytes {
+    let mut bytes = Vec::new();
+    for part in text.split(" then ") {
+        bytes.extend(bytes_or(part.trim(), |part| file_part(part, named))?);
+    }
+    Ok(bytes)
+}
+
+fn file_part(part: &str, named: &BTreeMap<String, Vec<u8>>) -> Bytes {
+    if let Some(bytes) = named.get(part) {
+        return Ok(bytes.clone());
+    }
+    if let Some((facts, rules)) = part.split_once(" facts") {
+        return Ok(draft(number(facts)?, rules)?.bytes());
+    }
+    let draft = match words(part)[..] {
+        [count, "of", byte] => {
+            let [byte] = hexadecimal(byte)?[..] else { return Err(format!("one byte: {part:?}")) };
+            return Ok(vec![byte; number(count)?]);
+        }
+        ["exceptions", rules, constraint_facts] => {
+            large::exceptions(number(rules)?, number(constraint_facts)?)
+        }
+        ["ring", rules] => large::ring(number(rules)?),
+        ["tangled", rules] => large::tangled(number(rules)?),
+        ["ladder", rules] => large::ladder(number(rules)?),
+        _ => return Err(format!("not a file: {part:?}")),
+    };
+    Ok(draft.bytes())
+}
+
+/// What follows the count of facts: `; 0<; 1<0,!2`.
+fn draft(facts: u8, rules: &str) -> Result<Draft, String> {
+    let mut draft = Draft::new(usize::from(facts));
+    let mut parts = rules.split(';').map(str::trim);
+    if parts.next() != Some("") {
+        return Err(format!("not rules: {rules:?}"));
+    }
+    for rule in parts {
+        let (conclusion, body) =
+            rule.split_once('<').ok_or_else(|| format!("not a rule: {rule:?}"))?;
+        let item = |word: &str| match word.strip_prefix('!') {
+            Some(fact) => Ok((kind::CONSTRAINT, number(fact)?)),
+            None => Ok((kind::PREMISE, number(word)?)),
+        };
+        let items: Result<Vec<_>, String> = words(body).into_iter().map(item).collect();
+        draft.rules.push(DraftRule { conclusion: number(conclusion)?, items: items? });
+    }
+    Ok(draft)
+}
