@@ -76,9 +76,9 @@ module _ (file : List ℕ) (accepted : _≡_ {A = Option Refusal} (fileNo file) 
   set-is = set-back (P .facts) M within
 
   -- The rows up to each fact's own step, wherever they are written.
-  module _ (rows : ℕ → List ℕ) (written : (f : ℕ) → rows f ≡ stepBytes (rowTo f (s .trace))) where
+  module _ (rows : ℕ → List ℕ) (rows-are : (f : ℕ) → rows f ≡ stepBytes (rowTo f (s .trace))) where
     pub rows-read : (f : ℕ) → rowOf (rows f) ≡ rowTo f (s .trace)
-    rows-read f = ap rowOf (written f) ∙ steps-read (rowTo f (s .trace))
+    rows-read f = ap rowOf (rows-are f) ∙ steps-read (rowTo f (s .trace))
 
     proves : (f : ℕ) → M f ≡ true → Proof P everyRule (rowOf (rows f)) f
     proves f m = rw (rows-read f) (run-proof P everyRule row f (ap (λ (X : FactSet). X f) reaches ∙ m))
@@ -91,7 +91,7 @@ module _ (file : List ℕ) (accepted : _≡_ {A = Option Refusal} (fileNo file) 
     may-check f m =
         all-yes (fileQuestions file) (setQuestions (P .facts) (setBytes file M) ++ rowQuestions (P .facts) f (rows f)) accepted
         (all-yes (setQuestions (P .facts) (setBytes file M)) (rowQuestions (P .facts) f (rows f)) (set-yes (P .facts) M)
-        (rw (lt-ltb f (P .facts) (known f m), ap (λ (bs : List ℕ). whole (itemsAt bs stepsStart)) (written f) ∙ steps-whole (rowTo f (s .trace)))))
+        (rw (lt-ltb f (P .facts) (known f m), ap (λ (bs : List ℕ). whole (itemsAt bs stepsStart)) (rows-are f) ∙ steps-whole (rowTo f (s .trace)))))
 
     yes-said : (f : ℕ) → M f ≡ true → checked file (setBytes file M) f (rows f) ≡ checking.Yes
     yes-said f m =

@@ -25,7 +25,7 @@ use Rattle.judge.specs.Judged.{judged}
 use Rattle.proofcheck.specs.Checked.{checked}
 use Rattle.search.specs.Outcome.{searchOutcome}
 use Rattle.panel_text.specs.Text.{panelText, shown}
-use Rattle.retention.specs.declared.reply.FileCounts.{FileCounts}
+use Rattle.retention.specs.declared.reply.FileReply.{FileReply}
 use Rattle.retention.specs.declared.reply.Verdict.{Verdict}
 use Rattle.retention.specs.Reply.{fileOf, verdictOfJudged, verdictOfChecked, RunReply, runReply, SearchReply, searchReply}
 use Rattle.reader.specs.Question as refusal
@@ -212,7 +212,7 @@ replying c reply = record { questions = c .questions; own = c .own; lent = c .le
 abbrev pub retentionAcceptCall : List ℕ → Call
 retentionAcceptCall file = replying (acceptCall file) (counted (fileOf (acceptOf file)))
   where
-    counted : FileCounts → Reply
+    counted : FileReply → Reply
     counted c =
         record {
           number = c .refusal;

@@ -70,14 +70,14 @@ pub record IsProof (file set : List ℕ) (fact : ℕ) (row : List ℕ) : Type 0 
   pub admitted : Admits (programOf file) (has set) (rowOf row)
 
 -- The search of a file answers and leaves this. The set that a caller reads from it is the earliest stable set.
-pub record Takes (file set : List ℕ) (o : SearchOutcome) : Type 0 where
+pub record SearchTakes (file set : List ℕ) (o : SearchOutcome) : Type 0 where
   pub leaves : searches file ≡ o
   pub reads : setOf (programOf file .facts) (foundSet file (searches file)) ≡ set
   pub earliest : Earliest (programOf file) everyRule anySet (has set)
   pub is : SearchIs file (factRoom file) (ruleRoom file) (stepRoom file) (orderRoom file) (searches file)
 
 -- The search says 41 and leaves every byte as it was. No set is stable.
-pub record TakesNone (file : List ℕ) : Type 0 where
+pub record SearchTakesNone (file : List ℕ) : Type 0 where
   pub leaves : searches file ≡ refusedWith NoStableSet (factRoom file) (ruleRoom file) (stepRoom file) (orderRoom file)
   pub number : searching.number (searches file .answer) ≡ 41
   pub none-stable : (M : FactSet) → Stable (programOf file) everyRule M → ⊥
@@ -106,7 +106,7 @@ pub record Starred : Type 0 where
       × IsProof bytes.A (1 ∷ 0 ∷ 1 ∷ 1 ∷ []) 3 (6 ∷ 0 ∷ 0 ∷ 0 ∷ 6 ∷ 2 ∷ 0 ∷ 2 ∷ 6 ∷ 3 ∷ 0 ∷ 3 ∷ [])
   -- A3, the search takes {0,1}.
   pub A3 :
-      Takes bytes.A (1 ∷ 1 ∷ 0 ∷ 0 ∷ [])
+      SearchTakes bytes.A (1 ∷ 1 ∷ 0 ∷ 0 ∷ [])
       (record {
         answer = Found 1 2;
         fact-marks = 1 ∷ 1 ∷ 2 ∷ 0 ∷ [];
@@ -119,7 +119,7 @@ pub record Starred : Type 0 where
       Runs bytes.B (0 ∷ [])
       (record { answer = Done 0 0; fact-marks = 0 ∷ []; rule-marks = 2 ∷ []; steps = 9 ∷ 9 ∷ 9 ∷ 9 ∷ [] })
       × IsStable bytes.B (0 ∷ []) (0 ∷ [])
-      × TakesNone bytes.B
+      × SearchTakesNone bytes.B
   -- C, order 0 1. Rule 1 is set aside: {0} is stable for the file less that rule, and not for the whole.
   pub C :
       Runs bytes.C (0 ∷ 1 ∷ [])
@@ -143,7 +143,7 @@ pub record Starred : Type 0 where
       × IsStable bytes.C [] (0 ∷ 1 ∷ 0 ∷ [])
   -- C3, search order 1 0.
   pub C3 :
-      Takes bytes.C (0 ∷ 1 ∷ 0 ∷ [])
+      SearchTakes bytes.C (0 ∷ 1 ∷ 0 ∷ [])
       (record {
         answer = Found 1 1;
         fact-marks = 0 ∷ 1 ∷ 2 ∷ [];
@@ -156,11 +156,11 @@ pub record Starred : Type 0 where
       Runs bytes.D (1 ∷ [])
       (record { answer = Done 0 0; fact-marks = 0 ∷ 0 ∷ []; rule-marks = 0 ∷ 2 ∷ []; steps = 9 ∷ 9 ∷ 9 ∷ 9 ∷ 9 ∷ 9 ∷ 9 ∷ 9 ∷ [] })
       × IsStable bytes.D (1 ∷ []) (0 ∷ 0 ∷ [])
-      × TakesNone bytes.D
+      × SearchTakesNone bytes.D
   -- E: the empty set, an empty order.
   pub E :
       Runs bytes.E [] (record { answer = Done 0 0; fact-marks = []; rule-marks = []; steps = [] })
       × IsStable bytes.E [] []
-      × Takes bytes.E [] (record { answer = Found 0 0; fact-marks = []; rule-marks = []; steps = []; order = [] })
+      × SearchTakes bytes.E [] (record { answer = Found 0 0; fact-marks = []; rule-marks = []; steps = []; order = [] })
   -- F: {0} is not stable, the empty set is.
   pub F : IsNotStable bytes.F [] (1 ∷ []) × IsStable bytes.F [] (0 ∷ [])

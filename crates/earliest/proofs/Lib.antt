@@ -1,5 +1,5 @@
-pub mod Listed
-pub mod Branching
-pub mod Finding
-pub mod Listing
-pub mod Hunting
+pub mod RowParts
+pub mod BranchAlive
+pub mod BranchFound
+pub mod FactsListed
+pub mod HuntWays

@@ -28,7 +28,7 @@ pub fn earliest(file: &[u8], counts: FileCounts, row: &[u16], found: &mut [u8; M
     let mut owners = [0u16; SLOTS];
     literals::tables::link_rules(file, &mut missing, &mut heads, &mut links, &mut owners);
     let mut low = [0u8; LITERALS];
-    propagation::start::start(
+    propagation::none::hold_none(
         file,
         &starts,
         &heads,

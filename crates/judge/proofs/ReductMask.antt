@@ -41,9 +41,9 @@ none-reduced P on M = record { full = length-replicate {A = ℕ} maxRules 0; sho
 module _ {file starts : List ℕ} {rules : ℕ} (k : Known file starts rules) (listed : List ℕ) (M : FactSet) {mask : List ℕ} {i : ℕ} (w : Reducing (programOf file) (unmarkedIn listed) M mask i) (h : i < rules) where
   -- the mark of rule i, read where the rule starts
   module _ (at : ℕ) (a : at ≡ getD starts i 0) (mark : ℕ) (e : mark ≡ cond (not (eqb (getD listed i 0) 1) && clear M (ruleAt file at .constraints)) 1 0) where
-    marked : eqb mark 1 ≡ reduct (programOf file) (unmarkedIn listed) M i
+    mark-right : eqb mark 1 ≡ reduct (programOf file) (unmarkedIn listed) M i
     unfolding reduct has
-    marked =
+    mark-right =
         ap (λ (m : ℕ). eqb m 1) e ∙ bit (not (eqb (getD listed i 0) 1) && clear M (ruleAt file at .constraints))
         ∙ ap (λ (r : Rule). unmarkedIn listed i && clear M (r .constraints)) (indexed-rule k i at h a)
       where
@@ -61,7 +61,7 @@ module _ {file starts : List ℕ} {rules : ℕ} (k : Known file starts rules) (l
             same : eqb j i ≡ true → has (set mask i mark) j ≡ reduct (programOf file) (unmarkedIn listed) M j
             same t =
                 let is-i : j ≡ i = eqb-true j i t in
-                rw is-i (ap (λ (m : ℕ). eqb m 1) (getD-set-same mask i mark 0 (omega (arith, w .full, rules-known k))) ∙ marked)
+                rw is-i (ap (λ (m : ℕ). eqb m 1) (getD-set-same mask i mark 0 (omega (arith, w .full, rules-known k))) ∙ mark-right)
 
             other : eqb j i ≡ false → has (set mask i mark) j ≡ reduct (programOf file) (unmarkedIn listed) M j
             other t =

@@ -58,4 +58,4 @@ module _ (text before : List ℕ) where
 pub front-text : (text room after : List ℕ) (n : ℕ) → Put text 0 room n after → take n after ≡ text
 front-text text room after n p =
     let end : n ≡ length text = p .behind ∙ zero-add (length text) in
-    rw (end, p .written) (take-append-seam text (drop (0 + length text) room))
+    rw (end, p .bytes-put) (take-append-seam text (drop (0 + length text) room))

@@ -34,8 +34,8 @@ module _ (P : Program) (M : FactSet) (row : List Step) (f : ℕ) where
         let holds : stepsHold P everyRule nothing row ≡ true = sym from-nothing ∙ q in
         rw (ends, holds) (e ∙ ap (λ (T : FactSet). rowClear P T row && rowClear P M row) facts)
       where
-        marked : (g : ℕ) → has marks g ≡ has (replicate maxFacts 0) g || factsOf row g
-        marked = rw q at m
+        facts-kept : (g : ℕ) → has marks g ≡ has (replicate maxFacts 0) g || factsOf row g
+        facts-kept = rw q at m
 
         facts : has marks ≡ factsOf row
-        facts = fun-ext (λ g. marked g ∙ ap (λ (S : FactSet). S g || factsOf row g) (unmarked maxFacts))
+        facts = fun-ext (λ g. facts-kept g ∙ ap (λ (S : FactSet). S g || factsOf row g) (unmarked maxFacts))

@@ -47,21 +47,21 @@ module _ {file starts : List ℕ} {rules : ℕ} (k : Known file starts rules) (S
 -- Part of a row has been passed: what is to come gives what the whole gives, and the facts so far are marked.
 pub record Holding (P : Program) (before marks : List ℕ) (row rest : List Step) : Type 0 where
   pub same : stepsHold P everyRule (has before) row ≡ stepsHold P everyRule (has marks) rest
-  pub marked : (f : ℕ) → has marks f || factsOf rest f ≡ has before f || factsOf row f
+  pub facts-kept : (f : ℕ) → has marks f || factsOf rest f ≡ has before f || factsOf row f
 
 pub none-held : (P : Program) (before : List ℕ) (row : List Step) → Holding P before before row row
-none-held P before row = record { same = refl; marked = λ f. refl }
+none-held P before row = record { same = refl; facts-kept = λ f. refl }
 
 module _ {P : Program} {before marks : List ℕ} {row rest : List Step} (w : Holding P before marks row rest) where
   pub all-hold : rest ≡ [] → (true ≡ stepsHold P everyRule (has before) row) × Marked row before marks true
   all-hold e =
-      (sym (w .same ∙ ap (stepsHold P everyRule (has marks)) e), λ f. sym (or-none (has marks f)) ∙ ap (λ (l : List Step). has marks f || factsOf l f) (sym e) ∙ w .marked f)
+      (sym (w .same ∙ ap (stepsHold P everyRule (has marks)) e), λ f. sym (or-none (has marks f)) ∙ ap (λ (l : List Step). has marks f || factsOf l f) (sym e) ∙ w .facts-kept f)
 
   pub holding-along : (more : List Step) → rest ≡ more → Holding P before marks row more
   holding-along more e =
       record {
         same = w .same ∙ ap (stepsHold P everyRule (has marks)) e;
-        marked = λ f. ap (λ (l : List Step). has marks f || factsOf l f) (sym e) ∙ w .marked f;
+        facts-kept = λ f. ap (λ (l : List Step). has marks f || factsOf l f) (sym e) ∙ w .facts-kept f;
       }
 
   module _ (s : Step) (more : List Step) (e : rest ≡ s ∷ more) where
@@ -75,7 +75,7 @@ module _ {P : Program} {before marks : List ℕ} {row rest : List Step} (w : Hol
         let here : stepsHold P everyRule (has marks) (s ∷ more) ≡ stepsHold P everyRule (adjoin (has marks) (s .fact)) more = rw q in
         record {
           same = w .same ∙ ap (stepsHold P everyRule (has marks)) e ∙ here ∙ ap (λ (S : FactSet). stepsHold P everyRule S more) (sym m);
-          marked = λ f. ap (λ (S : FactSet). S f || factsOf more f) m ∙ moved (eqb f (s .fact)) (has marks f) (factsOf more f) ∙ ap (λ (l : List Step). has marks f || factsOf l f) (sym e) ∙ w .marked f;
+          facts-kept = λ f. ap (λ (S : FactSet). S f || factsOf more f) m ∙ moved (eqb f (s .fact)) (has marks f) (factsOf more f) ∙ ap (λ (l : List Step). has marks f || factsOf l f) (sym e) ∙ w .facts-kept f;
         }
       where
         moved : (x y z : Bool) → x || y || z ≡ y || (x || z)

@@ -16,7 +16,7 @@ use Rattle.theory.proofs.Stable.{reduct-has, reduct-clear}
 use Rattle.reader.specs.Item.{maxFacts}
 use Rattle.literals.specs.Literal.{outside, body}
 use Rattle.propagation.specs.State.{notHeldOut, Grounded}
-use Rattle.propagation.proofs.Counting.{counted-none, none-counted, mem-map, map-mem}
+use Rattle.propagation.proofs.ElementsCounted.{counted-none, none-counted, mem-map, map-mem}
 
 module _ (P : Program) where
   -- the more is held out, the more rules the reduct has

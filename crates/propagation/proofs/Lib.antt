@@ -1,6 +1,6 @@
-pub mod Counting
-pub mod Waiting
+pub mod ElementsCounted
+pub mod LiteralsStacked
 pub mod Grounds
-pub mod Spreading
+pub mod LiteralsTold
 pub mod Least
-pub mod Holding
+pub mod FactsHeldOut

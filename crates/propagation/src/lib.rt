@@ -2,5 +2,5 @@
 // more in the bodies where it stands, and a rule that misses nothing makes its conclusion true. Internal: the search holds facts out one after
 // another and keeps what it has.
 pub mod hold;
+pub mod none;
 mod spread;
-pub mod start;

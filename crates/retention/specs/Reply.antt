@@ -13,7 +13,7 @@ use Rattle.proofcheck.specs.declared.answer.Checked.{Checked}
 use Rattle.proofcheck.specs.Checked as checked
 use Rattle.search.specs.declared.answer.Searched.{Searched}
 use Rattle.search.specs.Outcome as searched
-use Rattle.retention.specs.declared.reply.FileCounts.{FileCounts}
+use Rattle.retention.specs.declared.reply.FileReply.{FileReply}
 use Rattle.retention.specs.declared.reply.RunCounts.{RunCounts}
 use Rattle.retention.specs.declared.reply.Verdict.{Verdict}
 
@@ -22,7 +22,7 @@ abbrev pub bytesOfStep : Accept → ℕ
 bytesOfStep (Accepted f r e k) = stepWidth
 bytesOfStep (Refused r) = 0
 
-unfoldable pub fileOf : Accept → FileCounts
+unfoldable pub fileOf : Accept → FileReply
 fileOf a =
     record {
       refusal = accept.number a;

@@ -12,13 +12,13 @@ ghost use Rattle.retention.specs.Reply.{fileOf, verdictOfJudged, verdict
 
 pub mod reply;
 
-use reply::FileCounts;
+use reply::FileReply;
 use reply::RunCounts;
 use reply::Verdict;
 
 // Is the file accepted, and what does it count?
 #[no_mangle]
-pub extern "C" fn retention_accept(file: &[u8]) -> FileCounts
+pub extern "C" fn retention_accept(file: &[u8]) -> FileReply
     ensures { λ r. ⌜ r ≡ fileOf (acceptOf (now (file .entry))) ⌝ }
 {
     reply::of_accept(reader::accept(file))

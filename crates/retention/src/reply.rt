@@ -10,7 +10,7 @@ use search::answer::Searched;
 
 // An accepted file, and the bytes of one step.
 #[repr(C)]
-pub struct FileCounts {
+pub struct FileReply {
     pub refusal: u32,
     pub facts: u32,
     pub rules: u32,
@@ -34,7 +34,7 @@ pub struct Verdict {
     pub verdict: u32,
 }
 
-pub fn of_accept(a: Accept) -> FileCounts
+pub fn of_accept(a: Accept) -> FileReply
     ensures { λ r. ⌜ r ≡ fileOf a ⌝ }
 {
     match a {
@@ -43,7 +43,7 @@ pub fn of_accept(a: Accept) -> FileCounts
             rules,
             exceptions,
             constraints,
-        } => FileCounts {
+        } => FileReply {
             refusal: 0,
             facts: facts as u32,
             rules: rules as u32,
@@ -51,7 +51,7 @@ pub fn of_accept(a: Accept) -> FileCounts
             constraints: constraints as u32,
             step_bytes: STEP_WIDTH as u32,
         },
-        Accept::Refused(r) => FileCounts {
+        Accept::Refused(r) => FileReply {
             refusal: r.number() as u32,
             facts: 0,
             rules: 0,

@@ -51,12 +51,12 @@ module _ (a s : List ℕ) (at : ℕ) (fits : at + length a ≤ length s) where
 
 -- One byte is one store.
 pub one-stored : (byte at : ℕ) (s : List ℕ) → Fits (byte ∷ []) at s → Put (byte ∷ []) at s (at + 1) (set s at byte)
-one-stored byte at s h = record { written = stored (byte ∷ []) s at (h .inside); behind = refl }
+one-stored byte at s h = record { bytes-put = stored (byte ∷ []) s at (h .inside); behind = refl }
 
 -- The place behind lies inside.
 pub put-inside : (bytes : List ℕ) (at : ℕ) (before : List ℕ) (next : ℕ) (after : List ℕ) → Fits bytes at before → Put bytes at before next after → next ≤ length after
 put-inside bytes at before next after h p =
-    omega (arith, h .inside, p .behind, ap length (p .written), placed-length bytes before at (h .inside))
+    omega (arith, h .inside, p .behind, ap length (p .bytes-put), placed-length bytes before at (h .inside))
 
 -- Room for a row is room for its front.
 pub front-fits : (a b : List ℕ) (at : ℕ) (s : List ℕ) → Fits (a ++ b) at s → Fits a at s
@@ -75,7 +75,7 @@ module _ {all : List ℕ} {from : ℕ} {before rest : List ℕ} {at : ℕ} {now 
   pub ended : rest ≡ [] → Put all from before at now
   ended e =
       w .finish at now
-      (record { written = sym (ap (λ (r : List ℕ). placed r at now) e ∙ placed-none at now); behind = sym (ap (λ (r : List ℕ). at + length r) e ∙ add-zero at) })
+      (record { bytes-put = sym (ap (λ (r : List ℕ). placed r at now) e ∙ placed-none at now); behind = sym (ap (λ (r : List ℕ). at + length r) e ∙ add-zero at) })
 
   pub nothing-put : (more : List ℕ) → rest ≡ more → Putting all from before more at now
   nothing-put more e = rw e at w
@@ -93,12 +93,12 @@ module _ {all : List ℕ} {from : ℕ} {before rest : List ℕ} {at : ℕ} {now 
         }
       where
         same : length after ≡ length now
-        same = ap length (p .written) ∙ placed-length a now at (next-fits .inside)
+        same = ap length (p .bytes-put) ∙ placed-length a now at (next-fits .inside)
 
         joined : (n : ℕ) (s : List ℕ) → Put more next after n s → Put rest at now n s
         joined n s q =
             record {
-              written = q .written ∙ ap₂ (placed more) (p .behind) (p .written) ∙ sym (placed-more a now at (next-fits .inside) more) ∙ ap (λ (r : List ℕ). placed r at now) (sym e);
+              bytes-put = q .bytes-put ∙ ap₂ (placed more) (p .behind) (p .bytes-put) ∙ sym (placed-more a now at (next-fits .inside) more) ∙ ap (λ (r : List ℕ). placed r at now) (sym e);
               behind = omega (arith, q .behind, p .behind, ap length e, length-append a more);
             }
 

@@ -43,18 +43,18 @@ said-no (some q) r e = cc
 -- Part of a row has been asked: what is to come gives what the whole gives, and the rules named so far are marked.
 pub record Naming (known : ℕ → Bool) (before ids marks : List ℕ) (s : List ℕ) (c : Cursor) : Type 0 where
   pub same : firstNo (namesQuestions known (has before) ids) ≡ firstNo (namesQuestions known (has marks) (namesOf (itemsAt s c)))
-  pub marked : (i : ℕ) → has marks i || mem i (namesOf (itemsAt s c)) ≡ has before i || mem i ids
+  pub names-kept : (i : ℕ) → has marks i || mem i (namesOf (itemsAt s c)) ≡ has before i || mem i ids
 
 module _ (known : ℕ → Bool) (before ids marks s : List ℕ) (c : Cursor) (w : Naming known before ids marks s c) where
   pub all-asked : namesOf (itemsAt s c) ≡ [] → (Yes ≡ answerOf (firstNo (namesQuestions known (has before) ids))) × ((i : ℕ) → has marks i ≡ has before i || mem i ids)
   all-asked e =
-      (sym (ap answerOf (w .same ∙ ap (λ (rs : List ℕ). firstNo (namesQuestions known (has marks) rs)) e)), λ i. sym (or-none (has marks i)) ∙ ap (λ (l : List ℕ). has marks i || mem i l) (sym e) ∙ w .marked i)
+      (sym (ap answerOf (w .same ∙ ap (λ (rs : List ℕ). firstNo (namesQuestions known (has marks) rs)) e)), λ i. sym (or-none (has marks i)) ∙ ap (λ (l : List ℕ). has marks i || mem i l) (sym e) ∙ w .names-kept i)
 
   pub not-asked : (d : Cursor) → namesOf (itemsAt s c) ≡ namesOf (itemsAt s d) → Naming known before ids marks s d
   not-asked d e =
       record {
         same = w .same ∙ ap (λ (rs : List ℕ). firstNo (namesQuestions known (has marks) rs)) e;
-        marked = λ i. ap (λ (l : List ℕ). has marks i || mem i l) (sym e) ∙ w .marked i;
+        names-kept = λ i. ap (λ (l : List ℕ). has marks i || mem i l) (sym e) ∙ w .names-kept i;
       }
 
   module _ (r : ℕ) (d : Cursor) (e : namesOf (itemsAt s c) ≡ r ∷ namesOf (itemsAt s d)) where
@@ -68,7 +68,7 @@ module _ (known : ℕ → Bool) (before ids marks s : List ℕ) (c : Cursor) (w 
         let here : firstNo (namesQuestions known (has marks) (r ∷ namesOf (itemsAt s d))) ≡ firstNo (namesQuestions known (adjoin (has marks) r) (namesOf (itemsAt s d))) = first-yes (nameQuestions known (has marks) r) (namesQuestions known (adjoin (has marks) r) (namesOf (itemsAt s d))) q in
         record {
           same = w .same ∙ ap (λ (rs : List ℕ). firstNo (namesQuestions known (has marks) rs)) e ∙ here ∙ ap (λ (g : ℕ → Bool). firstNo (namesQuestions known g (namesOf (itemsAt s d)))) (sym m);
-          marked = λ i. ap (λ (g : ℕ → Bool). g i || mem i (namesOf (itemsAt s d))) m ∙ moved (eqb i r) (has marks i) (mem i (namesOf (itemsAt s d))) ∙ ap (λ (l : List ℕ). has marks i || mem i l) (sym e) ∙ w .marked i;
+          names-kept = λ i. ap (λ (g : ℕ → Bool). g i || mem i (namesOf (itemsAt s d))) m ∙ moved (eqb i r) (has marks i) (mem i (namesOf (itemsAt s d))) ∙ ap (λ (l : List ℕ). has marks i || mem i l) (sym e) ∙ w .names-kept i;
         }
       where
         moved : (x y z : Bool) → x || y || z ≡ y || (x || z)

@@ -19,7 +19,7 @@ use Rattle.run.specs.Outcome.{over}
 pub record Marking (f : ℕ → ℕ) (n : ℕ) (before now : List ℕ) (i : ℕ) : Type 0 where
   pub inside : i ≤ n
   pub length-kept : length now ≡ length before
-  pub written : now ≡ paste before 0 (map f (upTo n)) i
+  pub front-is : now ≡ paste before 0 (map f (upTo n)) i
 
 mark-at : (f : ℕ → ℕ) (a n i : ℕ) → i < n → getD (map f (range a n)) i 0 ≡ f (a + i)
 mark-at f a zero i h = absurd (omega arith)
@@ -33,7 +33,7 @@ marks-length f n = length-map (upTo n) f ∙ length-range 0 n
 
 pub none-written : (f : ℕ → ℕ) (n : ℕ) (before : List ℕ) → Marking f n before before 0
 none-written f n before =
-    record { inside = omega arith; length-kept = refl; written = paste-zero before 0 (map f (upTo n)) }
+    record { inside = omega arith; length-kept = refl; front-is = paste-zero before 0 (map f (upTo n)) }
 
 module _ (f : ℕ → ℕ) (n : ℕ) (before now : List ℕ) (i : ℕ) (w : Marking f n before now i) where
   pub one-written : n ≤ length before → i < n → (v : ℕ) → v ≡ f i → Marking f n before (set now i v) (i + 1)
@@ -41,8 +41,8 @@ module _ (f : ℕ → ℕ) (n : ℕ) (before now : List ℕ) (i : ℕ) (w : Mark
       record {
         inside = omega arith;
         length-kept = length-set now i v ∙ w .length-kept;
-        written =
-            ap₂ (λ (l : List ℕ) (x : ℕ). set l i x) (w .written) (e ∙ sym (mark-at f 0 n i h ∙ ap f (zero-add i)))
+        front-is =
+            ap₂ (λ (l : List ℕ) (x : ℕ). set l i x) (w .front-is) (e ∙ sym (mark-at f 0 n i h ∙ ap f (zero-add i)))
             ∙ ap (λ (k : ℕ). set (paste before 0 (map f (upTo n)) i) k (getD (map f (upTo n)) i 0)) (sym (zero-add i))
             ∙ paste-suc before 0 (map f (upTo n)) i 0 (omega arith) (omega (arith, marks-length f n))
             ∙ ap (paste before 0 (map f (upTo n))) (sym (add-one i));
@@ -51,7 +51,7 @@ module _ (f : ℕ → ℕ) (n : ℕ) (before now : List ℕ) (i : ℕ) (w : Mark
   pub all-written : n ≤ i → now ≡ over (map f (upTo n)) before
   all-written h =
       let last : i ≡ n = omega (arith, w .inside) in
-      w .written
+      w .front-is
       ∙ rw (last, take-all n (map f (upTo n)) (omega (arith, marks-length f n)), zero-add n, marks-length f n)
 
 -- Fact marks by the sets that the memory shows.

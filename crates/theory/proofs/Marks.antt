@@ -113,15 +113,15 @@ module _ (P : Program) (on : Mask) where
       pub mark-inconsistent : (X Y : FactSet) → IsUnion D X → IsUnion R Y → (c : ℕ) → (ruleMark P on (run P on order) c ≡ 2) ↔ Inconsistent P on X Y c
       unfolding ruleMark
       mark-inconsistent X Y x y c = (
-        λ e. rw (same X (run P on order .derived) D x (chaining-derived P on order D R chain), same Y (rejected P (run P on order .applied)) R y (chaining-rejected P on order D R chain)) (aside-inconsistent c .0 (marked e)),
+        λ e. rw (same X (run P on order .derived) D x (chaining-derived P on order D R chain), same Y (rejected P (run P on order .applied)) R y (chaining-rejected P on order D R chain)) (aside-inconsistent c .0 (mark-says e)),
         λ t. aside-mark (aside-inconsistent c .1 (rw (same X (run P on order .derived) D x (chaining-derived P on order D R chain), same Y (rejected P (run P on order .applied)) R y (chaining-rejected P on order D R chain)) at t)),
       )
         where
           same : (X Z : FactSet) (S : ℕ → FactSet) → IsUnion S X → IsUnion S Z → X ≡ Z
           same X Z S x z = fun-ext (λ f. both-ways (X f) (Z f) (λ t. z f .1 (x f .0 t)) (λ t. x f .1 (z f .0 t)))
 
-          marked : ruleMark P on (run P on order) c ≡ 2 → setAside P on (run P on order .derived) c ≡ true
-          marked e = two (plain P c) (mem c (run P on order .applied)) (setAside P on (run P on order .derived) c) e
+          mark-says : ruleMark P on (run P on order) c ≡ 2 → setAside P on (run P on order .derived) c ≡ true
+          mark-says e = two (plain P c) (mem c (run P on order .applied)) (setAside P on (run P on order .derived) c) e
             where
               two : (p a b : Bool) → _≡_ {A = ℕ} (cond p 0 (cond a 1 (cond b 2 3))) 2 → b ≡ true
               two true a b e = absurd (omega arith)

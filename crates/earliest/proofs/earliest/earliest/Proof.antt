@@ -3,7 +3,7 @@ use native.Mathlib.Omega.{arith}
 use denote.Ref.{now}
 use Rattle.reader.proofs.EachKind.{Bytes}
 use Rattle.propagation.specs.State.{Ready}
-use Rattle.earliest.proofs.Hunting.{row-facts, begin, end}
+use Rattle.earliest.proofs.HuntWays.{row-facts, begin, end}
 use borrow.Author.Needs.{needs}
 use Rattle.earliest.proofs.earliest.earliest.Statement.{statement}
 use Rattle.earliest.proofs.earliest.earliest.Tie as tie
@@ -12,7 +12,7 @@ use Rattle.earliest.proofs.earliest.earliest.Lts as lts
 use Rattle.earliest.proofs.hunt.hunt.Reads as hunt-reads
 use Rattle.literals.proofs.tables.link_rules.Reads as link-rules-reads
 use Rattle.propagation.proofs.hold.hold_out.Reads as hold-out-reads
-use Rattle.propagation.proofs.start.start.Reads as start-reads
+use Rattle.propagation.proofs.none.hold_none.Reads as hold-none-reads
 use Rattle.rules.proofs.index.index_rules.Reads as index-rules-reads
 
 index-rules-requires : tie.Need-index-rules-requires
@@ -21,11 +21,11 @@ index-rules-requires c κs = search needs
 link-rules-requires : tie.Need-link-rules-requires
 link-rules-requires c κs = search needs
 
-cast-start : tie.Need-cast-start
-cast-start c = search needs
+cast-hold-none : tie.Need-cast-hold-none
+cast-hold-none c = search needs
 
-start-requires : tie.Need-start-requires
-start-requires c κs = search needs
+hold-none-requires : tie.Need-hold-none-requires
+hold-none-requires c κs = search needs
 
 abbrev Calls : lts.Claims
 Calls = (
@@ -33,8 +33,8 @@ Calls = (
   index-rules-reads.Learnt,
   link-rules-reads.Asked,
   link-rules-reads.Learnt,
-  start-reads.Asked,
-  start-reads.Learnt,
+  hold-none-reads.Asked,
+  hold-none-reads.Learnt,
   hold-out-reads.Asked,
   hold-out-reads.Learnt,
   hunt-reads.Asked,
@@ -49,13 +49,13 @@ file-bytes : (c : lts.After-shared-slice-known Calls reads.Pre reads.Post) → B
 file-bytes c j = c .shared-slice-known .given j .fits
 
 hold-out-requires : tie.Need-hold-out-requires
-hold-out-requires c κs = (ready (c .before .before .before .before .before .before .before .before .before .before .before .before .before .before), (c .before .before .before .before .before .before .start .ensures .0, (omega arith, row-facts (ready (c .before .before .before .before .before .before .before .before .before .before .before .before .before .before)) (file-bytes (c .before .before .before .before .before .before .before .before .before .before .before .before .before .before .before .before .before .before .before .before .before .before)) _ (c .before .before .before .before .before .before .before .before .before .before .before .before .before .before .before .before .before .before .before .before .before .before .before .pre .1))))
+hold-out-requires c κs = (ready (c .before .before .before .before .before .before .before .before .before .before .before .before .before .before), (c .before .before .before .before .before .before .hold-none .ensures .0, (omega arith, row-facts (ready (c .before .before .before .before .before .before .before .before .before .before .before .before .before .before)) (file-bytes (c .before .before .before .before .before .before .before .before .before .before .before .before .before .before .before .before .before .before .before .before .before .before)) _ (c .before .before .before .before .before .before .before .before .before .before .before .before .before .before .before .before .before .before .before .before .before .before .before .pre .1))))
 
 hunt-requires : tie.Need-hunt-requires
-hunt-requires c κs = (ready (c .before .before .before .before .before .before .before .before .before .before .before .before .before .before .before .before .before .before .before .before .before .before .before), (begin (ready (c .before .before .before .before .before .before .before .before .before .before .before .before .before .before .before .before .before .before .before .before .before .before .before)) (file-bytes (c .before .before .before .before .before .before .before .before .before .before .before .before .before .before .before .before .before .before .before .before .before .before .before .before .before .before .before .before .before .before .before)) _ _ _ _ _ (c .before .before .before .before .before .before .before .before .before .before .before .before .before .before .before .before .before .before .before .before .before .before .before .before .before .before .before .before .before .before .before .before .pre .1) (c .before .before .before .before .before .before .before .before .before .before .before .before .before .before .before .start .ensures .0) (c .before .before .before .before .before .before .before .before .before .before .before .before .before .before .before .start .ensures .1) (c .before .before .before .before .before .before .before .before .hold-out .ensures .0) (c .before .before .before .before .before .before .before .before .hold-out .ensures .1), c .before .before .before .before .before .before .before .before .before .before .before .before .before .before .before .before .before .before .before .before .before .before .before .before .before .before .before .before .before .before .before .before .pre .2))
+hunt-requires c κs = (ready (c .before .before .before .before .before .before .before .before .before .before .before .before .before .before .before .before .before .before .before .before .before .before .before), (begin (ready (c .before .before .before .before .before .before .before .before .before .before .before .before .before .before .before .before .before .before .before .before .before .before .before)) (file-bytes (c .before .before .before .before .before .before .before .before .before .before .before .before .before .before .before .before .before .before .before .before .before .before .before .before .before .before .before .before .before .before .before)) _ _ _ _ _ (c .before .before .before .before .before .before .before .before .before .before .before .before .before .before .before .before .before .before .before .before .before .before .before .before .before .before .before .before .before .before .before .before .pre .1) (c .before .before .before .before .before .before .before .before .before .before .before .before .before .before .before .hold-none .ensures .0) (c .before .before .before .before .before .before .before .before .before .before .before .before .before .before .before .hold-none .ensures .1) (c .before .before .before .before .before .before .before .before .hold-out .ensures .0) (c .before .before .before .before .before .before .before .before .hold-out .ensures .1), c .before .before .before .before .before .before .before .before .before .before .before .before .before .before .before .before .before .before .before .before .before .before .before .before .before .before .before .before .before .before .before .before .pre .2))
 
 returns : tie.Need-returns
-returns c = end (ready (c .before .before .before .before .before .before .before .before .before .before .before .before .before .before .before .before .before .before .before .before .before .before .before .before)) (file-bytes (c .before .before .before .before .before .before .before .before .before .before .before .before .before .before .before .before .before .before .before .before .before .before .before .before .before .before .before .before .before .before .before .before)) _ _ _ (c .before .before .before .before .before .before .before .before .before .hold-out .last .1 .1 .1 .1 .1 .1 .1 .1 .0) (c .before .before .before .before .before .before .before .before .before .hold-out .last .1 .1 .1 .1 .1 .1 .1 .1 .1 .0) (c .before .before .before .before .before .before .before .before .before .before .before .before .before .before .before .before .before .before .before .before .before .before .before .before .before .before .before .before .before .before .before .before .before .pre .1) (c .before .before .before .before .before .before .before .before .before .before .before .before .before .before .before .before .start .ensures .0) (c .before .before .before .before .before .before .before .before .before .before .before .before .before .before .before .before .start .ensures .1) _ _ (c .hunt .ensures .0)
+returns c = end (ready (c .before .before .before .before .before .before .before .before .before .before .before .before .before .before .before .before .before .before .before .before .before .before .before .before)) (file-bytes (c .before .before .before .before .before .before .before .before .before .before .before .before .before .before .before .before .before .before .before .before .before .before .before .before .before .before .before .before .before .before .before .before)) _ _ _ (c .before .before .before .before .before .before .before .before .before .hold-out .last .1 .1 .1 .1 .1 .1 .1 .1 .0) (c .before .before .before .before .before .before .before .before .before .hold-out .last .1 .1 .1 .1 .1 .1 .1 .1 .1 .0) (c .before .before .before .before .before .before .before .before .before .before .before .before .before .before .before .before .before .before .before .before .before .before .before .before .before .before .before .before .before .before .before .before .before .pre .1) (c .before .before .before .before .before .before .before .before .before .before .before .before .before .before .before .before .hold-none .ensures .0) (c .before .before .before .before .before .before .before .before .before .before .before .before .before .before .before .before .hold-none .ensures .1) _ _ (c .hunt .ensures .0)
 
 pub earliest-spec : {M : Type 1} → statement M
 earliest-spec =
@@ -63,8 +63,8 @@ earliest-spec =
     (tie.spec
     index-rules-requires
     link-rules-requires
-    cast-start
-    start-requires
+    cast-hold-none
+    hold-none-requires
     hold-out-requires
     hunt-requires
     returns)

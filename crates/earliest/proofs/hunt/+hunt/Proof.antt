@@ -13,8 +13,8 @@ use Rattle.reader.specs.Questions.{programOf}
 use Rattle.reader.proofs.EachKind.{Bytes}
 use Rattle.propagation.specs.State.{Ready}
 use Rattle.earliest.specs.Branch.{Branch}
-use Rattle.earliest.proofs.Listing.{Alive}
-use Rattle.earliest.proofs.Hunting.{row-facts, not-alive, all-decided, found-out, found-in, go-out, go-in}
+use Rattle.earliest.proofs.FactsListed.{Alive}
+use Rattle.earliest.proofs.HuntWays.{row-facts, not-alive, all-decided, found-out, found-in, go-out, go-in}
 use Rattle.earliest.proofs.hunt.hunt.Reads as hunt
 use Rattle.earliest.proofs.hunt.hunt.Kinds as hunt-kinds
 use Rattle.earliest.proofs.hunt.+hunt.Lts-hunt as hunt-lts

@@ -7,7 +7,7 @@ use lib.ListN.{getD, take, drop}
 use denote.Ref.{now}
 use Rattle.theory.specs.Rule.{all}
 use Rattle.reader.specs.Item.{maxFacts}
-use Rattle.earliest.proofs.Listing.{Alive, one-passes, one-fails, all-pass, row-below}
+use Rattle.earliest.proofs.FactsListed.{Alive, one-passes, one-fails, all-pass, row-below}
 use Rattle.earliest.proofs.hunt.is_alive.Statement.{statement}
 use Rattle.earliest.proofs.hunt.is_alive.Tie as tie
 use Rattle.earliest.proofs.hunt.is_alive.Reads as reads

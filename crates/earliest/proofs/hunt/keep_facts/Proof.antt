@@ -2,7 +2,7 @@
 use Prim.Native.Nat.{_-_}
 use native.Mathlib.Omega.{arith}
 use Rattle.reader.specs.Item.{maxFacts}
-use Rattle.earliest.proofs.Listing.{Keeping, none-kept, one-kept, all-kept}
+use Rattle.earliest.proofs.FactsListed.{Keeping, none-kept, one-kept, all-kept}
 use Rattle.earliest.proofs.hunt.keep_facts.Statement.{statement}
 use Rattle.earliest.proofs.hunt.keep_facts.Tie as tie
 use Rattle.earliest.proofs.hunt.keep_facts.Reads as reads

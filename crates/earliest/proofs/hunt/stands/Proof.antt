@@ -1,5 +1,5 @@
 -- `stands`: the fact is held out, or held in.
-use Rattle.earliest.proofs.Listing.{held-out, held-in}
+use Rattle.earliest.proofs.FactsListed.{held-out, held-in}
 use borrow.Author.Needs.{needs}
 use Rattle.earliest.proofs.hunt.stands.Statement.{statement}
 use Rattle.earliest.proofs.hunt.stands.Tie as tie

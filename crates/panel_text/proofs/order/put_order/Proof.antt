@@ -12,8 +12,8 @@ use Rattle.panel_text.proofs.order.put_order.Statement.{statement}
 use Rattle.panel_text.proofs.order.put_order.Tie as tie
 
 -- what is marked is what the order names
-written : (c : tie.After-mark-exceptions) → placesMarked 1 (c .mark-exceptions .last .1 .0) (c .before .before .before .before .args .counts .rules) ≡ ascending (programOf (now (c .before .before .before .before .args .file)))
-written c = marked-kinds (c .before .before .before .before .pre .0) _ (c .mark-exceptions .ensures)
+order-is : (c : tie.After-mark-exceptions) → placesMarked 1 (c .mark-exceptions .last .1 .0) (c .before .before .before .before .args .counts .rules) ≡ ascending (programOf (now (c .before .before .before .before .args .file)))
+order-is c = marked-kinds (c .before .before .before .before .pre .0) _ (c .mark-exceptions .ensures)
 
 mark-exceptions-requires : tie.Need-mark-exceptions-requires
 mark-exceptions-requires c κs = search needs
@@ -23,13 +23,13 @@ cast-write-names c = search needs
 
 write-names-requires : tie.Need-write-names-requires
 write-names-requires c κs =
-    (omega (arith, c .before .before .before .before .before .before .before .pre .0 .rules, rules-few (accepted-file _ (c .before .before .before .before .before .before .before .pre .0 .accepted))), rw (written (c .before .before .before)) (c .before .before .before .before .before .before .before .pre .1))
+    (omega (arith, c .before .before .before .before .before .before .before .pre .0 .rules, rules-few (accepted-file _ (c .before .before .before .before .before .before .before .pre .0 .accepted))), rw (order-is (c .before .before .before)) (c .before .before .before .before .before .before .before .pre .1))
 
 same-length : tie.Need-same-length
 same-length c = search needs
 
 returns : tie.Need-returns
-returns c = rw (written (c .before .before .before .before .before .before)) at (c .before .before .write-names .ensures)
+returns c = rw (order-is (c .before .before .before .before .before .before)) at (c .before .before .write-names .ensures)
 
 pub put-order-spec : {M : Type 1} → statement M
 put-order-spec =

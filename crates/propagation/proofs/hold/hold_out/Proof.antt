@@ -7,7 +7,7 @@ use denote.Ref.{now}
 use Rattle.reader.specs.Item.{maxFacts}
 use Rattle.reader.specs.Questions.{programOf}
 use Rattle.literals.specs.Literal.{literals}
-use Rattle.propagation.proofs.Holding.{Holding, none-held, fact-small, next-fact, one-held, all-held}
+use Rattle.propagation.proofs.FactsHeldOut.{Holding, none-held, fact-small, next-fact, one-held, all-held}
 use Rattle.propagation.proofs.hold.hold_out.Statement.{statement}
 use Rattle.propagation.proofs.hold.hold_out.Tie as tie
 

@@ -2,7 +2,7 @@
 use borrow.Author.Needs.{needs}
 use native.Mathlib.Omega.{arith}
 use Rattle.closure.proofs.Ready.{rules-known}
-use Rattle.propagation.proofs.Spreading.{conclusion-literal, read-concluded}
+use Rattle.propagation.proofs.LiteralsTold.{conclusion-literal, read-concluded}
 use Rattle.propagation.proofs.spread.conclude.Statement.{statement}
 use Rattle.propagation.proofs.spread.conclude.Tie as tie
 

@@ -9,7 +9,7 @@ use Rattle.reader.specs.Questions.{programOf}
 use Rattle.literals.specs.Literal.{outside, literals}
 use Rattle.literals.specs.Rows.{Row}
 use Rattle.propagation.specs.State.{Between, told, toldCount}
-use Rattle.propagation.proofs.Spreading.{top-of, last-inside, last-literal, not-waiting, one-true, held-as-before, told-less, passed-less, none-waits, now-settled, held-then, head-fits, ready-known}
+use Rattle.propagation.proofs.LiteralsTold.{top-of, last-inside, last-literal, not-waiting, one-true, held-as-before, told-less, passed-less, none-waits, now-settled, held-then, head-fits, ready-known}
 use Rattle.propagation.proofs.spread.spread.Statement.{statement}
 use Rattle.propagation.proofs.spread.spread.Tie as tie
 

@@ -7,7 +7,7 @@ use mathlib.Core.Logic.{⊎-elim}
 use Rattle.reader.specs.Questions.{maxRules, programOf}
 use Rattle.closure.proofs.Ready.{rules-known}
 use Rattle.propagation.specs.State.{Telling, Onward}
-use Rattle.propagation.proofs.Spreading.{nothing-yet, RuleTold, at-slot, chain-ended, turn-on, turn-concluded}
+use Rattle.propagation.proofs.LiteralsTold.{nothing-yet, RuleTold, at-slot, chain-ended, turn-on, turn-concluded}
 use Rattle.propagation.proofs.spread.tell.Statement.{statement}
 use Rattle.propagation.proofs.spread.tell.Tie as tie
 

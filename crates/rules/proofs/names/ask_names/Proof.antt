@@ -29,7 +29,7 @@ item-read : (c : tie.After-known-told Inv-loop μ-loop) → nextAt (now (c .befo
 item-read c = sym (c .before .before .before .next .ensures .0) ∙ c .before .item .given .1
 
 loop-holds : tie.Need-loop-holds Inv-loop μ-loop
-loop-holds c = (c .before .pre .1, record { same = refl; marked = λ i. refl })
+loop-holds c = (c .before .pre .1, record { same = refl; names-kept = λ i. refl })
 
 next-requires : tie.Need-next-requires Inv-loop μ-loop
 next-requires c κs = search needs

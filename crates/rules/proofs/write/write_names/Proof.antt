@@ -39,7 +39,7 @@ loop-again : tie.Need-loop-again Inv-loop μ-loop
 loop-again c =
     let inv = c .before .before .before .loop .inv in
     let h = c .before .before .loop-test .taken in
-    ⊎-elim (λ w. rw (w .5, w .6) (mark-put inv h (w .0 .taken) _ _ (record { written = w .2 .ensures; behind = refl }))) (λ w. rw (w .1, w .2) (mark-passed inv h (w .0 .left))) (c .if1 .came)
+    ⊎-elim (λ w. rw (w .5, w .6) (mark-put inv h (w .0 .taken) _ _ (record { bytes-put = w .2 .ensures; behind = refl }))) (λ w. rw (w .1, w .2) (mark-passed inv h (w .0 .left))) (c .if1 .came)
 
 same-length : tie.Need-same-length Inv-loop μ-loop
 same-length c = c .before .loop .inv .putting .kept

@@ -16,7 +16,7 @@ use Rattle.theory.proofs.Lists.{eqb-self, mem-left, mem-append, all-append, upT
 use Rattle.rules.specs.Questions.{has}
 use Rattle.literals.specs.Literal.{literals}
 use Rattle.propagation.specs.State.{waiting, told, toldCount, Stacked, Waited}
-use Rattle.propagation.proofs.Counting.{counted-below, counted-most}
+use Rattle.propagation.proofs.ElementsCounted.{counted-below, counted-most}
 
 -- A literal's byte says whether it is told and whether it is true.
 module _ (marks : List ℕ) (l : ℕ) where

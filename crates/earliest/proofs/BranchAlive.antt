@@ -26,7 +26,7 @@ use Rattle.literals.specs.Literal.{outside, literals}
 use Rattle.propagation.specs.State.{Settled, HeldToo, notHeldOut}
 use Rattle.propagation.proofs.Least.{settled-least}
 use Rattle.earliest.specs.Branch.{heldIn, Branch}
-use Rattle.earliest.proofs.Listed.{guessed-once, guessed-below, apart, apart-back, in-parts, next-in, take-next, one-of}
+use Rattle.earliest.proofs.RowParts.{guessed-once, guessed-below, apart, apart-back, in-parts, next-in, take-next, one-of}
 
 -- A fact e that is held out joins those held out and not those held in, and one that is held in joins these.
 out-stays : (a h e : Bool) → (e ≡ true → a ≡ false) → (a || e) && not (h || e) ≡ a && not h

@@ -8,10 +8,10 @@ use Rattle.theory.specs.Rule.{count}
 use Rattle.reader.specs.Questions.{programOf, maxRules}
 use Rattle.literals.specs.Literal.{literals}
 use Rattle.closure.proofs.Ready.{rules-known}
-use Rattle.propagation.proofs.Spreading.{ready-known}
-use Rattle.propagation.proofs.Holding.{Starting, none-started, on-asking, on-asking-nothing, all-started, still-none}
-use Rattle.propagation.proofs.start.start.Statement.{statement}
-use Rattle.propagation.proofs.start.start.Tie as tie
+use Rattle.propagation.proofs.LiteralsTold.{ready-known}
+use Rattle.propagation.proofs.FactsHeldOut.{Starting, none-started, on-asking, on-asking-nothing, all-started, still-none}
+use Rattle.propagation.proofs.none.hold_none.Statement.{statement}
+use Rattle.propagation.proofs.none.hold_none.Tie as tie
 
 abbrev Inv-loop : tie.InvT-loop
 Inv-loop file starts heads links owners rules marks₀ missing stack₀ top₀ i₀ marks stack top i =
@@ -59,8 +59,8 @@ spread-requires c κs = (c .before .before .before .before .before .before .pre 
 returns : tie.Need-returns Inv-loop μ-loop
 returns c = (c .spread .ensures .0, still-none (c .before .before .before .before .before .before .before .pre .1 .2) _ _ (c .before .before .before .before .before .loop .inv .none-out) (c .spread .ensures .1))
 
-pub start-spec : {M : Type 1} → statement M
-start-spec =
+pub hold-none-spec : {M : Type 1} → statement M
+hold-none-spec =
     tie.close
     (tie.spec
     Inv-loop

@@ -18,8 +18,8 @@ use Rattle.rules.specs.Questions.{has}
 use Rattle.literals.specs.Literal.{outside, literals, body}
 use Rattle.literals.specs.Rows.{Sized}
 use Rattle.propagation.specs.State.{told, Spreading, Between, Waited, Concluded, Settled, HeldToo}
-use Rattle.propagation.proofs.Waiting.{untold}
-use Rattle.propagation.proofs.Spreading.{asked-for, one-told, one-concluded, concluded-onward, told-true, settled-between}
+use Rattle.propagation.proofs.LiteralsStacked.{untold}
+use Rattle.propagation.proofs.LiteralsTold.{asked-for, one-told, one-concluded, concluded-onward, told-true, settled-between}
 
 -- The facts of the row from place n on are still to be held out.
 pub record Holding (P : Program) (marks₀ row : List ℕ) (from n : ℕ) (marks missing stack : List ℕ) (top : ℕ) : Type 0 where

@@ -23,8 +23,8 @@ use Rattle.closure.proofs.Ready.{facts-bounded, facts-few, read-conclusion, con
 use Rattle.literals.specs.Literal.{outside, literals, slots, body}
 use Rattle.literals.specs.Rows.{Chain, Row}
 use Rattle.propagation.specs.State.{Ready, waiting, told, toldCount, Grounded, Spreading, Between, Telling, Waited, Concluded, Onward, Settled}
-use Rattle.propagation.proofs.Counting.{counted-without}
-use Rattle.propagation.proofs.Waiting.{has-told, count-same, count-most, set-cases, passed-by, taken, same-told, was-not-true, top-inside, top-literal}
+use Rattle.propagation.proofs.ElementsCounted.{counted-without}
+use Rattle.propagation.proofs.LiteralsStacked.{has-told, count-same, count-most, set-cases, passed-by, taken, same-told, was-not-true, top-inside, top-literal}
 use Rattle.propagation.proofs.Grounds.{grounded-still, conclusion-grounded}
 
 pub adjoined : (S : ℕ → Bool) (f : ℕ) → adjoin S f f ≡ true

@@ -18,10 +18,10 @@ use Rattle.reader.proofs.Accepted.{accepted-file, facts-below, bounded}
 use Rattle.literals.specs.Literal.{literals}
 use Rattle.propagation.specs.State.{Ready, Settled, HeldToo}
 use Rattle.earliest.specs.Branch.{heldIn, Branch, Shown, Kept}
-use Rattle.earliest.proofs.Listed.{guessed-below, next-in}
-use Rattle.earliest.proofs.Listing.{Alive}
-use Rattle.earliest.proofs.Branching.{next, alive-is, held-in-out, out-branch, held-in-too, in-branch, first-branch}
-use Rattle.earliest.proofs.Finding.{Looked, dead, leaf, first-found, then-other, searched, kept-set}
+use Rattle.earliest.proofs.RowParts.{guessed-below, next-in}
+use Rattle.earliest.proofs.FactsListed.{Alive}
+use Rattle.earliest.proofs.BranchAlive.{next, alive-is, held-in-out, out-branch, held-in-too, in-branch, first-branch}
+use Rattle.earliest.proofs.BranchFound.{Looked, dead, leaf, first-found, then-other, searched, kept-set}
 
 module _ {file starts heads links owners : List ℕ} (r : Ready file starts heads links owners) (b : Bytes file) where
   facts-bounded : Bounded (programOf file)

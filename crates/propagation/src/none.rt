@@ -15,7 +15,7 @@ use literals::tables::SLOTS;
 use rules::index::MAX_RULES;
 
 // Derives what follows with no fact held out: the marks are empty before, and every rule misses its whole body.
-pub fn start(
+pub fn hold_none(
     file: &[u8],
     starts: &[u16; MAX_RULES],
     heads: &[u16; LITERALS],
