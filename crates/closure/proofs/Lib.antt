@@ -1,3 +1,2 @@
-pub mod Painted
-pub mod Ready
-pub mod Deriving
+pub mod LowestReady
+pub mod StepsDerived

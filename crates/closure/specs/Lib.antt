@@ -1,4 +1,4 @@
 -- What is promised.
 pub mod Steps
 -- What only code and proofs use.
-pub mod Known
+pub mod Room

@@ -3,8 +3,8 @@ use Prim.Native.Nat.{ℕ}
 use mathlib.Core.List.{List, [], _∷_, _++_}
 use mathlib.Core.Option.{Option, none, some}
 use Rattle.theory.specs.Rule.{Step}
-use Rattle.reader.specs.Item.{ruleId}
-use Rattle.reader.specs.Write.{stepItem}
+use Rattle.items.specs.Item.{ruleId}
+use Rattle.items.specs.Write.{stepItem}
 use Rattle.closure.specs.declared.found.Found.{Found}
 use Rattle.closure.specs.declared.found.Found.the-variants.{At, Nothing}
 

@@ -1,4 +1,4 @@
-use reader::item::RuleId;
+use items::item::RuleId;
 
 // The rule that a search stops at, if there is one.
 pub enum Found {

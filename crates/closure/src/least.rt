@@ -1,37 +1,36 @@
 // Deriving over lent bytes. Internal.
+ghost use Prim.Native.Nat.{_≤_};
 ghost use mathlib.Core.Path.{_≡_};
 ghost use lib.ListN.{length};
 ghost use Rattle.theory.specs.Derive.{lowest, fired, derive as derived, steps as stepsOf};
-ghost use Rattle.reader.specs.Questions.{programOf};
-ghost use Rattle.reader.specs.Rules.{paint};
-ghost use Rattle.reader.specs.Write.{placed};
-ghost use Rattle.rules.specs.Questions.{has};
+ghost use Rattle.items.specs.Item.{has};
+ghost use Rattle.items.specs.Write.{placed};
+ghost use Rattle.tables.specs.Layout.{programIn, WellFormed};
+ghost use Rattle.tables.specs.Marks.{paint};
 ghost use Rattle.closure.specs.Steps.{stepBytes, foundOf};
-ghost use Rattle.closure.specs.Known.{Known, Room};
+ghost use Rattle.closure.specs.Room.{Room};
 use crate::found::Found;
-use crate::place::start_of;
-use reader::item::RuleId;
-use rules::fact_set::in_set;
-use rules::index::MAX_RULES;
+use items::item::MAX_RULES;
+use items::item::RuleId;
+use tables::layout::TABLE_CELLS;
+use tables::layout::rules_of;
+use tables::rule::conclusion_in;
+use tables::rule::premises_in;
 
 // The lowest-numbered rule of the mask with its premises in the set and its conclusion not.
-pub fn lowest_ready(
-    file: &[u8],
-    starts: &[u16; MAX_RULES],
-    rules: usize,
-    mask: &[u8; MAX_RULES],
-    set: &[u8],
-) -> Found
-    requires { ⌜ Known (now file) (now starts) rules ⌝ }
-    ensures { λ r. ⌜ r ≡ foundOf (lowest (programOf (now (file .entry))) (has (now (mask .entry))) (has (now (set .entry)))) ⌝ }
+pub fn lowest_ready(tables: &[u16; TABLE_CELLS], mask: &[u8; MAX_RULES], set: &[u8]) -> Found
+    requires { ⌜ WellFormed (now tables) ⌝ }
+    requires { ⌜ programIn (now tables) .facts ≤ length (now set) ⌝ }
+    ensures { λ r. ⌜ r ≡ foundOf (lowest (programIn (now (tables .entry))) (has (now (mask .entry))) (has (now (set .entry)))) ⌝ }
 {
+    let rules = rules_of(tables);
     let mut i: usize = 0;
     while i < rules {
         if mask[i] == 1 {
             let rule = RuleId(i as u16);
-            let at = start_of(starts, rule);
-            if rules::rule::premises_in(file, at, set) {
-                if !in_set(set, rules::rule::conclusion(file, at)) {
+            // The conclusion first: most rules of the mask have it in the set before long.
+            if !conclusion_in(tables, rule, set) {
+                if premises_in(tables, rule, set) {
                     return Found::At(rule);
                 }
             }
@@ -44,33 +43,31 @@ pub fn lowest_ready(
 // Derives from the set by the rules of the mask: marks each fact derived in the set, writes its step at the place given and on from there,
 // and answers the number of steps.
 pub fn derive(
-    file: &[u8],
-    starts: &[u16; MAX_RULES],
-    rules: usize,
+    tables: &[u16; TABLE_CELLS],
     mask: &[u8; MAX_RULES],
     set: &mut [u8],
     steps: &mut [u8],
     at: usize,
 ) -> usize
-    requires { ⌜ Known (now file) (now starts) rules ⌝ }
-    requires { ⌜ Room (now file) (now set) (now steps) at ⌝ }
-    ensures { λ r. ⌜ r ≡ length (fired (programOf (now (file .entry))) (has (now (mask .entry))) (has (now (set .entry)))) ⌝ }
-    ensures { λ _. ⌜ now (set .exit) ≡ paint (derived (programOf (now (file .entry))) (has (now (mask .entry))) (has (now (set .entry)))) (now (set .entry)) ⌝ }
-    ensures { λ _. ⌜ now (steps .exit) ≡ placed (stepBytes (stepsOf (programOf (now (file .entry))) (has (now (mask .entry))) (has (now (set .entry))))) at (now (steps .entry)) ⌝ }
+    requires { ⌜ WellFormed (now tables) ⌝ }
+    requires { ⌜ Room (programIn (now tables)) (now set) (now steps) at ⌝ }
+    ensures { λ r. ⌜ r ≡ length (fired (programIn (now (tables .entry))) (has (now (mask .entry))) (has (now (set .entry)))) ⌝ }
+    ensures { λ _. ⌜ now (set .exit) ≡ paint (derived (programIn (now (tables .entry))) (has (now (mask .entry))) (has (now (set .entry)))) (now (set .entry)) ⌝ }
+    ensures { λ _. ⌜ now (steps .exit) ≡ placed (stepBytes (stepsOf (programIn (now (tables .entry))) (has (now (mask .entry))) (has (now (set .entry))))) at (now (steps .entry)) ⌝ }
 {
     let mut n: usize = 0;
     let mut to = at;
     loop {
-        match lowest_ready(file, starts, rules, mask, set) {
+        match lowest_ready(tables, mask, set) {
             Found::Nothing => {
                 return n;
             }
             Found::At(rule) => {
-                let fact = rules::rule::conclusion(file, start_of(starts, rule));
+                let fact = tables::rule::conclusion(tables, rule);
                 let f = fact.0 as usize;
                 set[f] = 1;
-                reader::write::write_step_item(steps, to, fact, rule);
-                to += reader::write::STEP_WIDTH;
+                items::write::write_step_item(steps, to, fact, rule);
+                to += items::write::STEP_WIDTH;
                 n += 1;
             }
         }

@@ -5,12 +5,13 @@ use mathlib.Core.Path.{_≡_, refl}
 use mathlib.Core.Bool.{Bool, true, false, cond}
 use mathlib.Core.List.{List}
 use lib.ListN.{length}
-use Rattle.theory.specs.Rule.{everyRule, count, exception}
+use Rattle.theory.specs.Rule.{inForce, count, exception}
 use Rattle.theory.specs.Check.{isStable, isProof}
-use Rattle.reader.specs.Question.{Question}
+use Rattle.items.specs.Question.{Question}
 use Rattle.reader.specs.Questions.{programOf}
 use Rattle.reader.specs.Accept.{acceptOf}
-use Rattle.rules.specs.Questions.{has, rowOf, listQuestions, orderQuestions, setQuestions, rowQuestions, askListQuestions, askOrderQuestions, askSetQuestions, askRowQuestions}
+use Rattle.items.specs.Item.{has}
+use Rattle.questions.specs.Questions.{rowOf, listQuestions, orderQuestions, setQuestions, rowQuestions, askListQuestions, askOrderQuestions, askSetQuestions, askRowQuestions}
 use Rattle.run.specs.Outcome.{runOutcome, runWritten}
 use Rattle.judge.specs.declared.answer.Judged.the-variants.{Stable, NotStable}
 use Rattle.judge.specs.Judged.{unlisted, judged}
@@ -79,7 +80,7 @@ judge-exactly file list set =
     refuses-exactly 1 (judgeCall file list set)
     (record {
       own-numbers = judge-own file list set;
-      all-yes = λ h. rw (h, judged) (either-way (isStable (programOf file) (unlisted list) (has set)));
+      all-yes = λ h. rw (h, judged) (either-way (isStable (programOf file) (unlisted (programOf file) list) (has set)));
       first-no = λ r h. rw (h, judged);
     })
   where
@@ -93,7 +94,7 @@ check-exactly file set fact row =
     refuses-exactly 1 (checkCall file set fact row)
     (record {
       own-numbers = check-own file set fact row;
-      all-yes = λ h. rw (h, checked) (either-way (isProof (programOf file) everyRule (has set) (rowOf row) fact));
+      all-yes = λ h. rw (h, checked) (either-way (isProof (programOf file) (inForce (programOf file)) (has set) (rowOf row) fact));
       first-no = λ r h. rw (h, checked);
     })
   where

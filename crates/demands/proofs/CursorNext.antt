@@ -5,14 +5,14 @@ use mathlib.Core.Path.{_≡_, ap, _∙_}
 use mathlib.Core.List.{List}
 use mathlib.Core.Option.{Option, none, some}
 use lib.ListN.{drop}
-use Rattle.reader.specs.declared.refusal.Refusal.{Refusal}
-use Rattle.reader.specs.declared.cursor.Row.the-variants.{Order, Steps}
-use Rattle.reader.specs.declared.cursor.Cursor.{Cursor}
-use Rattle.reader.specs.declared.cursor.Read.the-variants.{Ended, Refused}
-use Rattle.reader.specs.Question.{firstNo, noNumber}
-use Rattle.reader.specs.Cursor.{Token, item, bad, front, past, placeQuestions, stayed, readOf, nextAt}
-use Rattle.reader.proofs.AnswerNumbers.{read-numbers}
-use Rattle.reader.proofs.CursorWays.{no-byte}
+use Rattle.items.specs.declared.refusal.Refusal.{Refusal}
+use Rattle.items.specs.declared.cursor.Row.the-variants.{Order, Steps}
+use Rattle.items.specs.declared.cursor.Cursor.{Cursor}
+use Rattle.items.specs.declared.cursor.Read.the-variants.{Ended, Refused}
+use Rattle.items.specs.Question.{firstNo, noNumber}
+use Rattle.items.specs.Cursor.{Token, item, bad, front, past, placeQuestions, stayed, readOf, nextAt}
+use Rattle.items.proofs.ReadNumbers.{read-numbers}
+use Rattle.items.proofs.CursorWays.{no-byte}
 use Rattle.demands.specs.Calls.{RefusesExactly, nextCall, Stays}
 use Rattle.demands.proofs.RefusesExactly.{refuses-exactly}
 use Rattle.demands.proofs.OwnNumbers.{place-own}

@@ -10,7 +10,7 @@ use mathlib.Core.Option.{Option, none}
 use borrow.Author.Tests.{lt-ltb}
 use lib.ListN.{length}
 use lib.Dec.{eqb}
-use Rattle.theory.specs.Rule.{howMany, Program, FactSet, everyRule, count, exception, Step}
+use Rattle.theory.specs.Rule.{howMany, Program, FactSet, inForce, count, exception, Step}
 use Rattle.theory.specs.Run.{Stand, run}
 use Rattle.theory.specs.Stable.{Stable, Within, Proof, Admits, rowTo, orderFor}
 use Rattle.theory.proofs.Bools.{never}
@@ -19,13 +19,14 @@ use Rattle.theory.proofs.Order.{order-reaches, order-none-aside}
 use Rattle.theory.proofs.Rows.{run-proof, run-admits}
 use Rattle.theory.proofs.Stable.{stable-within, outside-no-proof}
 use Rattle.theory.proofs.Check.{test-of-proof}
-use Rattle.reader.specs.declared.refusal.Refusal.{Refusal}
-use Rattle.reader.specs.Cursor.{itemsAt, stepsStart}
+use Rattle.items.specs.declared.refusal.Refusal.{Refusal}
+use Rattle.items.specs.Cursor.{itemsAt, stepsStart}
 use Rattle.reader.specs.Questions.{programOf, fileQuestions, fileNo}
 use Rattle.reader.proofs.Accepted.{accepted-file, bounded}
-use Rattle.reader.proofs.FirstNo.{all-yes}
-use Rattle.rules.specs.Questions.{has, whole, orderQuestions, setQuestions, rowQuestions, rowOf, bufferQuestions, runQuestions, buffersNo, runNo, checkQuestions, checkNo, naming}
-use Rattle.rules.proofs.Orders.{naming-names}
+use Rattle.items.proofs.FirstNo.{all-yes}
+use Rattle.items.specs.Item.{has}
+use Rattle.questions.specs.Questions.{whole, orderQuestions, setQuestions, rowQuestions, rowOf, bufferQuestions, runQuestions, buffersNo, runNo, checkQuestions, checkNo, naming}
+use Rattle.questions.proofs.Orders.{naming-names}
 use Rattle.closure.specs.Steps.{stepBytes}
 use Rattle.run.specs.Outcome.{RunOutcome, runOf, runWritten, runOutcome}
 use Rattle.run.specs.Outcome as running
@@ -35,7 +36,7 @@ use Rattle.proofcheck.specs.declared.answer.Checked.the-variants as checking
 use Rattle.proofcheck.specs.Checked.{checked}
 use Rattle.proofcheck.specs.Checked as check
 use Rattle.proofcheck.proofs.Meaning.{checked-means}
-use Rattle.search.proofs.OrderGroups.{order-width}
+use Rattle.orders.proofs.OrderGroups.{order-width}
 use Rattle.search.proofs.RunUnder.{search-order-yes}
 use Rattle.demands.specs.Results.{setBytes, RowsProve, rowUpTo, EndsAt, LeadsTo}
 use Rattle.demands.proofs.SetsReadBack.{set-back, set-yes}
@@ -48,22 +49,22 @@ not-yes checking.Yes n = absurd (n refl refl)
 not-yes checking.No n = refl
 not-yes (checking.Refused r) n = refl
 
-module _ (file : List ℕ) (accepted : _≡_ {A = Option Refusal} (fileNo file) none) (M : FactSet) (stable : Stable (programOf file) everyRule M) where
+module _ (file : List ℕ) (accepted : _≡_ {A = Option Refusal} (fileNo file) none) (M : FactSet) (stable : Stable (programOf file) (inForce (programOf file)) M) where
   abbrev P : Program
   P = programOf file
 
   abbrev row : List ℕ
-  row = orderFor P everyRule M
+  row = orderFor P (inForce P) M
 
   abbrev s : Stand
-  s = run P everyRule row
+  s = run P (inForce P) row
 
   pub reaches : s .derived ≡ M
-  reaches = fun-ext (order-reaches P everyRule M stable)
+  reaches = fun-ext (order-reaches P (inForce P) M stable)
 
   -- The set as bytes.
   within : Within P M
-  within = stable-within P everyRule M (bounded (accepted-file file accepted)) stable
+  within = stable-within P (inForce P) M (bounded (accepted-file file accepted)) stable
 
   known : (f : ℕ) → M f ≡ true → f < P .facts
   known f m = go (decLt f (P .facts))
@@ -80,11 +81,11 @@ module _ (file : List ℕ) (accepted : _≡_ {A = Option Refusal} (fileNo file) 
     pub rows-read : (f : ℕ) → rowOf (rows f) ≡ rowTo f (s .trace)
     rows-read f = ap rowOf (rows-are f) ∙ steps-read (rowTo f (s .trace))
 
-    proves : (f : ℕ) → M f ≡ true → Proof P everyRule (rowOf (rows f)) f
-    proves f m = rw (rows-read f) (run-proof P everyRule row f (ap (λ (X : FactSet). X f) reaches ∙ m))
+    proves : (f : ℕ) → M f ≡ true → Proof P (inForce P) (rowOf (rows f)) f
+    proves f m = rw (rows-read f) (run-proof P (inForce P) row f (ap (λ (X : FactSet). X f) reaches ∙ m))
 
     admits : (f : ℕ) → Admits P M (rowOf (rows f))
-    admits f = rw (rows-read f) (subst (λ (X : FactSet). Admits P X (rowTo f (s .trace))) reaches (run-admits P everyRule row f))
+    admits f = rw (rows-read f) (subst (λ (X : FactSet). Admits P X (rowTo f (s .trace))) reaches (run-admits P (inForce P) row f))
 
     may-check : (f : ℕ) → M f ≡ true → _≡_ {A = Option Refusal} (checkNo file (setBytes file M) f (rows f)) none
     unfolding checkQuestions rowQuestions
@@ -96,7 +97,7 @@ module _ (file : List ℕ) (accepted : _≡_ {A = Option Refusal} (fileNo file) 
     yes-said : (f : ℕ) → M f ≡ true → checked file (setBytes file M) f (rows f) ≡ checking.Yes
     yes-said f m =
         check-checked file (setBytes file M) f (rows f) (may-check f m)
-        ∙ ap (λ (b : Bool). cond b checking.Yes checking.No) (test-of-proof P everyRule (has (setBytes file M)) (rowOf (rows f)) f .1 (proves f m, rw set-is (admits f)))
+        ∙ ap (λ (b : Bool). cond b checking.Yes checking.No) (test-of-proof P (inForce P) (has (setBytes file M)) (rowOf (rows f)) f .1 (proves f m, rw set-is (admits f)))
 
     pub rows-prove : RowsProve file M rows
     rows-prove = record { proves = proves; admitted = λ f _. admits f; says-yes = yes-said }
@@ -110,7 +111,7 @@ module _ (file : List ℕ) (accepted : _≡_ {A = Option Refusal} (fileNo file) 
         (all-yes (orderQuestions (exception P) (count P) (naming row)) (bufferQuestions P (length facts) (length rules) (length steps)) (search-order-yes P M) fit)
 
     pub ran-under : runOf file (naming row) ≡ s
-    ran-under = ap (run P everyRule) (naming-names row)
+    ran-under = ap (run P (inForce P)) (naming-names row)
 
     abbrev o : RunOutcome
     o = runOutcome file (naming row) facts rules steps
@@ -131,13 +132,13 @@ module _ (file : List ℕ) (accepted : _≡_ {A = Option Refusal} (fileNo file) 
         record {
           number = ap (λ (x : RunOutcome). running.number (x .answer)) ran;
           ends-there = derived-is file (naming row) facts rules steps may-run ∙ (ap (λ (t : Stand). t .derived) ran-under ∙ reaches);
-          none-aside = λ i. rw (aside-is file (naming row) facts rules steps may-run, ran-under) (order-none-aside P everyRule M stable i);
+          none-aside = λ i. rw (aside-is file (naming row) facts rules steps may-run, ran-under) (order-none-aside P (inForce P) M stable i);
           rows-are = λ f. rows-read (λ g. rowUpTo g o) row-there f ∙ ap (rowTo f) (sym (trace-is file (naming row) facts rules steps may-run ∙ ap (λ (t : Stand). t .trace) ran-under));
           rows-prove = rows-prove (λ g. rowUpTo g o) row-there;
         }
 
-  outside : (f : ℕ) → M f ≡ false → (taken : List Step) → Proof P everyRule taken f → Admits P M taken → ⊥
-  outside f out taken p a = outside-no-proof P everyRule M f stable out taken p a
+  outside : (f : ℕ) → M f ≡ false → (taken : List Step) → Proof P (inForce P) taken f → Admits P M taken → ⊥
+  outside f out taken p a = outside-no-proof P (inForce P) M f stable out taken p a
 
   no-said : (f : ℕ) → M f ≡ false → (bytes : List ℕ) → check.verdict (checked file (setBytes file M) f bytes) ≡ 0
   no-said f out bytes =
@@ -149,8 +150,8 @@ module _ (file : List ℕ) (accepted : _≡_ {A = Option Refusal} (fileNo file) 
   pub leads-to : LeadsTo file (naming row) M
   leads-to =
       record {
-        named-once = λ r e. ap (howMany (eqb r)) (naming-names row) ∙ order-once P everyRule M r e;
-        named-only = λ r e. ap (howMany (eqb r)) (naming-names row) ∙ order-only P everyRule M r e;
+        named-once = λ r e. ap (howMany (eqb r)) (naming-names row) ∙ order-once P (inForce P) M r e;
+        named-only = λ r e. ap (howMany (eqb r)) (naming-names row) ∙ order-only P (inForce P) M r e;
         whole-items = order-width P M;
         order-right = search-order-yes P M;
         run-ends = ends;

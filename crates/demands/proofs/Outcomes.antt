@@ -6,13 +6,14 @@ use mathlib.Core.Bool.{cond}
 use mathlib.Core.List.{List}
 use mathlib.Core.Option.{Option, none, some}
 use lib.ListN.{length}
-use Rattle.theory.specs.Rule.{everyRule}
+use Rattle.theory.specs.Rule.{inForce}
 use Rattle.theory.specs.Check.{isProof}
-use Rattle.reader.specs.declared.refusal.Refusal.{Refusal}
-use Rattle.reader.specs.Question as refusal
+use Rattle.items.specs.declared.refusal.Refusal.{Refusal}
+use Rattle.items.specs.Question as refusal
 use Rattle.reader.specs.Questions.{programOf}
-use Rattle.reader.proofs.RefusalNumbers.{number-above}
-use Rattle.rules.specs.Questions.{has, rowOf, runNo, checkNo, searchNo}
+use Rattle.items.proofs.RefusalNumbers.{number-above}
+use Rattle.items.specs.Item.{has}
+use Rattle.questions.specs.Questions.{rowOf, runNo, checkNo, searchNo}
 use Rattle.run.specs.Outcome.{RunOutcome, runOf, runWritten, runOutcome}
 use Rattle.run.specs.Outcome as run
 use Rattle.run.proofs.Outcomes.{outcome-refused, outcome-written}
@@ -38,7 +39,7 @@ module _ (file order facts rules steps : List ℕ) where
       answered (runNo file order (length facts) (length rules) (length steps)) (run.number (runOutcome file order facts rules steps .answer))
       (λ r e. sym (ap (λ (o : RunOutcome). run.number (o .answer)) (outcome-refused file order facts rules steps r e)))
 
-pub check-checked : (file set : List ℕ) (fact : ℕ) (row : List ℕ) → _≡_ {A = Option Refusal} (checkNo file set fact row) none → checked file set fact row ≡ cond (isProof (programOf file) everyRule (has set) (rowOf row) fact) checking.Yes checking.No
+pub check-checked : (file set : List ℕ) (fact : ℕ) (row : List ℕ) → _≡_ {A = Option Refusal} (checkNo file set fact row) none → checked file set fact row ≡ cond (isProof (programOf file) (inForce (programOf file)) (has set) (rowOf row) fact) checking.Yes checking.No
 unfolding checked
 check-checked file set fact row e = rw (e, checked)
 

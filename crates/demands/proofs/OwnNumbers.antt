@@ -6,13 +6,13 @@ use mathlib.Core.List.{List, [], _∷_, _++_}
 use Rattle.theory.specs.Rule.{mem, Program, nothing, adjoin, count, exception}
 use Rattle.theory.proofs.Bools.{or-right}
 use Rattle.theory.proofs.Lists.{mem-append, mem-left}
-use Rattle.reader.specs.declared.cursor.Row.{Row}
-use Rattle.reader.specs.declared.cursor.Row.the-variants.{Opening, Body, Order, Steps}
-use Rattle.reader.specs.Question as refusal
-use Rattle.reader.specs.Question.{Question}
-use Rattle.reader.specs.Cursor.{Token, placeQuestions}
+use Rattle.items.specs.declared.cursor.Row.{Row}
+use Rattle.items.specs.declared.cursor.Row.the-variants.{Opening, Body, Order, Steps}
+use Rattle.items.specs.Question as refusal
+use Rattle.items.specs.Question.{Question}
+use Rattle.items.specs.Cursor.{Token, placeQuestions}
 use Rattle.reader.specs.Questions.{programOf, fileQuestions}
-use Rattle.rules.specs.Questions.{namedIn, namesQuestions, listQuestions, orderQuestions, setQuestions, rowQuestions, bufferQuestions, runQuestions, judgeQuestions, checkQuestions, limitQuestions, earlyQuestions, searchQuestions}
+use Rattle.questions.specs.Questions.{namedIn, namesQuestions, listQuestions, orderQuestions, setQuestions, rowQuestions, bufferQuestions, runQuestions, judgeQuestions, checkQuestions, limitQuestions, earlyQuestions, searchQuestions}
 use Rattle.reader.proofs.FileRefusals.{each-append, each-file}
 use Rattle.demands.specs.Calls.{fileNumbers, listNumbers, orderNumbers, setNumbers, rowNumbers, bufferNumbers, limitNumbers, placeNumbers, runNumbers, judgeNumbers, checkNumbers, searchNumbers}
 use Rattle.demands.proofs.RefusesExactly.{Own}

@@ -9,10 +9,10 @@ use mathlib.Core.Option.{Option, none, some, Option·map}
 use lib.Dec.{eqb}
 use lib.ListN.{replicate}
 use Rattle.theory.specs.Rule.{all, mem}
-use Rattle.reader.specs.declared.refusal.Refusal.{Refusal}
-use Rattle.reader.specs.Question as refusal
-use Rattle.reader.specs.Question.{Question, firstNo}
-use Rattle.reader.proofs.RefusalNumbers.{number-above}
+use Rattle.items.specs.declared.refusal.Refusal.{Refusal}
+use Rattle.items.specs.Question as refusal
+use Rattle.items.specs.Question.{Question, firstNo}
+use Rattle.items.proofs.RefusalNumbers.{number-above}
 use Rattle.reader.proofs.FileRefusals.{Each, each-first}
 use Rattle.demands.specs.Calls.{firstNumber, Reply, Call, RefusesExactly}
 

@@ -6,7 +6,7 @@ use mathlib.Core.List.{List}
 use mathlib.Core.Option.{Option, none}
 use lib.ListN.{length, getD, take, drop}
 use lib.Dec.{eqb}
-use Rattle.theory.specs.Rule.{howMany, mem, Program, Bounded, everyRule, count, plain, exception, Step}
+use Rattle.theory.specs.Rule.{howMany, mem, Program, Bounded, inForce, count, plain, exception, Step}
 use Rattle.theory.specs.Run.{Stand, rejected, setAside, factMark, ruleMark, factMarks, ruleMarks}
 use Rattle.theory.specs.Stable.{rowTo}
 use Rattle.theory.specs.Chaining.{Names}
@@ -18,13 +18,13 @@ use Rattle.theory.proofs.Stages.{stands}
 use Rattle.theory.proofs.Rows.{run-proof, run-admits}
 use Rattle.theory.proofs.Chaining.{applicable-eligible, run-chains, chaining-derived, chaining-rejected, chaining-disjoint, chaining-applied, chaining-taken}
 use Rattle.theory.proofs.Marks.{aside-inconsistent}
-use Rattle.reader.specs.declared.refusal.Refusal.{Refusal}
-use Rattle.reader.specs.Item.{stepWidth}
+use Rattle.items.specs.declared.refusal.Refusal.{Refusal}
+use Rattle.items.specs.Item.{stepWidth}
 use Rattle.reader.specs.Questions.{programOf, fileQuestions, fileNo}
 use Rattle.reader.proofs.Accepted.{accepted-file, bounded}
-use Rattle.reader.proofs.FirstNo.{both-yes}
-use Rattle.rules.specs.Questions.{namedIn, orderQuestions, orderNo, rowOf, bufferQuestions, runQuestions, buffersNo, runNo}
-use Rattle.rules.proofs.OperationAsked.{yes-to-order}
+use Rattle.items.proofs.FirstNo.{both-yes}
+use Rattle.questions.specs.Questions.{namedIn, orderQuestions, orderNo, rowOf, bufferQuestions, runQuestions, buffersNo, runNo}
+use Rattle.questions.proofs.OperationAsked.{yes-to-order}
 use Rattle.closure.specs.Steps.{stepBytes}
 use Rattle.run.specs.Outcome.{RunOutcome, runOf, runWritten, runOutcome}
 use Rattle.run.specs.Outcome as run
@@ -63,8 +63,8 @@ module _ (file order facts rules steps : List ℕ) (passed : _≡_ {A = Option R
   pub in-bounds : Bounded P
   in-bounds = bounded (accepted-file file (yeses .0))
 
-  all-named : Names P everyRule names
-  all-named c x _ = yes-to-order (exception P) (count P) order (yeses .1 .0) c (exception-known P everyRule c x) ∙ x
+  all-named : Names P (inForce P) names
+  all-named c x _ = yes-to-order (exception P) (count P) order (yeses .1 .0) c (exception-known P (inForce P) c x) ∙ x
 
   o-is : o ≡ runWritten P s facts rules steps
   o-is = run-written file order facts rules steps passed
@@ -85,7 +85,7 @@ module _ (file order facts rules steps : List ℕ) (passed : _≡_ {A = Option R
   unfolding runWritten
   applied-is = ap (appliedSet file) o-is ∙ read-applied P in-bounds names rules
 
-  pub aside-is : asideSet file o ≡ setAside P everyRule (s .derived)
+  pub aside-is : asideSet file o ≡ setAside P (inForce P) (s .derived)
   unfolding runWritten
   aside-is = ap (asideSet file) o-is ∙ read-aside P in-bounds names rules
 
@@ -100,15 +100,15 @@ module _ (file order facts rules steps : List ℕ) (passed : _≡_ {A = Option R
   unfolding runWritten ruleMark
   other-is c l p a x =
       ap (λ (x : RunOutcome). getD (x .rule-marks) c 0) o-is
-      ∙ (mark-at (ruleMark P everyRule s) (count P) rules c l
-      ∙ other-mark (plain P c) (mem c (s .applied)) (setAside P everyRule (s .derived) c) (rw plain-is at p) (rw applied-is at a) (rw aside-is at x))
+      ∙ (mark-at (ruleMark P (inForce P) s) (count P) rules c l
+      ∙ other-mark (plain P c) (mem c (s .applied)) (setAside P (inForce P) (s .derived) c) (rw plain-is at p) (rw applied-is at a) (rw aside-is at x))
 
   stages-are : run.stages (o .answer) ≡ howMany (λ m. eqb m 1) (take (count P) (o .rule-marks))
   unfolding runWritten
   stages-are =
       rw o-is
-      (sym (run-stages P everyRule names)
-      ∙ ap (howMany (λ m. eqb m 1)) (sym (marks-front (ruleMark P everyRule s) (count P) rules)))
+      (sym (run-stages P (inForce P) names)
+      ∙ ap (howMany (λ m. eqb m 1)) (sym (marks-front (ruleMark P (inForce P) s) (count P) rules)))
 
   stage-count : run.stages (o .answer) ≡ length (s .applied)
   unfolding runWritten
@@ -146,29 +146,29 @@ module _ (file order facts rules steps : List ℕ) (passed : _≡_ {A = Option R
   unfolding runWritten
   rules-stay =
       ap (λ (x : RunOutcome). drop (count P) (x .rule-marks)) o-is
-      ∙ over-kept (ruleMarks P everyRule s) rules (count P) (length-marks (ruleMark P everyRule s) (count P))
+      ∙ over-kept (ruleMarks P (inForce P) s) rules (count P) (length-marks (ruleMark P (inForce P) s) (count P))
 
   pub run-passed : RunIs file order facts rules steps o
   run-passed =
       record {
-        chains = ((λ n. stands P everyRule names n .derived), ((λ n. rejected P (stands P everyRule names n .applied)), run-chains P everyRule names all-named));
-        derived = λ D R c. rw derived-is (chaining-derived P everyRule names D R c);
-        rejections = λ D R c. rw rejected-is (chaining-rejected P everyRule names D R c);
+        chains = ((λ n. stands P (inForce P) names n .derived), ((λ n. rejected P (stands P (inForce P) names n .applied)), run-chains P (inForce P) names all-named));
+        derived = λ D R c. rw derived-is (chaining-derived P (inForce P) names D R c);
+        rejections = λ D R c. rw rejected-is (chaining-rejected P (inForce P) names D R c);
         open-facts = open-is;
-        disjoint = λ D R c. chaining-disjoint P everyRule names D R c;
+        disjoint = λ D R c. chaining-disjoint P (inForce P) names D R c;
         plain-rules = λ c. ap (λ (p : ℕ → Bool). p c) plain-is;
-        applied = λ D R h c. rw applied-is (chaining-applied P everyRule names D R h c);
-        inconsistent = λ c. rw (aside-is, derived-is, rejected-is) (aside-inconsistent P everyRule names all-named c);
+        applied = λ D R h c. rw applied-is (chaining-applied P (inForce P) names D R h c);
+        inconsistent = λ c. rw (aside-is, derived-is, rejected-is) (aside-inconsistent P (inForce P) names all-named c);
         other-rules = other-is;
-        stages-taken = λ D R h n. rw stage-count (chaining-taken P everyRule names D R h n);
+        stages-taken = λ D R h n. rw stage-count (chaining-taken P (inForce P) names D R h n);
         stages = stages-are;
-        none-applicable = λ c a. never (applicable-eligible P everyRule s c (rw (derived-is, rejected-is) at a)) (run-none-eligible P everyRule names all-named c);
-        stable = rw (aside-is, derived-is) (run-stable P everyRule names);
-        whole-stable = λ h. rw derived-is (none-aside-stable P everyRule names (λ i. sym (ap (λ (p : ℕ → Bool). p i) aside-is) ∙ h i));
+        none-applicable = λ c a. never (applicable-eligible P (inForce P) s c (rw (derived-is, rejected-is) at a)) (run-none-eligible P (inForce P) names all-named c);
+        stable = rw (aside-is, derived-is) (run-stable P (inForce P) names);
+        whole-stable = λ h. rw derived-is (none-aside-stable P (inForce P) names (λ i. sym (ap (λ (p : ℕ → Bool). p i) aside-is) ∙ h i));
         step-count = ap length trace-is ∙ sym step-count;
-        step-facts = λ f. rw (trace-is, derived-is) (sym (run-sound P everyRule names .facts f));
-        row-proves = λ f d. rw trace-is (run-proof P everyRule names f (sym (ap (λ (p : ℕ → Bool). p f) derived-is) ∙ d));
-        row-admitted = λ f _. rw (trace-is, derived-is) (run-admits P everyRule names f);
+        step-facts = λ f. rw (trace-is, derived-is) (sym (run-sound P (inForce P) names .facts f));
+        row-proves = λ f d. rw trace-is (run-proof P (inForce P) names f (sym (ap (λ (p : ℕ → Bool). p f) derived-is) ∙ d));
+        row-admitted = λ f _. rw (trace-is, derived-is) (run-admits P (inForce P) names f);
         fact-marks-kept = facts-stay;
         rule-marks-kept = rules-stay;
         steps-kept = steps-stay;

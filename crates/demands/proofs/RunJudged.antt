@@ -5,16 +5,17 @@ use mathlib.Core.Bool.{Bool, true, false, not, cond}
 use mathlib.Core.List.{List, _++_}
 use mathlib.Core.Option.{Option, none}
 use lib.ListN.{length}
-use Rattle.theory.specs.Rule.{Program, everyRule, count, exception}
+use Rattle.theory.specs.Rule.{Program, inForce, count, exception}
 use Rattle.theory.specs.Check.{isStable}
 use Rattle.theory.specs.Stable.{Stable}
 use Rattle.theory.proofs.Stable.{test-of-stable}
 use Rattle.theory.proofs.Run.{run-sound, exception-known}
 use Rattle.theory.proofs.Marks.{aside-supported, aside-exception}
-use Rattle.reader.specs.declared.refusal.Refusal.{Refusal}
+use Rattle.items.specs.declared.refusal.Refusal.{Refusal}
 use Rattle.reader.specs.Questions.{programOf, fileQuestions}
-use Rattle.reader.proofs.FirstNo.{all-yes}
-use Rattle.rules.specs.Questions.{has, namedIn, listQuestions, setQuestions, runNo, judgeQuestions, judgeNo}
+use Rattle.items.proofs.FirstNo.{all-yes}
+use Rattle.items.specs.Item.{has}
+use Rattle.questions.specs.Questions.{namedIn, listQuestions, setQuestions, runNo, judgeQuestions, judgeNo}
 use Rattle.run.specs.Outcome.{RunOutcome, runOf, runOutcome}
 use Rattle.run.specs.Outcome as run
 use Rattle.demands.specs.Results.{derivedSet, asideSet, listed, setOf, RunIs, JudgedStable}
@@ -53,20 +54,20 @@ run-judged file order facts rules steps e =
     within f l = marked-past (P .facts) 1 (o .fact-marks) f l
 
     excepted : (i : ℕ) → asideSet file o i ≡ true → exception P i ≡ true
-    excepted i a = aside-exception P everyRule (runOf file order) (run-sound P everyRule (namedIn order)) i (aside-supported P everyRule (runOf file order .derived) i (rw (aside-is file order facts rules steps ran) at a))
+    excepted i a = aside-exception P (inForce P) (runOf file order) (run-sound P (inForce P) (namedIn order)) i (aside-supported P (inForce P) (runOf file order .derived) i (rw (aside-is file order facts rules steps ran) at a))
 
     passed : _≡_ {A = Option Refusal} (judgeNo file list set) none
     passed =
         all-yes (fileQuestions file) (listQuestions (exception P) list ++ setQuestions (P .facts) set) (yeses file order facts rules steps ran .0)
         (all-yes (listQuestions (exception P) list) (setQuestions (P .facts) set) (listed-yes (count P) (exception P) (asideSet file o) excepted) (set-yes (P .facts) (derivedSet file o)))
 
-    named-back : unlisted list ≡ (λ i. not (asideSet file o i))
-    named-back = ap {B = ℕ → Bool} (λ p i. not (p i)) (listed-back (count P) (asideSet file o) (λ i a. exception-known P everyRule i (excepted i a)))
+    named-back : unlisted P list ≡ (λ i. not (asideSet file o i))
+    named-back = ap {B = ℕ → Bool} (λ p i. not (p i)) (listed-back (count P) (asideSet file o) (λ i a. exception-known P (inForce P) i (excepted i a)))
 
     back : has set ≡ derivedSet file o
     back = set-back (P .facts) (derivedSet file o) within
 
-    stable : isStable P (unlisted list) (has set) ≡ true
+    stable : isStable P (unlisted P list) (has set) ≡ true
     stable =
-        test-of-stable P (unlisted list) (has set) (in-bounds file order facts rules steps ran) (rw back within) .1
+        test-of-stable P (unlisted P list) (has set) (in-bounds file order facts rules steps ran) (rw back within) .1
         (rw (named-back, back) (is .stable))

@@ -7,25 +7,26 @@ use mathlib.Core.List.{List, [], _∷_, _++_, append-assoc}
 use mathlib.Core.Option.{Option, none, some}
 use lib.ListN.{length}
 use lib.Dec.{eqb, leb}
-use Rattle.theory.specs.Rule.{keep, upTo, Program, FactSet, everyRule, nothing, null, count, exception, Alike}
+use Rattle.theory.specs.Rule.{keep, upTo, Program, FactSet, inForce, nothing, null, count, exception, Alike}
 use Rattle.theory.specs.Run.{run, stageCount, stepCount}
 use Rattle.theory.specs.Stable.{orderFor}
 use Rattle.theory.specs.Search.{search}
 use Rattle.theory.proofs.Repeats.{alike-exception, alike-exception-count, alike-constraint-count, alike-run, alike-aside, alike-factMark, alike-factMarks, alike-ruleMarks, alike-isStable, alike-isProof, alike-search, alike-orderFor}
 use Rattle.reader.specs.declared.answer.Accept.the-variants.{Accepted}
-use Rattle.reader.specs.declared.refusal.Refusal.{Refusal}
-use Rattle.reader.specs.declared.refusal.Refusal.the-variants.{FactMarksShort, RuleMarksShort, StepsShort, OrderShort, TooManyConstraints, NoStableSet}
-use Rattle.reader.specs.Question.{Question, ask, firstNo}
-use Rattle.reader.specs.Item.{stepWidth, nameWidth}
-use Rattle.reader.specs.Questions.{programOf, maxGuessed, fileQuestions, fileNo, exceptions, constraintFacts}
+use Rattle.items.specs.declared.refusal.Refusal.{Refusal}
+use Rattle.items.specs.declared.refusal.Refusal.the-variants.{FactMarksShort, RuleMarksShort, StepsShort, OrderShort, TooManyConstraints, NoStableSet}
+use Rattle.items.specs.Question.{Question, ask, firstNo}
+use Rattle.items.specs.Item.{stepWidth, nameWidth, has, maxGuessed}
+use Rattle.reader.specs.Questions.{programOf, fileQuestions, fileNo, exceptions, constraintFacts}
 use Rattle.reader.specs.Accept.{acceptOf}
 use Rattle.reader.proofs.FileAsked.{accepted-answer}
-use Rattle.reader.proofs.FirstNo.{first-yes}
-use Rattle.rules.specs.Answer.{answerOf}
-use Rattle.rules.specs.Questions.{has, rowOf, namedIn, listQuestions, orderQuestions, setQuestions, rowQuestions, askListQuestions, askOrderQuestions, askSetQuestions, askRowQuestions, bufferQuestions, runQuestions, runNo, judgeQuestions, judgeNo, checkQuestions, checkNo, someStable, stableQuestion, limitQuestions, earlyQuestions, searchQuestions, searchNo, each, naming}
+use Rattle.items.proofs.FirstNo.{first-yes}
+use Rattle.questions.specs.Answer.{answerOf}
+use Rattle.questions.specs.Questions.{rowOf, namedIn, listQuestions, orderQuestions, setQuestions, rowQuestions, askListQuestions, askOrderQuestions, askSetQuestions, askRowQuestions, bufferQuestions, runQuestions, runNo, judgeQuestions, judgeNo, checkQuestions, checkNo, someStable, stableQuestion, limitQuestions, earlyQuestions, searchQuestions, searchNo, each, naming}
 use Rattle.closure.specs.Steps.{stepBytes}
 use Rattle.run.specs.declared.answer.Ran.the-variants as ran
-use Rattle.run.specs.Outcome.{RunOutcome, over, runOf, runWritten, runOutcome}
+use Rattle.run.specs.Outcome.{RunOutcome, runOf, runWritten, runOutcome}
+use Rattle.items.specs.Write.{over}
 use Rattle.judge.specs.declared.answer.Judged.{Judged}
 use Rattle.judge.specs.declared.answer.Judged.the-variants as judgement
 use Rattle.judge.specs.Judged.{unlisted, judged}
@@ -75,7 +76,7 @@ module _ (s t : List ℕ) (yes-s : _≡_ {A = Option Refusal} (fileNo s) none) (
 
   same-constraints : constraintFacts P ≡ constraintFacts Q
   unfolding constraintFacts
-  same-constraints = alike-constraint-count a everyRule
+  same-constraints = alike-constraint-count a (inForce P)
 
   same-limits : (order : ℕ) → limitQuestions P order ≡ limitQuestions Q order
   unfolding limitQuestions
@@ -124,14 +125,14 @@ module _ (s t : List ℕ) (yes-s : _≡_ {A = Option Refusal} (fileNo s) none) (
         | none ↦ record {
           answer = ran.Done (stageCount (end i)) (stepCount (end i));
           fact-marks = over (alike-factMarks a (end i) i) facts;
-          rule-marks = over (alike-ruleMarks a everyRule (end i) i) rules;
+          rule-marks = over (alike-ruleMarks a (inForce P) (end i) i) rules;
           steps = over (stepBytes (end i .trace)) steps;
         }
         | some r ↦ record { answer = ran.Refused r; fact-marks = facts; rule-marks = rules; steps = steps }
       ]
     where
       end : runOf s order ≡ runOf t order
-      end = alike-run a everyRule (namedIn order)
+      end = alike-run a (inForce P) (namedIn order)
 
   -- The judge and the proof check.
   judge-asked : (list set : List ℕ) → judgeNo s list set ≡ judgeNo t list set
@@ -144,7 +145,7 @@ module _ (s t : List ℕ) (yes-s : _≡_ {A = Option Refusal} (fileNo s) none) (
   unfolding judged
   same-judge list set i =
       elim (judge-asked list set i) as (λ _. Judged) [
-        | none ↦ cond (alike-isStable a (unlisted list) (has set) i) judgement.Stable judgement.NotStable
+        | none ↦ cond (alike-isStable a (unlisted P list) (has set) i) judgement.Stable judgement.NotStable
         | some r ↦ judgement.Refused r
       ]
 
@@ -158,18 +159,18 @@ module _ (s t : List ℕ) (yes-s : _≡_ {A = Option Refusal} (fileNo s) none) (
   unfolding checked
   same-check set fact row i =
       elim (check-asked set fact row i) as (λ _. Checked) [
-        | none ↦ cond (alike-isProof a everyRule (has set) (rowOf row) fact i) checking.Yes checking.No
+        | none ↦ cond (alike-isProof a (inForce P) (has set) (rowOf row) fact i) checking.Yes checking.No
         | some r ↦ checking.Refused r
       ]
 
   -- The search.
   same-stable : someStable P ≡ someStable Q
   unfolding someStable
-  same-stable i = elim (alike-search a everyRule i) as (λ _. Bool) [ some M ↦ true | none ↦ false ]
+  same-stable i = elim (alike-search a (inForce P) i) as (λ _. Bool) [ some M ↦ true | none ↦ false ]
 
   same-taken : takenSet P ≡ takenSet Q
   unfolding takenSet
-  same-taken i = elim (alike-search a everyRule i) as (λ _. FactSet) [ some M ↦ M | none ↦ nothing ]
+  same-taken i = elim (alike-search a (inForce P) i) as (λ _. FactSet) [ some M ↦ M | none ↦ nothing ]
 
   later : Program → ℕ → ℕ → ℕ → ℕ → List Question
   later R facts rules steps order =
@@ -188,11 +189,11 @@ module _ (s t : List ℕ) (yes-s : _≡_ {A = Option Refusal} (fileNo s) none) (
       ∙ sym (ap firstNo (append-assoc (fileQuestions t) (bufferQuestions Q facts rules steps ++ limitQuestions Q order) (stableQuestion Q ∷ []))))
 
   -- the order for the set that is taken, and the run under it
-  same-written : orderFor P everyRule (takenSet P) ≡ orderFor Q everyRule (takenSet Q)
-  same-written i = alike-orderFor a everyRule (same-taken i) i
+  same-written : orderFor P (inForce P) (takenSet P) ≡ orderFor Q (inForce Q) (takenSet Q)
+  same-written i = alike-orderFor a (inForce P) (same-taken i) i
 
-  same-end : run P everyRule (orderFor P everyRule (takenSet P)) ≡ run Q everyRule (orderFor Q everyRule (takenSet Q))
-  same-end i = alike-run a everyRule (same-written i) i
+  same-end : run P (inForce P) (orderFor P (inForce P) (takenSet P)) ≡ run Q (inForce Q) (orderFor Q (inForce Q) (takenSet Q))
+  same-end i = alike-run a (inForce P) (same-written i) i
 
   same-search : (facts rules steps order : List ℕ) → searchOutcome s facts rules steps order ≡ searchOutcome t facts rules steps order
   unfolding searchOutcome searchWritten
@@ -201,7 +202,7 @@ module _ (s t : List ℕ) (yes-s : _≡_ {A = Option Refusal} (fileNo s) none) (
         | none ↦ record {
           answer = searched.Found (stageCount (same-end i)) (stepCount (same-end i));
           fact-marks = over (alike-factMarks a (same-end i) i) facts;
-          rule-marks = over (alike-ruleMarks a everyRule (same-end i) i) rules;
+          rule-marks = over (alike-ruleMarks a (inForce P) (same-end i) i) rules;
           steps = over (stepBytes (same-end i .trace)) steps;
           order = over (naming (same-written i)) order;
         }
@@ -209,20 +210,20 @@ module _ (s t : List ℕ) (yes-s : _≡_ {A = Option Refusal} (fileNo s) none) (
       ]
 
   -- The panel's text.
-  text-of : (u : List ℕ) → _≡_ {A = Option Refusal} (fileNo u) none → panelText u ≡ runText (programOf u) (run (programOf u) everyRule (ascending (programOf u)))
+  text-of : (u : List ℕ) → _≡_ {A = Option Refusal} (fileNo u) none → panelText u ≡ runText (programOf u) (run (programOf u) (inForce (programOf u)) (ascending (programOf u)))
   unfolding panelText
   text-of u e = rw (e, panelText)
 
-  same-ascending : run P everyRule (ascending P) ≡ run Q everyRule (ascending Q)
-  same-ascending i = alike-run a everyRule (keep (alike-exception a i) (upTo (a .same-count i))) i
+  same-ascending : run P (inForce P) (ascending P) ≡ run Q (inForce Q) (ascending Q)
+  same-ascending i = alike-run a (inForce P) (keep (alike-exception a i) (upTo (a .same-count i))) i
 
-  same-rejected : rejectedFacts P (run P everyRule (ascending P)) ≡ rejectedFacts Q (run Q everyRule (ascending Q))
+  same-rejected : rejectedFacts P (run P (inForce P) (ascending P)) ≡ rejectedFacts Q (run Q (inForce Q) (ascending Q))
   same-rejected i = keep (λ f. eqb (alike-factMark a i (same-ascending i) f) 2) (upTo (a .same-facts i))
 
-  same-aside : asideRules P (run P everyRule (ascending P)) ≡ asideRules Q (run Q everyRule (ascending Q))
-  same-aside i = keep (alike-aside a everyRule i (same-ascending i .derived)) (upTo (a .same-count i))
+  same-aside : asideRules P (run P (inForce P) (ascending P)) ≡ asideRules Q (run Q (inForce Q) (ascending Q))
+  same-aside i = keep (alike-aside a (inForce P) i (same-ascending i .derived)) (upTo (a .same-count i))
 
-  same-lines : runText P (run P everyRule (ascending P)) ≡ runText Q (run Q everyRule (ascending Q))
+  same-lines : runText P (run P (inForce P) (ascending P)) ≡ runText Q (run Q (inForce Q) (ascending Q))
   unfolding runText
   same-lines i =
       headLine (a .same-facts i) (a .same-count i) (stageCount (same-ascending i))

@@ -7,7 +7,7 @@ use mathlib.Core.Option.{Option, none, some}
 use lib.ListN.{length, take, drop}
 use lib.Seq.{take-at}
 use lib.Dec.{eqb}
-use Rattle.theory.specs.Rule.{howMany, Program, FactSet, Bounded, everyRule, count, Step}
+use Rattle.theory.specs.Rule.{howMany, Program, FactSet, Bounded, inForce, count, Step}
 use Rattle.theory.specs.Run.{Stand, run, factMark, ruleMark, factMarks, ruleMarks}
 use Rattle.theory.specs.Stable.{rowTo, Earliest, anySet, orderFor}
 use Rattle.theory.specs.Search.{search}
@@ -15,14 +15,14 @@ use Rattle.theory.proofs.Bools.{never}
 use Rattle.theory.proofs.Search.{search-earliest}
 use Rattle.theory.proofs.Order.{order-none-aside}
 use Rattle.theory.proofs.Counts.{run-stages}
-use Rattle.reader.specs.declared.refusal.Refusal.{Refusal}
-use Rattle.reader.specs.declared.refusal.Refusal.the-variants.{NoStableSet}
-use Rattle.reader.specs.Item.{nameWidth, stepWidth}
+use Rattle.items.specs.declared.refusal.Refusal.{Refusal}
+use Rattle.items.specs.declared.refusal.Refusal.the-variants.{NoStableSet}
+use Rattle.items.specs.Item.{nameWidth, stepWidth, marked}
 use Rattle.reader.specs.Questions.{programOf, fileQuestions, fileNo, exceptions}
 use Rattle.reader.proofs.Accepted.{accepted-file, bounded, all-asked}
-use Rattle.reader.proofs.FirstNo.{both-yes}
-use Rattle.rules.specs.Questions.{namedIn, rowOf, bufferQuestions, buffersNo, marked, someStable, stableQuestion, limitQuestions, earlyQuestions, searchQuestions, searchNo, naming}
-use Rattle.rules.proofs.Orders.{naming-names}
+use Rattle.items.proofs.FirstNo.{both-yes}
+use Rattle.questions.specs.Questions.{namedIn, rowOf, bufferQuestions, buffersNo, someStable, stableQuestion, limitQuestions, earlyQuestions, searchQuestions, searchNo, naming}
+use Rattle.questions.proofs.Orders.{naming-names}
 use Rattle.closure.specs.Steps.{stepBytes}
 use Rattle.run.specs.Outcome.{RunOutcome, runWritten, runOutcome}
 use Rattle.run.specs.Outcome as running
@@ -32,17 +32,17 @@ use Rattle.run.proofs.ReadMarks.{length-marks, marks-front, read-derived, read-
 use Rattle.run.proofs.ReadSteps.{steps-front, row-front}
 use Rattle.search.specs.Outcome.{SearchOutcome, searchWritten, foundAt, takenSet, searchOutcome}
 use Rattle.search.specs.Outcome as searching
-use Rattle.search.proofs.OrderGroups.{order-width}
+use Rattle.orders.proofs.OrderGroups.{order-width}
 use Rattle.demands.proofs.Outcomes.{search-found, search-answered}
 use Rattle.demands.proofs.LeadsTo.{reaches, rows-read, rows-prove, ran, leads-to}
 
 -- Where question 41 gets yes, the set that is taken is the earliest.
-taken-earliest : (P : Program) → Bounded P → someStable P ≡ true → Earliest P everyRule anySet (takenSet P)
+taken-earliest : (P : Program) → Bounded P → someStable P ≡ true → Earliest P (inForce P) anySet (takenSet P)
 unfolding someStable takenSet
-taken-earliest P b t = go (search P everyRule) refl
+taken-earliest P b t = go (search P (inForce P)) refl
   where
-    go : (found : Option FactSet) → search P everyRule ≡ found → Earliest P everyRule anySet (takenSet P)
-    go (some M) e = rw (e, takenSet) (search-earliest P everyRule b M e)
+    go : (found : Option FactSet) → search P (inForce P) ≡ found → Earliest P (inForce P) anySet (takenSet P)
+    go (some M) e = rw (e, takenSet) (search-earliest P (inForce P) b M e)
     go none e = never t (rw (e, someStable))
 
 module _ (file facts rules steps order : List ℕ) (passed : _≡_ {A = Option Refusal} (searchNo file (length facts) (length rules) (length steps) (length order)) none) where
@@ -53,10 +53,10 @@ module _ (file facts rules steps order : List ℕ) (passed : _≡_ {A = Option R
   M = takenSet P
 
   abbrev row : List ℕ
-  row = orderFor P everyRule M
+  row = orderFor P (inForce P) M
 
   abbrev s : Stand
-  s = run P everyRule row
+  s = run P (inForce P) row
 
   abbrev o : SearchOutcome
   o = searchOutcome file facts rules steps order
@@ -72,7 +72,7 @@ module _ (file facts rules steps order : List ℕ) (passed : _≡_ {A = Option R
   in-bounds : Bounded P
   in-bounds = bounded (accepted-file file (yeses .0))
 
-  earliest : Earliest P everyRule anySet M
+  earliest : Earliest P (inForce P) anySet M
   earliest = taken-earliest P in-bounds (yeses .1 .1)
 
   o-is : o ≡ foundAt P M facts rules steps order
@@ -114,7 +114,7 @@ module _ (file facts rules steps order : List ℕ) (passed : _≡_ {A = Option R
     agrees =
         record {
           fact-marks = ap (λ (x : RunOutcome). take (P .facts) (x .fact-marks)) ran-so ∙ (marks-front (factMark P s) (P .facts) facts′ ∙ sym (ap (λ (x : SearchOutcome). take (P .facts) (x .fact-marks)) o-is ∙ marks-front (factMark P s) (P .facts) facts));
-          rule-marks = ap (λ (x : RunOutcome). take (count P) (x .rule-marks)) ran-so ∙ (marks-front (ruleMark P everyRule s) (count P) rules′ ∙ sym (ap (λ (x : SearchOutcome). take (count P) (x .rule-marks)) o-is ∙ marks-front (ruleMark P everyRule s) (count P) rules));
+          rule-marks = ap (λ (x : RunOutcome). take (count P) (x .rule-marks)) ran-so ∙ (marks-front (ruleMark P (inForce P) s) (count P) rules′ ∙ sym (ap (λ (x : SearchOutcome). take (count P) (x .rule-marks)) o-is ∙ marks-front (ruleMark P (inForce P) s) (count P) rules));
           steps = ap stepRow ran-so ∙ (steps-front (s .trace) steps′ ∙ sym steps-are);
           stage-count = ap (λ (x : RunOutcome). running.stages (x .answer)) ran-so ∙ sym (ap (λ (x : SearchOutcome). searching.stages (x .answer)) o-is);
           step-count = ap (λ (x : RunOutcome). running.steps (x .answer)) ran-so ∙ sym (ap (λ (x : SearchOutcome). searching.steps (x .answer)) o-is);
@@ -129,17 +129,17 @@ module _ (file facts rules steps order : List ℕ) (passed : _≡_ {A = Option R
       record {
         earliest = rw set-is earliest;
         leads = rw (set-is, bytes-are) (leads-to file (yeses .0) M (earliest .stable));
-        order-is = ap namedIn bytes-are ∙ (naming-names row ∙ ap (orderFor P everyRule) (sym set-is));
+        order-is = ap namedIn bytes-are ∙ (naming-names row ∙ ap (orderFor P (inForce P)) (sym set-is));
         same-result = agrees;
         same-fact-marks = ap (λ (x : RunOutcome). x .fact-marks) same-bytes ∙ sym (ap (λ (x : SearchOutcome). x .fact-marks) o-is);
         same-rule-marks = ap (λ (x : RunOutcome). x .rule-marks) same-bytes ∙ sym (ap (λ (x : SearchOutcome). x .rule-marks) o-is);
         same-steps = ap (λ (x : RunOutcome). x .steps) same-bytes ∙ sym (ap (λ (x : SearchOutcome). x .steps) o-is);
-        none-aside = λ i. ap (λ (x : SearchOutcome). marked (count P) 2 (x .rule-marks) i) o-is ∙ (ap (λ (p : ℕ → Bool). p i) (read-aside P in-bounds row rules) ∙ order-none-aside P everyRule M (earliest .stable) i);
-        stages = rw o-is (sym (run-stages P everyRule row) ∙ ap (howMany (λ m. eqb m 1)) (sym (marks-front (ruleMark P everyRule s) (count P) rules)));
+        none-aside = λ i. ap (λ (x : SearchOutcome). marked (count P) 2 (x .rule-marks) i) o-is ∙ (ap (λ (p : ℕ → Bool). p i) (read-aside P in-bounds row rules) ∙ order-none-aside P (inForce P) M (earliest .stable) i);
+        stages = rw o-is (sym (run-stages P (inForce P) row) ∙ ap (howMany (λ m. eqb m 1)) (sym (marks-front (ruleMark P (inForce P) s) (count P) rules)));
         rows-are = λ f. rows-read file (yeses .0) M (earliest .stable) (λ g. writtenProof g o) row-is f ∙ ap (rowTo f) (sym trace-is);
         rows-prove = rw set-is (rows-prove file (yeses .0) M (earliest .stable) (λ g. writtenProof g o) row-is);
         fact-marks-kept = ap (λ (x : SearchOutcome). drop (P .facts) (x .fact-marks)) o-is ∙ over-kept (factMarks P s) facts (P .facts) (length-marks (factMark P s) (P .facts));
-        rule-marks-kept = ap (λ (x : SearchOutcome). drop (count P) (x .rule-marks)) o-is ∙ over-kept (ruleMarks P everyRule s) rules (count P) (length-marks (ruleMark P everyRule s) (count P));
+        rule-marks-kept = ap (λ (x : SearchOutcome). drop (count P) (x .rule-marks)) o-is ∙ over-kept (ruleMarks P (inForce P) s) rules (count P) (length-marks (ruleMark P (inForce P) s) (count P));
         steps-kept = rw o-is (over-kept (stepBytes (s .trace)) steps (stepWidth * length (s .trace)) (step-bytes-length (s .trace)));
         order-kept = ap (λ (x : SearchOutcome). drop (nameWidth * exceptions P) (x .order)) o-is ∙ over-kept (naming row) order (nameWidth * exceptions P) (order-width P M);
       }

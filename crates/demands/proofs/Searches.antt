@@ -10,16 +10,16 @@ use mathlib.Core.Option.{Option, none, some}
 use borrow.Author.Tests.{le-leb, leb-true, leb-false}
 use lib.ListN.{length}
 use lib.Dec.{leb}
-use Rattle.theory.specs.Rule.{Program, FactSet, everyRule, count}
+use Rattle.theory.specs.Rule.{Program, FactSet, inForce, count}
 use Rattle.theory.specs.Stable.{Stable}
 use Rattle.theory.proofs.Bools.{never}
-use Rattle.reader.specs.declared.refusal.Refusal.{Refusal}
-use Rattle.reader.specs.declared.refusal.Refusal.the-variants.{TooManyConstraints, NoStableSet}
-use Rattle.reader.specs.Question.{firstNo}
-use Rattle.reader.specs.Item.{nameWidth, stepWidth}
+use Rattle.items.specs.declared.refusal.Refusal.{Refusal}
+use Rattle.items.specs.declared.refusal.Refusal.the-variants.{TooManyConstraints, NoStableSet}
+use Rattle.items.specs.Question.{firstNo}
+use Rattle.items.specs.Item.{nameWidth, stepWidth}
 use Rattle.reader.specs.Questions.{programOf, fileQuestions, fileNo, exceptions, constraintFacts}
-use Rattle.reader.proofs.FirstNo.{first-no, first-yes}
-use Rattle.rules.specs.Questions.{bufferQuestions, buffersNo, guessedQuestion, someStable, stableQuestion, limitQuestions, earlyQuestions, searchQuestions, earlyNo, searchNo}
+use Rattle.items.proofs.FirstNo.{first-no, first-yes}
+use Rattle.questions.specs.Questions.{bufferQuestions, buffersNo, guessedQuestion, someStable, stableQuestion, limitQuestions, earlyQuestions, searchQuestions, earlyNo, searchNo}
 use Rattle.search.specs.Outcome.{SearchOutcome, searchWritten, searchOutcome}
 use Rattle.search.specs.Outcome as searching
 use Rattle.search.proofs.SearchMeaning.{stable-asked}
@@ -89,7 +89,7 @@ module _ (file facts rules steps order : List ℕ) where
               }
           go false e =
               let n : searching.number (o .answer) ≡ 41 = no-refused e in
-              let none-stable : (M : FactSet) → Stable P everyRule M → ⊥ = λ M m. never (stable-asked file accepted .1 (M, m)) e in
+              let none-stable : (M : FactSet) → Stable P (inForce P) M → ⊥ = λ M m. never (stable-asked file accepted .1 (M, m)) e in
               record {
                 none-exactly = (λ _. none-stable, λ _. n);
                 else-found = λ M m. absurd (none-stable M m);

@@ -13,9 +13,10 @@ use lib.Dec.{eqb, leb}
 use Rattle.theory.specs.Rule.{mem, keep, upTo}
 use Rattle.theory.proofs.Bools.{and-right}
 use Rattle.theory.proofs.Lists.{all-of, mem-keep, upTo-mem}
-use Rattle.reader.specs.declared.refusal.Refusal.{Refusal}
-use Rattle.rules.specs.Questions.{has, namedIn, zeroOrOne, setQuestions, setNo, listNo}
-use Rattle.rules.proofs.Orders.{naming-names, list-yes, keep-once}
+use Rattle.items.specs.declared.refusal.Refusal.{Refusal}
+use Rattle.items.specs.Item.{has}
+use Rattle.questions.specs.Questions.{namedIn, zeroOrOne, setQuestions, setNo, listNo}
+use Rattle.questions.proofs.Orders.{naming-names, list-yes, keep-once}
 use Rattle.run.proofs.ReadMarks.{getD-range, length-marks}
 use Rattle.demands.specs.Results.{listed, setOf}
 

@@ -4,17 +4,17 @@ use Prim.Native.Nat.{ℕ}
 use native.Mathlib.Omega.{arith}
 use mathlib.Core.Path.{_≡_, refl, sym, _∙_, ap, subst}
 use mathlib.Core.List.{List, [], _∷_}
-use Rattle.theory.specs.Rule.{FactSet, everyRule, plain, exception, constraintFact, plainRules}
+use Rattle.theory.specs.Rule.{FactSet, inForce, plain, exception, constraintFact, plainRules}
 use Rattle.theory.specs.Derive.{fired, derive, steps}
 use Rattle.theory.specs.Check.{isStable, leastOf, stepHolds, isProof}
 use Rattle.theory.specs.Stable.{Stable, reduct, Earliest, anySet, orderFor}
 use Rattle.theory.specs.Search.{guessed, fits, search}
 use Rattle.theory.specs.Run.{rejected, spares, eligible, run, setAside, factMark, ruleMark}
-use Rattle.reader.specs.Item.{bodyLength, itemOf}
-use Rattle.reader.specs.Cursor.{front, itemsAt}
+use Rattle.items.specs.Item.{bodyLength, itemOf, has, marked}
+use Rattle.items.specs.Cursor.{front, itemsAt}
 use Rattle.reader.specs.Questions.{programOf, fileQuestions, exceptions, constraintFacts}
-use Rattle.rules.specs.Questions.{has, listQuestions, orderQuestions, setQuestions, rowQuestions, bufferQuestions, runQuestions, marked, judgeQuestions, checkQuestions, someStable, limitQuestions, earlyQuestions, searchQuestions, naming}
-use Rattle.rules.proofs.Orders.{naming-names}
+use Rattle.questions.specs.Questions.{listQuestions, orderQuestions, setQuestions, rowQuestions, bufferQuestions, runQuestions, judgeQuestions, checkQuestions, someStable, limitQuestions, earlyQuestions, searchQuestions, naming}
+use Rattle.questions.proofs.Orders.{naming-names}
 use Rattle.run.specs.Outcome.{runWritten, runOutcome}
 use Rattle.run.specs.Outcome as running
 use Rattle.run.proofs.ReadMarks.{marked-past}
@@ -54,7 +54,7 @@ not-stable-so file rs set e = record { says = e; is-not = not-so }
   where
     not-so : Stable (programOf file) (less rs) (has set) → ⊥
     not-so m =
-        let listed : Stable (programOf file) (judge.unlisted (naming rs)) (has set) = subst (λ (named : List ℕ). Stable (programOf file) (less named) (has set)) (sym (naming-names rs)) m in
+        let listed : Stable (programOf file) (judge.unlisted (programOf file) (naming rs)) (has set) = subst (λ (named : List ℕ). Stable (programOf file) (less named) (has set)) (sym (naming-names rs)) m in
         let one : judge.verdict (judged file (naming rs) set) ≡ 1 = judged-means file (naming rs) set .stable-exactly (ap judge.number e) .1 listed in
         let zero : judge.verdict (judged file (naming rs) set) ≡ 0 = ap judge.verdict e in
         omega arith
@@ -67,12 +67,12 @@ proof-so file set fact row e =
 taken-so : (file : List ℕ) → searching.number (searches file .answer) ≡ 0 → SearchIs file (factRoom file) (ruleRoom file) (stepRoom file) (orderRoom file) (searches file)
 taken-so file e = search-is file (factRoom file) (ruleRoom file) (stepRoom file) (orderRoom file) e
 
-earliest-so : (file set : List ℕ) → setOf (programOf file .facts) (foundSet file (searches file)) ≡ set → searching.number (searches file .answer) ≡ 0 → Earliest (programOf file) everyRule anySet (has set)
+earliest-so : (file set : List ℕ) → setOf (programOf file .facts) (foundSet file (searches file)) ≡ set → searching.number (searches file .answer) ≡ 0 → Earliest (programOf file) (inForce (programOf file)) anySet (has set)
 earliest-so file set r e =
     let back : has set ≡ foundSet file (searches file) = ap has (sym r) ∙ set-back (programOf file .facts) (foundSet file (searches file)) (marked-past (programOf file .facts) 1 (searches file .fact-marks)) in
     rw back (taken-so file e .earliest)
 
-none-so : (file : List ℕ) → searching.number (searches file .answer) ≡ 41 → (M : FactSet) → Stable (programOf file) everyRule M → ⊥
+none-so : (file : List ℕ) → searching.number (searches file .answer) ≡ 41 → (M : FactSet) → Stable (programOf file) (inForce (programOf file)) M → ⊥
 none-so file e = searched-means file (factRoom file) (ruleRoom file) (stepRoom file) (orderRoom file) .none-stable e
 
 pub starred : Starred

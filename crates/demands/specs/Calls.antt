@@ -8,18 +8,18 @@ use mathlib.Core.Logic.{_↔_}
 use mathlib.Core.Option.{Option, none, some, Option·map}
 use lib.Dec.{eqb}
 use Rattle.theory.specs.Rule.{all, mem}
-use Rattle.reader.specs.Question.{Question, firstNo}
+use Rattle.items.specs.Question.{Question, firstNo}
 use lib.ListN.{length, drop}
-use Rattle.reader.specs.declared.refusal.Refusal.{Refusal}
-use Rattle.reader.specs.declared.cursor.Row.{Row}
-use Rattle.reader.specs.declared.cursor.Row.the-variants.{Opening, Body, Order, Steps}
-use Rattle.reader.specs.declared.cursor.Cursor.{Cursor}
-use Rattle.reader.specs.declared.cursor.Read.the-variants.{Ended, Refused}
-use Rattle.reader.specs.Cursor.{front, placeQuestions, nextAt}
+use Rattle.items.specs.declared.refusal.Refusal.{Refusal}
+use Rattle.items.specs.declared.cursor.Row.{Row}
+use Rattle.items.specs.declared.cursor.Row.the-variants.{Opening, Body, Order, Steps}
+use Rattle.items.specs.declared.cursor.Cursor.{Cursor}
+use Rattle.items.specs.declared.cursor.Read.the-variants.{Ended, Refused}
+use Rattle.items.specs.Cursor.{front, placeQuestions, nextAt}
 use Rattle.reader.specs.Questions.{fileQuestions}
 use Rattle.reader.specs.Accept.{acceptOf}
-use Rattle.rules.specs.Questions.{askListQuestions, askOrderQuestions, askSetQuestions, askRowQuestions, runQuestions, judgeQuestions, checkQuestions, searchQuestions}
-use Rattle.rules.specs.Answer.{answerOf}
+use Rattle.questions.specs.Questions.{askListQuestions, askOrderQuestions, askSetQuestions, askRowQuestions, runQuestions, judgeQuestions, checkQuestions, searchQuestions}
+use Rattle.questions.specs.Answer.{answerOf}
 use Rattle.run.specs.Outcome.{runOutcome}
 use Rattle.judge.specs.Judged.{judged}
 use Rattle.proofcheck.specs.Checked.{checked}
@@ -28,10 +28,10 @@ use Rattle.panel_text.specs.Text.{panelText, shown}
 use Rattle.retention.specs.declared.reply.FileReply.{FileReply}
 use Rattle.retention.specs.declared.reply.Verdict.{Verdict}
 use Rattle.retention.specs.Reply.{fileOf, verdictOfJudged, verdictOfChecked, RunReply, runReply, SearchReply, searchReply}
-use Rattle.reader.specs.Question as refusal
-use Rattle.reader.specs.Cursor as read
+use Rattle.items.specs.Question as refusal
+use Rattle.items.specs.Cursor as read
 use Rattle.reader.specs.Accept as accepted
-use Rattle.rules.specs.Answer as answer
+use Rattle.questions.specs.Answer as answer
 use Rattle.run.specs.Outcome as ran
 use Rattle.judge.specs.Judged as judgement
 use Rattle.proofcheck.specs.Checked as checking

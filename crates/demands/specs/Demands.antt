@@ -6,11 +6,12 @@ use mathlib.Core.Bool.{not}
 use mathlib.Core.List.{List}
 use mathlib.Core.Logic.{_↔_}
 use mathlib.Core.Option.{none, some}
-use Rattle.theory.specs.Rule.{mem, FactSet, everyRule, Alike}
+use Rattle.theory.specs.Rule.{mem, FactSet, inForce, Alike}
 use Rattle.theory.specs.Stable.{Stable, Proof, Admits, orderFor}
-use Rattle.reader.specs.declared.cursor.Cursor.{Cursor}
+use Rattle.items.specs.declared.cursor.Cursor.{Cursor}
 use Rattle.reader.specs.Questions.{programOf, fileQuestions, fileNo}
-use Rattle.rules.specs.Questions.{has, namedIn, rowOf, naming}
+use Rattle.items.specs.Item.{has}
+use Rattle.questions.specs.Questions.{namedIn, rowOf, naming}
 use Rattle.run.specs.Outcome.{runOutcome}
 use Rattle.run.specs.Outcome as running
 use Rattle.judge.specs.Judged.{judged}
@@ -53,7 +54,7 @@ pub record Demand2 : Type 0 where
   pub run : (file order facts rules steps : List ℕ) → running.number (runOutcome file order facts rules steps .answer) ≡ 0 → RunIs file order facts rules steps (runOutcome file order facts rules steps)
   pub run-judged : (file order facts rules steps : List ℕ) → running.number (runOutcome file order facts rules steps .answer) ≡ 0 → JudgedStable file (runOutcome file order facts rules steps)
   pub judge : (file list set : List ℕ) → judging.number (judged file list set) ≡ 0 → (judging.verdict (judged file list set) ≡ 1) ↔ Stable (programOf file) (λ i. not (mem i (namedIn list))) (has set)
-  pub check : (file set : List ℕ) (fact : ℕ) (row : List ℕ) → checking.number (checked file set fact row) ≡ 0 → (checking.verdict (checked file set fact row) ≡ 1) ↔ (Proof (programOf file) everyRule (rowOf row) fact × Admits (programOf file) (has set) (rowOf row))
+  pub check : (file set : List ℕ) (fact : ℕ) (row : List ℕ) → checking.number (checked file set fact row) ≡ 0 → (checking.verdict (checked file set fact row) ≡ 1) ↔ (Proof (programOf file) (inForce (programOf file)) (rowOf row) fact × Admits (programOf file) (has set) (rowOf row))
   -- Repeats within a rule change nothing.
   pub repeats : (s t : List ℕ) → fileNo s ≡ none → fileNo t ≡ none → Alike (programOf s) (programOf t) → SameReplies s t
 
@@ -63,7 +64,7 @@ pub record Demand3 : Type 0 where
   pub search : (file facts rules steps order : List ℕ) → Searchable file facts rules steps order → Searches file facts rules steps order (searchOutcome file facts rules steps order)
   -- Whatever it is handed: a result is one, and 41 says that no set is stable.
   pub found : (file facts rules steps order : List ℕ) → searching.number (searchOutcome file facts rules steps order .answer) ≡ 0 → SearchIs file facts rules steps order (searchOutcome file facts rules steps order)
-  pub said-none : (file facts rules steps order : List ℕ) → searching.number (searchOutcome file facts rules steps order .answer) ≡ 41 → (M : FactSet) → Stable (programOf file) everyRule M → ⊥
+  pub said-none : (file facts rules steps order : List ℕ) → searching.number (searchOutcome file facts rules steps order .answer) ≡ 41 → (M : FactSet) → Stable (programOf file) (inForce (programOf file)) M → ⊥
   pub forty : (file facts rules steps order : List ℕ) → fileNo file ≡ none → LargeEnough file facts rules steps order → FortyExactly file (searchOutcome file facts rules steps order)
   -- Some order leads to every stable set, not only to the earliest.
-  pub every-stable : (file : List ℕ) → fileNo file ≡ none → (M : FactSet) → Stable (programOf file) everyRule M → LeadsTo file (naming (orderFor (programOf file) everyRule M)) M
+  pub every-stable : (file : List ℕ) → fileNo file ≡ none → (M : FactSet) → Stable (programOf file) (inForce (programOf file)) M → LeadsTo file (naming (orderFor (programOf file) (inForce (programOf file)) M)) M

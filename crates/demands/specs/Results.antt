@@ -3,10 +3,10 @@
 use Prim.Native.Nat.{ℕ, _*_, _<_, _≤_}
 use mathlib.Core.Bool.{Bool, cond, true, false, not}
 use mathlib.Core.List.{List, map}
-use Rattle.theory.specs.Rule.{keep, upTo, howMany, FactSet, count, everyRule, plain, exception, Step}
-use Rattle.rules.specs.Questions.{naming, marked, namedIn, orderNo, rowOf, buffersNo, askListQuestions, askOrderQuestions, askSetQuestions, askRowQuestions}
+use Rattle.theory.specs.Rule.{keep, upTo, howMany, FactSet, count, inForce, plain, exception, Step}
+use Rattle.items.specs.Item.{marked, stepWidth, nameWidth}
+use Rattle.questions.specs.Questions.{naming, namedIn, orderNo, rowOf, buffersNo, askListQuestions, askOrderQuestions, askSetQuestions, askRowQuestions}
 use lib.ListN.{take, length, getD, drop}
-use Rattle.reader.specs.Item.{stepWidth, nameWidth}
 use Rattle.reader.specs.Questions.{programOf, fileNo, exceptions, constraintFacts}
 use Rattle.run.specs.Outcome.{RunOutcome, runOutcome}
 use mathlib.Core.Path.{_≡_}
@@ -19,9 +19,9 @@ use mathlib.Core.Option.{none}
 use Rattle.proofcheck.specs.declared.answer.Checked.the-variants.{Yes}
 use Rattle.proofcheck.specs.Checked.{checked}
 use Rattle.search.specs.Outcome.{SearchOutcome, searchOutcome}
-use Rattle.reader.specs.Question.{firstNo}
+use Rattle.items.specs.Question.{firstNo}
 use Rattle.reader.specs.Accept.{acceptOf}
-use Rattle.rules.specs.Answer.{answerOf}
+use Rattle.questions.specs.Answer.{answerOf}
 use Rattle.panel_text.specs.Text.{panelText, shown}
 use Rattle.retention.specs.Reply.{fileOf, verdictOfJudged, verdictOfChecked, runReply, searchReply}
 use Rattle.run.specs.Outcome as run
@@ -62,11 +62,11 @@ stepRow o = take (stepWidth * run.steps (o .answer)) (o .steps)
 
 -- D and R chain along the order (definition 3.1), for the rules of the file.
 abbrev pub ChainsAlong : List ℕ → List ℕ → (ℕ → FactSet) → (ℕ → FactSet) → Type 0
-ChainsAlong file order D R = Chaining (programOf file) everyRule (namedIn order) D R
+ChainsAlong file order D R = Chaining (programOf file) (inForce (programOf file)) (namedIn order) D R
 
 -- Rule c is the one that is taken at stage n.
 abbrev pub TakenAt : List ℕ → List ℕ → (ℕ → FactSet) → (ℕ → FactSet) → ℕ → ℕ → Type 0
-TakenAt file order D R n c = First (programOf file) everyRule (namedIn order) (D n) (R n) c
+TakenAt file order D R n c = First (programOf file) (inForce (programOf file)) (namedIn order) (D n) (R n) c
 
 -- The steps that a run wrote, and of them those from the first up to the fact's own.
 abbrev pub takenSteps : RunOutcome → List Step
@@ -90,21 +90,21 @@ pub record RunIs (file order facts rules steps : List ℕ) (o : RunOutcome) : Ty
   -- .. mark 1 on those that are taken at some stage, ..
   pub applied : (D R : ℕ → FactSet) → ChainsAlong file order D R → (c : ℕ) → (appliedSet file o c ≡ true) ↔ ((n : ℕ) × TakenAt file order D R n c)
   -- .. mark 2 on the inconsistent clauses (clause 5), and mark 3 on all others.
-  pub inconsistent : (c : ℕ) → (asideSet file o c ≡ true) ↔ Inconsistent (programOf file) everyRule (derivedSet file o) (rejectedSet file o) c
+  pub inconsistent : (c : ℕ) → (asideSet file o c ≡ true) ↔ Inconsistent (programOf file) (inForce (programOf file)) (derivedSet file o) (rejectedSet file o) c
   pub other-rules : (c : ℕ) → c < count (programOf file) → plainSet file o c ≡ false → appliedSet file o c ≡ false → asideSet file o c ≡ false → getD (o .rule-marks) c 0 ≡ 3
   -- A rule is taken at each stage that is counted, and at none after these; the stage count is the number of rule marks 1.
   pub stages-taken : (D R : ℕ → FactSet) → ChainsAlong file order D R → (n : ℕ) → (n < run.stages (o .answer)) ↔ ((c : ℕ) × TakenAt file order D R n c)
   pub stages : run.stages (o .answer) ≡ howMany (λ m. eqb m 1) (take (count (programOf file)) (o .rule-marks))
   -- No applicable rule is left.
-  pub none-applicable : (c : ℕ) → Applicable (programOf file) everyRule (derivedSet file o) (rejectedSet file o) c → ⊥
+  pub none-applicable : (c : ℕ) → Applicable (programOf file) (inForce (programOf file)) (derivedSet file o) (rejectedSet file o) c → ⊥
   -- Theorem 3.3: the facts with mark 1 are stable for the file less the rules with mark 2; where no rule has mark 2, for the whole file.
   pub stable : Stable (programOf file) (λ i. not (asideSet file o i)) (derivedSet file o)
-  pub whole-stable : ((i : ℕ) → asideSet file o i ≡ false) → Stable (programOf file) everyRule (derivedSet file o)
+  pub whole-stable : ((i : ℕ) → asideSet file o i ≡ false) → Stable (programOf file) (inForce (programOf file)) (derivedSet file o)
   -- The steps are as many as counted, and their facts are those with mark 1.
   pub step-count : length (takenSteps o) ≡ run.steps (o .answer)
   pub step-facts : (f : ℕ) → factsOf (takenSteps o) f ≡ derivedSet file o f
   -- For each fact with mark 1 the steps up to its own are a proof of it that D admits.
-  pub row-proves : (f : ℕ) → derivedSet file o f ≡ true → Proof (programOf file) everyRule (stepsUpTo f o) f
+  pub row-proves : (f : ℕ) → derivedSet file o f ≡ true → Proof (programOf file) (inForce (programOf file)) (stepsUpTo f o) f
   pub row-admitted : (f : ℕ) → derivedSet file o f ≡ true → Admits (programOf file) (derivedSet file o) (stepsUpTo f o)
   -- Past what is written each buffer keeps its contents.
   pub fact-marks-kept : drop (programOf file .facts) (o .fact-marks) ≡ drop (programOf file .facts) facts
@@ -126,7 +126,7 @@ setBytes file M = setOf (programOf file .facts) M
 
 -- Each fact of M has a row of bytes that is a proof of it, that M admits, and to which the check says yes.
 pub record RowsProve (file : List ℕ) (M : FactSet) (row : ℕ → List ℕ) : Type 0 where
-  pub proves : (f : ℕ) → M f ≡ true → Proof (programOf file) everyRule (rowOf (row f)) f
+  pub proves : (f : ℕ) → M f ≡ true → Proof (programOf file) (inForce (programOf file)) (rowOf (row f)) f
   pub admitted : (f : ℕ) → M f ≡ true → Admits (programOf file) M (rowOf (row f))
   pub says-yes : (f : ℕ) → M f ≡ true → checked file (setBytes file M) f (row f) ≡ Yes
 
@@ -152,7 +152,7 @@ pub record LeadsTo (file order : List ℕ) (M : FactSet) : Type 0 where
   -- In any buffers that suffice for it, the run under the order ends at M.
   pub run-ends : (facts rules steps : List ℕ) → buffersNo (programOf file) (length facts) (length rules) (length steps) ≡ none → EndsAt file M (runOutcome file order facts rules steps)
   -- No fact outside has any proof that M admits, and whatever row is handed to the check, it does not say yes.
-  pub outside-unproved : (f : ℕ) → M f ≡ false → (row : List Step) → Proof (programOf file) everyRule row f → Admits (programOf file) M row → ⊥
+  pub outside-unproved : (f : ℕ) → M f ≡ false → (row : List Step) → Proof (programOf file) (inForce (programOf file)) row f → Admits (programOf file) M row → ⊥
   pub outside-unchecked : (f : ℕ) → M f ≡ false → (row : List ℕ) → check.verdict (checked file (setBytes file M) f row) ≡ 0
 
 -- the set that a search found: the facts with mark 1
@@ -184,11 +184,11 @@ pub record SameResult (file : List ℕ) (o : SearchOutcome) (r : RunOutcome) : T
 -- The buffers are those lent, before the search.
 pub record SearchIs (file facts rules steps order : List ℕ) (o : SearchOutcome) : Type 0 where
   -- It gives the earliest stable set: every other one has the highest-numbered constraint fact on which the two differ.
-  pub earliest : Earliest (programOf file) everyRule anySet (foundSet file o)
+  pub earliest : Earliest (programOf file) (inForce (programOf file)) anySet (foundSet file o)
   -- The order that it writes leads to that set: ..
   pub leads : LeadsTo file (writtenOrder file o) (foundSet file o)
   -- .. ascending, the exception rules with premises in the set and no constraint in it, then the others ascending.
-  pub order-is : namedIn (writtenOrder file o) ≡ orderFor (programOf file) everyRule (foundSet file o)
+  pub order-is : namedIn (writtenOrder file o) ≡ orderFor (programOf file) (inForce (programOf file)) (foundSet file o)
   -- The run under that order gives the same marks, steps and counts, in any buffers that suffice for it; ..
   pub same-result : (facts′ rules′ steps′ : List ℕ) → buffersNo (programOf file) (length facts′) (length rules′) (length steps′) ≡ none → SameResult file o (runOutcome file (writtenOrder file o) facts′ rules′ steps′)
   -- .. in the buffers that the search was lent, byte for byte.
@@ -225,9 +225,9 @@ pub record Searchable (file facts rules steps order : List ℕ) : Type 0 where
 -- What the search answers there.
 pub record Searches (file facts rules steps order : List ℕ) (o : SearchOutcome) : Type 0 where
   -- 41 exactly when no set is stable, ..
-  pub none-exactly : (search.number (o .answer) ≡ 41) ↔ ((M : FactSet) → Stable (programOf file) everyRule M → ⊥)
+  pub none-exactly : (search.number (o .answer) ≡ 41) ↔ ((M : FactSet) → Stable (programOf file) (inForce (programOf file)) M → ⊥)
   -- .. else a result, and nothing else.
-  pub else-found : (M : FactSet) → Stable (programOf file) everyRule M → search.number (o .answer) ≡ 0
+  pub else-found : (M : FactSet) → Stable (programOf file) (inForce (programOf file)) M → search.number (o .answer) ≡ 0
   pub found : search.number (o .answer) ≡ 0 → SearchIs file facts rules steps order o
   pub one-or-other : (search.number (o .answer) ≡ 0) ⊎ (search.number (o .answer) ≡ 41)
 

@@ -4,12 +4,12 @@ use mathlib.Core.Path.{_≡_}
 use mathlib.Core.Bool.{not}
 use mathlib.Core.List.{List, [], _∷_}
 use lib.ListN.{replicate}
-use Rattle.theory.specs.Rule.{mem, Mask, FactSet, everyRule, count}
+use Rattle.theory.specs.Rule.{mem, Mask, FactSet, inForce, count}
 use Rattle.theory.specs.Stable.{Stable, Proof, Admits, Earliest, anySet}
-use Rattle.reader.specs.declared.refusal.Refusal.the-variants.{NoStableSet}
-use Rattle.reader.specs.Item.{nameWidth, stepWidth}
+use Rattle.items.specs.declared.refusal.Refusal.the-variants.{NoStableSet}
+use Rattle.items.specs.Item.{nameWidth, stepWidth, has}
 use Rattle.reader.specs.Questions.{programOf, exceptions}
-use Rattle.rules.specs.Questions.{has, rowOf, naming}
+use Rattle.questions.specs.Questions.{rowOf, naming}
 use Rattle.run.specs.declared.answer.Ran.the-variants.{Done}
 use Rattle.run.specs.Outcome.{RunOutcome, runOutcome}
 use Rattle.judge.specs.declared.answer.Judged.the-variants as judgement
@@ -66,21 +66,21 @@ pub record IsNotStable (file rs set : List ℕ) : Type 0 where
 -- A row of steps is a proof of a fact that a set admits, and the check says yes.
 pub record IsProof (file set : List ℕ) (fact : ℕ) (row : List ℕ) : Type 0 where
   pub says : checked file set fact row ≡ checking.Yes
-  pub proves : Proof (programOf file) everyRule (rowOf row) fact
+  pub proves : Proof (programOf file) (inForce (programOf file)) (rowOf row) fact
   pub admitted : Admits (programOf file) (has set) (rowOf row)
 
 -- The search of a file answers and leaves this. The set that a caller reads from it is the earliest stable set.
 pub record SearchTakes (file set : List ℕ) (o : SearchOutcome) : Type 0 where
   pub leaves : searches file ≡ o
   pub reads : setOf (programOf file .facts) (foundSet file (searches file)) ≡ set
-  pub earliest : Earliest (programOf file) everyRule anySet (has set)
+  pub earliest : Earliest (programOf file) (inForce (programOf file)) anySet (has set)
   pub is : SearchIs file (factRoom file) (ruleRoom file) (stepRoom file) (orderRoom file) (searches file)
 
 -- The search says 41 and leaves every byte as it was. No set is stable.
 pub record SearchTakesNone (file : List ℕ) : Type 0 where
   pub leaves : searches file ≡ refusedWith NoStableSet (factRoom file) (ruleRoom file) (stepRoom file) (orderRoom file)
   pub number : searching.number (searches file .answer) ≡ 41
-  pub none-stable : (M : FactSet) → Stable (programOf file) everyRule M → ⊥
+  pub none-stable : (M : FactSet) → Stable (programOf file) (inForce (programOf file)) M → ⊥
 
 pub record Starred : Type 0 where
   -- A, order 1 2. Its facts are a stable set.

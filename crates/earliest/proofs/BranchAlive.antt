@@ -10,19 +10,19 @@ use borrow.Author.Tests.{eqb-true}
 use lib.Dec.{eqb}
 use lib.ListN.{length, getD, take, drop, replicate, take-append-drop}
 use lib.Seq.{take-length}
-use Rattle.theory.specs.Rule.{all, mem, Program, FactSet, everyRule, adjoin, Bounded}
+use Rattle.theory.specs.Rule.{all, mem, Program, FactSet, inForce, adjoin, Bounded, count}
 use Rattle.theory.specs.Check.{leastOf}
 use Rattle.theory.specs.Search.{guessed}
 use Rattle.theory.specs.Bounds.{undecided, alive}
 use Rattle.theory.proofs.Bools.{never, and-true, or-none, or-right, or-cases, or-false, false-of}
 use Rattle.theory.proofs.Lists.{all-ext, all-of, all-append, mem-here}
 use Rattle.theory.proofs.Run.{NoRepeat}
-use Rattle.theory.proofs.Stable.{leastOf-agrees}
+use Rattle.theory.proofs.Stable.{leastOf-agrees, leastOf-mask}
 use Rattle.theory.proofs.Search.{constraint-guessed}
-use Rattle.reader.specs.Item.{maxFacts}
-use Rattle.rules.specs.Questions.{has}
-use Rattle.rules.proofs.Sets.{unmarked}
-use Rattle.literals.specs.Literal.{outside, literals}
+use Rattle.items.specs.Item.{maxFacts, has}
+use Rattle.tables.proofs.MarksPainted.{unmarked}
+use Rattle.index.specs.Literal.{outside, literals}
+use Rattle.index.specs.Cells.{onIn}
 use Rattle.propagation.specs.State.{Settled, HeldToo, notHeldOut}
 use Rattle.propagation.proofs.Least.{settled-least}
 use Rattle.earliest.specs.Branch.{heldIn, Branch}
@@ -43,40 +43,41 @@ in-joins false false true q = refl
 
 module _ (P : Program) (b : Bounded P) (few : P .facts ≤ maxFacts) where
   -- The marks show the least set of the reduct by a set that agrees with the facts held out.
-  settled-set : (marks missing : List ℕ) (G : FactSet) → Settled P marks missing → ((k : ℕ) → mem k (guessed P everyRule) ≡ true → notHeldOut (has marks) k ≡ G k) → (f : ℕ) → f < maxFacts → has marks f ≡ leastOf P everyRule G f
-  settled-set marks missing G s a f h =
-      settled-least P marks missing s f h
-      ∙ ap (λ (S : FactSet). S f) (leastOf-agrees P everyRule (notHeldOut (has marks)) G (λ k c. a k (constraint-guessed P everyRule b k c)))
+  settled-set : (R marks missing : List ℕ) (G : FactSet) → ((i : ℕ) → i < count P → onIn R i ≡ inForce P i) → Settled P (onIn R) marks missing → ((k : ℕ) → mem k (guessed P (inForce P)) ≡ true → notHeldOut (has marks) k ≡ G k) → (f : ℕ) → f < maxFacts → has marks f ≡ leastOf P (inForce P) G f
+  settled-set R marks missing G on s a f h =
+      settled-least P (onIn R) marks missing s f h
+      ∙ ap (λ (S : FactSet). S f) (leastOf-mask P (onIn R) (inForce P) on (notHeldOut (has marks)))
+      ∙ ap (λ (S : FactSet). S f) (leastOf-agrees P (inForce P) (notHeldOut (has marks)) G (λ k c. a k (constraint-guessed P (inForce P) b k c)))
 
   -- Of the facts to guess, the first n are decided.
-  module _ (row : List ℕ) (is : row ≡ guessed P everyRule) (n : ℕ) where
+  module _ (row : List ℕ) (is : row ≡ guessed P (inForce P)) (n : ℕ) where
     once : NoRepeat row
     once = rw is (guessed-once P)
 
-    in-either : {A : Type 0} (k : ℕ) → mem k (guessed P everyRule) ≡ true → (mem k (take n row) ≡ true → mem k (drop n row) ≡ false → A) → (mem k (drop n row) ≡ true → mem k (take n row) ≡ false → A) → A
+    in-either : {A : Type 0} (k : ℕ) → mem k (guessed P (inForce P)) ≡ true → (mem k (take n row) ≡ true → mem k (drop n row) ≡ false → A) → (mem k (drop n row) ≡ true → mem k (take n row) ≡ false → A) → A
     in-either k m first rest =
         ⊎-elim (λ t. first t (apart row n k once t)) (λ t. rest t (apart-back row n k once t))
         (or-cases (mem k (take n row)) (mem k (drop n row)) (sym (in-parts row n k) ∙ ap (mem k) is ∙ m))
 
     -- With all the others held out too, the marks show the most that can be derived.
-    most-of : (low high missing : List ℕ) → Settled P high missing → HeldToo low (drop n (take (length row) row)) high → (f : ℕ) → f < maxFacts → has high f ≡ leastOf P everyRule (heldIn row n low) f
-    most-of low high missing s held = settled-set high missing (heldIn row n low) s agree
+    most-of : (R low high missing : List ℕ) → ((i : ℕ) → i < count P → onIn R i ≡ inForce P i) → Settled P (onIn R) high missing → HeldToo low (drop n (take (length row) row)) high → (f : ℕ) → f < maxFacts → has high f ≡ leastOf P (inForce P) (heldIn row n low) f
+    most-of R low high missing on s held = settled-set R high missing (heldIn row n low) on s agree
       where
         also : (k : ℕ) → has high (outside k) ≡ has low (outside k) || mem k (drop n row)
         also k = held k ∙ ap (λ (r : List ℕ). has low (outside k) || mem k (drop n r)) (take-length row)
 
-        agree : (k : ℕ) → mem k (guessed P everyRule) ≡ true → notHeldOut (has high) k ≡ heldIn row n low k
+        agree : (k : ℕ) → mem k (guessed P (inForce P)) ≡ true → notHeldOut (has high) k ≡ heldIn row n low k
         agree k m =
             in-either k m
             (λ t u. rw (also k, t, u, or-none (has low (outside k))) refl)
             (λ t u. rw (also k, t, u, or-right (has low (outside k)) true refl) refl)
 
-  module _ {row : List ℕ} {n : ℕ} {low missing high : List ℕ} (w : Branch P row n low missing high) where
+  module _ {R row : List ℕ} {n : ℕ} {low missing high : List ℕ} (w : Branch P R row n low missing high) where
     -- what is derived whatever the others turn out to be
-    low-set : (f : ℕ) → f < maxFacts → has low f ≡ leastOf P everyRule (undecided (drop n row) (heldIn row n low)) f
-    low-set = settled-set low missing (undecided (drop n row) (heldIn row n low)) (w .settled) agree
+    low-set : (f : ℕ) → f < maxFacts → has low f ≡ leastOf P (inForce P) (undecided (drop n row) (heldIn row n low)) f
+    low-set = settled-set R low missing (undecided (drop n row) (heldIn row n low)) (w .in-force) (w .settled) agree
       where
-        agree : (k : ℕ) → mem k (guessed P everyRule) ≡ true → notHeldOut (has low) k ≡ undecided (drop n row) (heldIn row n low) k
+        agree : (k : ℕ) → mem k (guessed P (inForce P)) ≡ true → notHeldOut (has low) k ≡ undecided (drop n row) (heldIn row n low) k
         agree k m =
             in-either row (w .guesses) n k m
             (λ t u. rw (t, u) (sym (or-none (not (has low (outside k))))))
@@ -87,9 +88,9 @@ module _ (P : Program) (b : Bounded P) (few : P .facts ≤ maxFacts) where
     Alive k = cond (has low (outside k)) (not (has low k)) (has high k)
 
     abbrev Test : ℕ → Bool
-    Test k = cond (heldIn row n low k) (leastOf P everyRule (heldIn row n low) k) (mem k (drop n row) || not (leastOf P everyRule (undecided (drop n row) (heldIn row n low)) k))
+    Test k = cond (heldIn row n low k) (leastOf P (inForce P) (heldIn row n low) k) (mem k (drop n row) || not (leastOf P (inForce P) (undecided (drop n row) (heldIn row n low)) k))
 
-    pub alive-is : all Alive (take n row) ≡ alive P everyRule (drop n row) (heldIn row n low)
+    pub alive-is : all Alive (take n row) ≡ alive P (inForce P) (drop n row) (heldIn row n low)
     unfolding alive
     alive-is =
         decided
@@ -134,7 +135,7 @@ module _ (P : Program) (b : Bounded P) (few : P .facts ≤ maxFacts) where
       still-left k m = ap (mem k) (next-in row n h) ∙ or-right (eqb k next) (mem k (drop (n + 1) row)) m
 
       -- It is held out: what is held in stays.
-      module _ (low′ missing′ : List ℕ) (s : Settled P low′ missing′) (held : HeldToo low (drop n (take (n + 1) row)) low′) where
+      module _ (low′ missing′ : List ℕ) (s : Settled P (onIn R) low′ missing′) (held : HeldToo low (drop n (take (n + 1) row)) low′) where
         one-more : (k : ℕ) → has low′ (outside k) ≡ has low (outside k) || eqb k next
         one-more k =
             held k
@@ -155,14 +156,15 @@ module _ (P : Program) (b : Bounded P) (few : P .facts ≤ maxFacts) where
             false-of (eqb k next)
             (λ e. never (take-next row n h k ∙ or-right (mem k (take n row)) (eqb k next) e) (apart-back row (n + 1) k row-once m))
 
-        pub out-branch : Branch P row (n + 1) low′ missing′ high
+        pub out-branch : Branch P R row (n + 1) low′ missing′ high
         out-branch =
             record {
               guesses = w .guesses;
               reached = omega (arith, h);
+              in-force = w .in-force;
               settled = s;
               undecided-free = λ k m. one-more k ∙ or-false (has low (outside k)) (eqb k next) (w .undecided-free k (still-left k m)) (not-next k m);
-              most = λ f l. w .most f l ∙ ap (λ (G : FactSet). leastOf P everyRule G f) (sym held-in-out);
+              most = λ f l. w .most f l ∙ ap (λ (G : FactSet). leastOf P (inForce P) G f) (sym held-in-out);
             }
 
       -- It is held in: it joins the others.
@@ -175,24 +177,26 @@ module _ (P : Program) (b : Bounded P) (few : P .facts ≤ maxFacts) where
       pub held-in-too : heldIn row (n + 1) low ≡ adjoin (heldIn row n low) next
       held-in-too = fun-ext same-too
 
-      pub in-branch : (high′ missing′ : List ℕ) → Settled P high′ missing′ → HeldToo low (drop (n + 1) (take (length row) row)) high′ → Branch P row (n + 1) low missing high′
+      pub in-branch : (high′ missing′ : List ℕ) → Settled P (onIn R) high′ missing′ → HeldToo low (drop (n + 1) (take (length row) row)) high′ → Branch P R row (n + 1) low missing high′
       in-branch high′ missing′ s held =
           record {
             guesses = w .guesses;
             reached = omega (arith, h);
+            in-force = w .in-force;
             settled = w .settled;
             undecided-free = λ k m. w .undecided-free k (still-left k m);
-            most = most-of row (w .guesses) (n + 1) low high′ missing′ s held;
+            most = most-of row (w .guesses) (n + 1) R low high′ missing′ (w .in-force) s held;
           }
 
   -- Nothing is decided at first.
-  module _ (row low missing high left : List ℕ) (is : row ≡ guessed P everyRule) (s : Settled P low missing) (none-held : HeldToo (replicate literals 0) [] low) where
-    pub first-branch : Settled P high left → HeldToo low (drop 0 (take (length row) row)) high → Branch P row 0 low missing high
+  module _ (R row low missing high left : List ℕ) (is : row ≡ guessed P (inForce P)) (on : (i : ℕ) → i < count P → onIn R i ≡ inForce P i) (s : Settled P (onIn R) low missing) (none-held : HeldToo (replicate literals 0) [] low) where
+    pub first-branch : Settled P (onIn R) high left → HeldToo low (drop 0 (take (length row) row)) high → Branch P R row 0 low missing high
     first-branch t held =
         record {
           guesses = is;
           reached = omega arith;
+          in-force = on;
           settled = s;
           undecided-free = λ k m. none-held k ∙ or-none (has (replicate literals 0) (outside k)) ∙ ap (λ (g : ℕ → Bool). g (outside k)) (unmarked literals);
-          most = most-of row is 0 low high left t held;
+          most = most-of row is 0 R low high left on t held;
         }

@@ -11,13 +11,11 @@ use borrow.Author.Tests.{eqb-true, eqb-false, ne-eqb, ltb-true}
 use lib.Dec.{eqb, ltb}
 use lib.ListN.{length, getD, set, take, drop, length-set, drop-of-length-le}
 use lib.Seq.{take-suc-set, getD-set-same, getD-set-other, drop-cons, getD-take, length-take-le}
-use Rattle.reader.specs.Questions.{maxGuessed}
+use Rattle.items.specs.Item.{maxGuessed, maxFacts, has}
 use Rattle.theory.specs.Rule.{all, keep, howMany, range, downFrom, upTo}
 use Rattle.theory.proofs.Bools.{either}
 use Rattle.theory.proofs.Lists.{howMany-append, less-one, all-elem, getD-mem}
-use Rattle.reader.specs.Item.{maxFacts}
-use Rattle.rules.specs.Questions.{has}
-use Rattle.literals.specs.Literal.{outside}
+use Rattle.index.specs.Literal.{outside}
 use Rattle.earliest.specs.Branch.{Kept}
 
 module _ (marks : List ℕ) (k : ℕ) where

@@ -9,7 +9,7 @@ use mathlib.Core.Logic.{⊎-elim}
 use lib.Dec.{eqb}
 use lib.ListN.{length, getD, take, drop, take-append-drop}
 use lib.Seq.{take-suc, drop-cons}
-use Rattle.theory.specs.Rule.{mem, keep, downFrom, Program, everyRule, constraintFact}
+use Rattle.theory.specs.Rule.{mem, keep, downFrom, Program, inForce, constraintFact}
 use Rattle.theory.specs.Search.{guessed}
 use Rattle.theory.proofs.Bools.{never, and-left, false-of, or-none}
 use Rattle.theory.proofs.Lists.{mem-append, mem-cases, mem-there, mem-keep, mem-downFrom}
@@ -28,14 +28,14 @@ down-once p (suc n) = go (p n) (down-once p n)
     go true r = (later, r)
     go false r = r
 
-pub guessed-once : (P : Program) → NoRepeat (guessed P everyRule)
+pub guessed-once : (P : Program) → NoRepeat (guessed P (inForce P))
 unfolding guessed
-guessed-once P = down-once (constraintFact P everyRule) (P .facts)
+guessed-once P = down-once (constraintFact P (inForce P)) (P .facts)
 
-pub guessed-below : (P : Program) (k : ℕ) → mem k (guessed P everyRule) ≡ true → k < P .facts
+pub guessed-below : (P : Program) (k : ℕ) → mem k (guessed P (inForce P)) ≡ true → k < P .facts
 unfolding guessed
 guessed-below P k m =
-    mem-downFrom (P .facts) k (and-left (mem k (downFrom (P .facts))) (constraintFact P everyRule k) (rw (mem-keep (constraintFact P everyRule) (downFrom (P .facts)) k) at m))
+    mem-downFrom (P .facts) k (and-left (mem k (downFrom (P .facts))) (constraintFact P (inForce P) k) (rw (mem-keep (constraintFact P (inForce P)) (downFrom (P .facts)) k) at m))
 
 later-in : (xs : List ℕ) (n x : ℕ) → mem x (drop n xs) ≡ true → mem x xs ≡ true
 later-in xs zero x t = t

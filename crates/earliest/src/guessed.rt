@@ -2,11 +2,9 @@
 ghost use Prim.Native.Nat.{_≤_};
 ghost use mathlib.Core.Path.{_≡_};
 ghost use lib.ListN.{length, take};
-ghost use Rattle.reader.specs.Questions.{maxGuessed};
+ghost use Rattle.items.specs.Item.{maxGuessed, maxFacts, has};
 ghost use Rattle.theory.specs.Rule.{howMany, keep, upTo, downFrom};
-ghost use Rattle.reader.specs.Item.{maxFacts};
-ghost use Rattle.rules.specs.Questions.{has};
-use reader::rules::MAX_FACTS;
+use items::item::MAX_FACTS;
 
 // The most constraint facts that are guessed.
 pub const MAX_GUESSED: usize = 16;

@@ -5,20 +5,20 @@ ghost use mathlib.Core.Bool.{true, cond, not};
 ghost use mathlib.Core.Option.{Option·map};
 ghost use lib.Dec.{ltb};
 ghost use lib.ListN.{length, take, drop};
-ghost use Rattle.theory.specs.Rule.{all, everyRule};
+ghost use Rattle.theory.specs.Rule.{all, inForce};
 ghost use Rattle.theory.specs.Check.{leastOf};
 ghost use Rattle.theory.specs.Bounds.{huntAlive};
-ghost use Rattle.reader.specs.Item.{maxFacts};
-ghost use Rattle.reader.specs.Questions.{programOf};
-ghost use Rattle.rules.specs.Questions.{has};
-ghost use Rattle.literals.specs.Literal.{outside};
+ghost use Rattle.items.specs.Item.{maxFacts, has};
+ghost use Rattle.tables.specs.Layout.{programIn};
+ghost use Rattle.index.specs.Literal.{outside};
 ghost use Rattle.propagation.specs.State.{Ready};
 ghost use Rattle.earliest.specs.Branch.{heldIn, Branch, Shown, Kept};
-use literals::tables::LITERALS;
-use literals::tables::SLOTS;
+use index::cells::INDEX_CELLS;
+use index::cells::LITERALS;
+use items::item::MAX_FACTS;
+use items::item::MAX_RULES;
 use propagation::hold::hold_out;
-use reader::rules::MAX_FACTS;
-use rules::index::MAX_RULES;
+use tables::layout::TABLE_CELLS;
 
 // A fact held out is not derived already, or a fact held in can still be derived.
 fn stands(low: &[u8; LITERALS], high: &[u8; LITERALS], fact: usize) -> bool
@@ -63,11 +63,8 @@ fn keep_facts(marks: &[u8; LITERALS], found: &mut [u8; MAX_FACTS])
 // is derived from the facts held out, with what each rule then misses, and `high` what is derived if all that are not decided are held out too.
 // A fact held out changes only the first, and a fact held in only the second.
 pub fn hunt(
-    file: &[u8],
-    starts: &[u16; MAX_RULES],
-    heads: &[u16; LITERALS],
-    links: &[u16; SLOTS],
-    owners: &[u16; SLOTS],
+    tables: &[u16; TABLE_CELLS],
+    index: &[u16; INDEX_CELLS],
     row: &[u16],
     decided: usize,
     low: &[u8; LITERALS],
@@ -75,10 +72,10 @@ pub fn hunt(
     high: &[u8; LITERALS],
     found: &mut [u8; MAX_FACTS],
 ) -> bool
-    requires { ⌜ Ready (now file) (now starts) (now heads) (now links) (now owners) ⌝ }
-    requires { ⌜ Branch (programOf (now file)) (now row) decided (now low) (now missing) (now high) ⌝ }
+    requires { ⌜ Ready (now tables) (now index) ⌝ }
+    requires { ⌜ Branch (programIn (now tables)) (now index) (now row) decided (now low) (now missing) (now high) ⌝ }
     requires { ⌜ length (now found) ≡ maxFacts ⌝ }
-    ensures { λ r. ⌜ Shown (Option·map (leastOf (programOf (now (file .entry))) everyRule) (huntAlive (programOf (now (file .entry))) everyRule (drop decided (now (row .entry))) (heldIn (now (row .entry)) decided (now (low .entry))))) r (now (found .exit)) ⌝ }
+    ensures { λ r. ⌜ Shown (Option·map (leastOf (programIn (now (tables .entry))) (inForce (programIn (now (tables .entry))))) (huntAlive (programIn (now (tables .entry))) (inForce (programIn (now (tables .entry)))) (drop decided (now (row .entry))) (heldIn (now (row .entry)) decided (now (low .entry))))) r (now (found .exit)) ⌝ }
     ensures { λ _. ⌜ length (now (found .exit)) ≡ maxFacts ⌝ }
 {
     if !is_alive(row, decided, low, high) {
@@ -88,60 +85,15 @@ pub fn hunt(
         keep_facts(high, found);
         return true;
     }
+    let next = decided + 1;
     let mut marks = *low;
     let mut left = *missing;
-    hold_out(
-        file,
-        starts,
-        heads,
-        links,
-        owners,
-        row,
-        decided,
-        decided + 1,
-        &mut marks,
-        &mut left,
-    );
-    if hunt(
-        file,
-        starts,
-        heads,
-        links,
-        owners,
-        row,
-        decided + 1,
-        &marks,
-        &left,
-        high,
-        found,
-    ) {
+    hold_out(tables, index, row, decided, next, &mut marks, &mut left);
+    if hunt(tables, index, row, next, &marks, &left, high, found) {
         return true;
     }
     let mut most = *low;
     let mut rest = *missing;
-    hold_out(
-        file,
-        starts,
-        heads,
-        links,
-        owners,
-        row,
-        decided + 1,
-        row.len(),
-        &mut most,
-        &mut rest,
-    );
-    hunt(
-        file,
-        starts,
-        heads,
-        links,
-        owners,
-        row,
-        decided + 1,
-        low,
-        missing,
-        &most,
-        found,
-    )
+    hold_out(tables, index, row, next, row.len(), &mut most, &mut rest);
+    hunt(tables, index, row, next, low, missing, &most, found)
 }

@@ -1,50 +1,45 @@
--- The least set of a mask on scratch memory, and the test of stability.
-use Prim.Native.Nat.{ℕ, _*_, _≤_, _<_}
-use mathlib.Core.Path.{_≡_, sym, ap, ap₂, _∙_}
-use mathlib.Core.Bool.{not, Bool·beq}
-use mathlib.Core.List.{List}
+-- With the facts held out that are not in a set, what is derived is the least set of its reduct.
+use Prim.Native.Nat.{ℕ, _≤_, _<_}
+use mathlib.Core.Path.{_≡_, refl, ap, ap₂, _∙_}
+use mathlib.Core.Bool.{Bool, true, false, not, _&&_, _||_, Bool·beq}
+use mathlib.Core.List.{List, []}
 use native.Mathlib.Omega.{arith}
-use lib.ListN.{length, replicate, length-replicate}
-use Rattle.theory.specs.Rule.{all, upTo, Program, Mask, FactSet, nothing, count}
-use Rattle.theory.specs.Derive.{derive}
+use lib.ListN.{replicate}
+use Rattle.theory.specs.Rule.{all, mem, keep, upTo, Program, Mask, FactSet, Bounded, count}
 use Rattle.theory.specs.Check.{leastOf, isStable}
-use Rattle.theory.specs.Stable.{reduct}
-use Rattle.theory.proofs.Lists.{howMany-le, length-range}
-use Rattle.theory.proofs.Derive.{derive-least}
-use Rattle.theory.proofs.Stable.{least-mask, leastOf-same}
-use Rattle.reader.specs.Item.{maxFacts, stepWidth}
-use Rattle.reader.specs.Questions.{programOf}
-use Rattle.reader.specs.Rules.{paint}
-use Rattle.reader.proofs.EachKind.{Bytes}
-use Rattle.rules.specs.Questions.{has}
-use Rattle.closure.specs.Known.{Known, Room}
-use Rattle.closure.proofs.Ready.{facts-bounded, facts-few}
-use Rattle.closure.proofs.Deriving.{has-derived}
+use Rattle.theory.proofs.Bools.{or-none}
+use Rattle.theory.proofs.Lists.{all-ext, mem-keep, mem-upTo, upTo-mem}
+use Rattle.theory.proofs.Stable.{constraint-below, leastOf-agrees, leastOf-mask}
+use Rattle.items.specs.Item.{maxFacts, has}
+use Rattle.tables.proofs.MarksPainted.{unmarked}
+use Rattle.index.specs.Literal.{outside, literals}
+use Rattle.index.specs.Cells.{onIn}
+use Rattle.propagation.specs.State.{notHeldOut, Settled, HeldToo}
+use Rattle.propagation.proofs.Least.{settled-least}
 
--- Deriving into a table with a place for each fact.
-module _ {file starts : List ℕ} {rules : ℕ} (k : Known file starts rules) (b : Bytes file) (table : List ℕ) (full : length table ≡ maxFacts) where
-  fits : programOf file .facts ≤ length table
-  fits = omega (arith, facts-few k b)
+module _ (P : Program) (b : Bounded P) (few : P .facts ≤ maxFacts) (R set first marks missing : List ℕ) (s : Settled P (onIn R) marks missing) (none : HeldToo (replicate literals 0) [] first) (held : HeldToo first (keep (λ k. not (has set k)) (upTo (P .facts))) marks) where
+  none-out : (k : ℕ) → has first (outside k) ≡ false
+  none-out k = none k ∙ or-none (has (replicate literals 0) (outside k)) ∙ ap (λ (p : ℕ → Bool). p (outside k)) (unmarked literals)
 
-  pub least-room : Room file table (replicate (maxFacts * stepWidth) 0) 0
-  least-room =
-      record {
-        facts = fits;
-        steps-left = rw (length-replicate {A = ℕ} (maxFacts * stepWidth) 0) (omega (arith, facts-few k b, howMany-le (λ f. not (has table f)) (upTo (programOf file .facts)), length-range 0 (programOf file .facts)));
-      }
+  held-out : (k : ℕ) → k < P .facts → notHeldOut (has marks) k ≡ has set k
+  held-out k h =
+      ap not
+      (held k
+      ∙ ap₂ (λ (x y : Bool). x || y) (none-out k) (mem-keep (λ f. not (has set f)) (upTo (P .facts)) k ∙ ap (λ (x : Bool). x && not (has set k)) (upTo-mem (P .facts) k h)))
+      ∙ twice (has set k)
+    where
+      twice : (x : Bool) → not (not x) ≡ x
+      twice true = refl
+      twice false = refl
 
-  pub least-made : (on : Mask) (out : List ℕ) → out ≡ paint (derive (programOf file) on (has table)) table → has table ≡ nothing → has out ≡ derive (programOf file) on nothing
-  least-made on out e empty =
-      ap has e ∙ has-derived (programOf file) on (facts-bounded k) table fits ∙ ap (derive (programOf file) on) empty
+  module _ (on : Mask) (same : (i : ℕ) → i < count P → onIn R i ≡ on i) where
+    least-there : (f : ℕ) → f < P .facts → has marks f ≡ leastOf P on (has set) f
+    least-there f h =
+        settled-least P (onIn R) marks missing s f (omega arith)
+        ∙ ap (λ (S : FactSet). S f) (leastOf-agrees P (onIn R) (notHeldOut (has marks)) (has set) (λ k c. held-out k (constraint-below P (onIn R) b k c)) ∙ leastOf-mask P (onIn R) on same (has set))
 
--- A mask that is the reduct at the rules of the program has its least set.
-module _ (P : Program) (on : Mask) (M : FactSet) (mask : Mask) (same : (i : ℕ) → i < count P → mask i ≡ reduct P on M i) where
-  pub mask-least : leastOf P on M ≡ derive P mask nothing
-  mask-least =
-      leastOf-same P on M (derive P mask nothing)
-      (least-mask P mask (reduct P on M) nothing (derive P mask nothing) same (derive-least P mask nothing))
-
-  pub tested : (least : FactSet) → least ≡ derive P mask nothing → (n : ℕ) → n ≡ P .facts → all (λ f. Bool·beq (least f) (M f)) (upTo n) ≡ isStable P on M
-  unfolding isStable
-  tested least l n c =
-      ap₂ (λ (T : FactSet) (m : ℕ). all (λ f. Bool·beq (T f) (M f)) (upTo m)) (l ∙ sym mask-least) c
+    pub tested : (n : ℕ) → n ≡ P .facts → all (λ f. Bool·beq (has marks f) (has set f)) (upTo n) ≡ isStable P on (has set)
+    unfolding isStable
+    tested n e =
+        ap (λ (m : ℕ). all (λ f. Bool·beq (has marks f) (has set f)) (upTo m)) e
+        ∙ all-ext _ _ (upTo (P .facts)) (λ f m. ap (λ (x : Bool). Bool·beq x (has set f)) (least-there f (mem-upTo (P .facts) f m)))

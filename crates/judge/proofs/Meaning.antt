@@ -11,20 +11,21 @@ use Rattle.theory.specs.Check.{isStable}
 use Rattle.theory.specs.Stable.{Within}
 use Rattle.theory.specs.Stable as theory
 use Rattle.theory.proofs.Stable.{test-of-stable}
-use Rattle.reader.specs.declared.refusal.Refusal.{Refusal}
-use Rattle.reader.specs.Question as refusal
-use Rattle.reader.specs.Question.{noNumber}
+use Rattle.items.specs.declared.refusal.Refusal.{Refusal}
+use Rattle.items.specs.Question as refusal
+use Rattle.items.specs.Question.{noNumber}
 use Rattle.reader.specs.Questions.{programOf, fileQuestions}
-use Rattle.reader.proofs.FirstNo.{both-yes}
+use Rattle.items.proofs.FirstNo.{both-yes}
 use Rattle.reader.proofs.Accepted.{accepted-file, bounded}
-use Rattle.rules.specs.Questions.{has, listQuestions, setQuestions, setNo, judgeQuestions, judgeNo}
-use Rattle.rules.proofs.Sets.{past-end}
-use Rattle.rules.proofs.OperationAsked.{yes-to-set}
+use Rattle.items.specs.Item.{has}
+use Rattle.questions.specs.Questions.{listQuestions, setQuestions, setNo, judgeQuestions, judgeNo}
+use Rattle.tables.proofs.MarksPainted.{past-end}
+use Rattle.questions.proofs.OperationAsked.{yes-to-set}
 use Rattle.judge.specs.declared.answer.Judged.{Judged}
 use Rattle.judge.specs.declared.answer.Judged.the-variants.{Stable, NotStable}
 use Rattle.judge.specs.Judged.{unlisted, judged, number, verdict, JudgeMeans}
 use Rattle.judge.proofs.JudgeAnswers.{judge-refused, judge-judged}
-use Rattle.reader.proofs.RefusalNumbers.{number-above}
+use Rattle.items.proofs.RefusalNumbers.{number-above}
 
 -- a set that got yes to 21 holds no number past the last fact
 set-within : (P : Program) (set : List ℕ) → _≡_ {A = Option Refusal} (setNo (P .facts) set) none → Within P (has set)
@@ -42,24 +43,24 @@ module _ (file list set : List ℕ) where
           absurd (omega (arith, number-above r))
 
   -- where no question got no, the set is in the bounds that the test needs
-  exact : _≡_ {A = Option Refusal} (judgeNo file list set) none → (isStable (programOf file) (unlisted list) (has set) ≡ true) ↔ theory.Stable (programOf file) (unlisted list) (has set)
+  exact : _≡_ {A = Option Refusal} (judgeNo file list set) none → (isStable (programOf file) (unlisted (programOf file) list) (has set) ≡ true) ↔ theory.Stable (programOf file) (unlisted (programOf file) list) (has set)
   unfolding judgeQuestions
   exact e =
       let of-file = both-yes (fileQuestions file) (listQuestions (exception (programOf file)) list ++ setQuestions (programOf file .facts) set) e in
       let of-set = both-yes (listQuestions (exception (programOf file)) list) (setQuestions (programOf file .facts) set) (of-file .1) in
-      test-of-stable (programOf file) (unlisted list) (has set) (bounded (accepted-file file (of-file .0)))
+      test-of-stable (programOf file) (unlisted (programOf file) list) (has set) (bounded (accepted-file file (of-file .0)))
       (set-within (programOf file) set (of-set .1))
 
   pub judged-means : JudgeMeans file list set (judged file list set)
   judged-means = record {
     numbered = numbered (judgeNo file list set) refl;
     stable-exactly = λ e. (
-      λ v. exact (judge-answered e) .0 (one (isStable (programOf file) (unlisted list) (has set)) (sym (ap verdict (is e)) ∙ v)),
+      λ v. exact (judge-answered e) .0 (one (isStable (programOf file) (unlisted (programOf file) list) (has set)) (sym (ap verdict (is e)) ∙ v)),
       λ m. ap verdict (is e) ∙ ap (λ (b : Bool). verdict (cond b Stable NotStable)) (exact (judge-answered e) .1 m),
     );
   }
     where
-      is : number (judged file list set) ≡ 0 → judged file list set ≡ cond (isStable (programOf file) (unlisted list) (has set)) Stable NotStable
+      is : number (judged file list set) ≡ 0 → judged file list set ≡ cond (isStable (programOf file) (unlisted (programOf file) list) (has set)) Stable NotStable
       is e = judge-judged file list set (judge-answered e)
 
       no-number : (b : Bool) → number (cond b Stable NotStable) ≡ 0
@@ -67,7 +68,7 @@ module _ (file list set : List ℕ) where
       no-number false = refl
 
       numbered : (o : Option Refusal) → judgeNo file list set ≡ o → number (judged file list set) ≡ noNumber (judgeNo file list set)
-      numbered none q = ap number (judge-judged file list set q) ∙ no-number (isStable (programOf file) (unlisted list) (has set)) ∙ sym (ap noNumber q)
+      numbered none q = ap number (judge-judged file list set q) ∙ no-number (isStable (programOf file) (unlisted (programOf file) list) (has set)) ∙ sym (ap noNumber q)
       numbered (some r) q = ap number (judge-refused file list set r q) ∙ sym (ap noNumber q)
 
       one : (b : Bool) → verdict (cond b Stable NotStable) ≡ 1 → b ≡ true

@@ -1,29 +1,30 @@
 -- What the judge answers (document 01, "Judge and proof check").
 use Prim.Native.Nat.{ℕ}
 use mathlib.Core.Path.{_≡_}
-use mathlib.Core.Bool.{not, cond}
+use mathlib.Core.Bool.{not, cond, _&&_}
 use mathlib.Core.List.{List}
 use mathlib.Core.Logic.{_↔_}
 use mathlib.Core.Option.{none, some}
-use Rattle.theory.specs.Rule.{mem, Mask}
+use Rattle.theory.specs.Rule.{mem, Program, Mask, inForce}
 use Rattle.theory.specs.Stable as theory
 use Rattle.theory.specs.Check.{isStable}
-use Rattle.reader.specs.Question as refusal
-use Rattle.reader.specs.Question.{noNumber}
+use Rattle.items.specs.Question as refusal
+use Rattle.items.specs.Question.{noNumber}
 use Rattle.reader.specs.Questions.{programOf}
-use Rattle.rules.specs.Questions.{judgeNo, has, namedIn}
+use Rattle.items.specs.Item.{has}
+use Rattle.questions.specs.Questions.{judgeNo, namedIn}
 use Rattle.judge.specs.declared.answer.Judged.{Judged}
 use Rattle.judge.specs.declared.answer.Judged.the-variants.{Stable, NotStable, Refused}
 
--- The rules in force: all but the listed ones.
-abbrev pub unlisted : List ℕ → Mask
-unlisted list i = not (mem i (namedIn list))
+-- The rules in force, less the listed ones.
+abbrev pub unlisted : Program → List ℕ → Mask
+unlisted P list i = inForce P i && not (mem i (namedIn list))
 
 -- Is the set stable for the file less the listed rules?
 unfoldable pub judged : List ℕ → List ℕ → List ℕ → Judged
 judged file list set =
     elim (judgeNo file list set) [
-      | none ↦ cond (isStable (programOf file) (unlisted list) (has set)) Stable NotStable
+      | none ↦ cond (isStable (programOf file) (unlisted (programOf file) list) (has set)) Stable NotStable
       | some r ↦ Refused r
     ]
 
@@ -42,4 +43,4 @@ verdict (Refused r) = 0
 -- the file less the listed rules.
 pub record JudgeMeans (file list set : List ℕ) (r : Judged) : Type 0 where
   pub numbered : number r ≡ noNumber (judgeNo file list set)
-  pub stable-exactly : number r ≡ 0 → (verdict r ≡ 1) ↔ theory.Stable (programOf file) (unlisted list) (has set)
+  pub stable-exactly : number r ≡ 0 → (verdict r ≡ 1) ↔ theory.Stable (programOf file) (unlisted (programOf file) list) (has set)

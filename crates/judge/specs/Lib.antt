@@ -1,4 +1,4 @@
 -- What is promised.
 pub mod Judged
 -- What only code and proofs use.
-pub mod Listed
+pub mod JudgedOf

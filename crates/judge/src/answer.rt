@@ -1,4 +1,4 @@
-use reader::refusal::Refusal;
+use items::refusal::Refusal;
 
 // What the judge answers of a set.
 pub enum Judged {

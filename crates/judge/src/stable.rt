@@ -1,39 +1,23 @@
 // The test of stability: the least set closed under the reduct has the facts of the set. Internal.
+ghost use Prim.Native.Nat.{_≤_};
 ghost use mathlib.Core.Path.{_≡_};
-ghost use mathlib.Core.Bool.{not, Bool·beq};
-ghost use Rattle.theory.specs.Rule.{all, upTo, nothing};
-ghost use Rattle.theory.specs.Derive.{derive as derived};
+ghost use mathlib.Core.Bool.{Bool·beq};
+ghost use lib.ListN.{length};
+ghost use Rattle.theory.specs.Rule.{all, upTo};
 ghost use Rattle.theory.specs.Check.{isStable};
-ghost use Rattle.reader.specs.Questions.{programOf};
-ghost use Rattle.rules.specs.Questions.{has};
-ghost use Rattle.closure.specs.Known.{Known};
-ghost use Rattle.reader.specs.Accepted.{Accepted};
-use crate::reduct::reduct_mask;
-use reader::answer::FileCounts;
-use reader::item::FactId;
-use reader::rules::MAX_FACTS;
-use reader::write::STEP_WIDTH;
-use rules::fact_set::in_set;
-use rules::index::MAX_RULES;
-
-// Room for a step for each fact; the steps of the least set are not read.
-const STEP_ROOM: usize = MAX_FACTS * STEP_WIDTH;
-
-// What the rules of a mask derive from nothing.
-fn least_set(
-    file: &[u8],
-    starts: &[u16; MAX_RULES],
-    rules: usize,
-    mask: &[u8; MAX_RULES],
-) -> [u8; MAX_FACTS]
-    requires { ⌜ Known (now file) (now starts) rules ⌝ }
-    ensures { λ r. ⌜ has r ≡ derived (programOf (now (file .entry))) (has (now (mask .entry))) nothing ⌝ }
-{
-    let mut least = [0u8; MAX_FACTS];
-    let mut steps = [0u8; STEP_ROOM];
-    closure::least::derive(file, starts, rules, mask, &mut least, &mut steps, 0);
-    least
-}
+ghost use Rattle.items.specs.Item.{has};
+ghost use Rattle.tables.specs.Layout.{programIn, WellFormed};
+ghost use Rattle.index.specs.Index.{inForceBut};
+use index::cells::INDEX_CELLS;
+use index::cells::LITERALS;
+use index::fill::index_rules;
+use items::item::FactId;
+use items::item::MAX_RULES;
+use propagation::hold::hold_absent;
+use propagation::none::hold_none;
+use questions::fact_set::in_set;
+use tables::layout::TABLE_CELLS;
+use tables::layout::facts_of;
 
 // Do two sets have the same facts below a number?
 fn same_facts(a: &[u8], b: &[u8], facts: u16) -> bool
@@ -49,15 +33,18 @@ fn same_facts(a: &[u8], b: &[u8], facts: u16) -> bool
     true
 }
 
-// Is the set stable for the rules that are not listed?
-pub fn is_stable(file: &[u8], counts: FileCounts, listed: &[u8; MAX_RULES], set: &[u8]) -> bool
-    requires { ⌜ Accepted (now file) counts ⌝ }
-    ensures { λ r. ⌜ r ≡ isStable (programOf (now (file .entry))) (λ i. not (has (now (listed .entry)) i)) (has (now (set .entry))) ⌝ }
+// Is the set stable for the rules that are not listed? What is derived from the facts held out that are not in the set is the least set of its
+// reduct.
+pub fn is_stable(tables: &[u16; TABLE_CELLS], listed: &[u8; MAX_RULES], set: &[u8]) -> bool
+    requires { ⌜ WellFormed (now tables) × (programIn (now tables) .facts ≤ length (now set)) ⌝ }
+    ensures { λ r. ⌜ r ≡ isStable (programIn (now (tables .entry))) (inForceBut (programIn (now (tables .entry))) (now (listed .entry))) (has (now (set .entry))) ⌝ }
 {
-    let rules = counts.rules as usize;
-    let mut starts = [0u16; MAX_RULES];
-    rules::index::index_rules(file, &mut starts);
-    let mask = reduct_mask(file, &starts, rules, listed, set);
-    let least = least_set(file, &starts, rules, &mask);
-    same_facts(&least, set, counts.facts)
+    let mut index = [0u16; INDEX_CELLS];
+    let mut missing = [0u16; MAX_RULES];
+    index_rules(tables, listed, &mut index, &mut missing);
+    let mut marks = [0u8; LITERALS];
+    hold_none(tables, &index, &mut marks, &mut missing);
+    hold_absent(tables, &index, set, &mut marks, &mut missing);
+    let facts = facts_of(tables) as u16;
+    same_facts(&marks, set, facts)
 }

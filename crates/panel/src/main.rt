@@ -1,10 +1,10 @@
 // The panel: reads a rule file from standard input and writes its text.
 ghost use lib.ListN.{length};
 ghost use Rattle.panel.specs.Input.{Inside};
+use items::item::MAX_BYTES;
 use libc::STDIN_FILENO;
 use libc::STDOUT_FILENO;
 use panel_text::text::TEXT_ROOM;
-use reader::questions::MAX_BYTES;
 
 // One byte more than a file may have, so that a file that is too long is told apart.
 const INPUT_ROOM: usize = MAX_BYTES + 1;

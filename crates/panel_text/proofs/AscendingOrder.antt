@@ -1,36 +1,48 @@
 -- The ascending order: what is written, and that it gets yes to the questions on an order.
-use Prim.Native.Nat.{ℕ, _*_, _≤_}
+use Prim.Native.Nat.{ℕ, _*_, _≤_, _<_}
 use native.Mathlib.Omega.{arith}
-use mathlib.Core.Path.{_≡_, ap, ap₂, _∙_}
-use mathlib.Core.Bool.{Bool}
+use mathlib.Core.Path.{_≡_, refl, ap, ap₂, _∙_}
+use mathlib.Core.Bool.{Bool, true, false, not}
 use mathlib.Core.List.{List}
 use mathlib.Core.Option.{Option, none}
 use borrow.Author.Tests.{le-leb}
-use lib.ListN.{replicate}
-use Rattle.theory.specs.Rule.{mem, keep, upTo, Program, count, exception}
+use lib.ListN.{getD, replicate}
+use lib.Dec.{eqb}
+use Rattle.theory.specs.Rule.{mem, keep, upTo, Program, inForce, count, exception, plainRules}
 use Rattle.theory.proofs.Bools.{and-right, and-both}
-use Rattle.theory.proofs.Lists.{all-of, mem-keep, upTo-mem}
-use Rattle.reader.specs.declared.refusal.Refusal.{Refusal}
-use Rattle.reader.specs.declared.answer.FileCounts.{FileCounts}
-use Rattle.reader.specs.Item.{stepWidth, maxFacts}
-use Rattle.reader.specs.Questions.{programOf, maxRules, fileNo}
-use Rattle.reader.specs.Rules.{paint}
-use Rattle.reader.specs.Accepted.{Accepted}
-use Rattle.reader.proofs.EachKind.{Bytes}
+use Rattle.theory.proofs.Lists.{all-of, mem-keep, mem-upTo, upTo-mem, keep-same}
+use Rattle.items.specs.declared.refusal.Refusal.{Refusal}
+use Rattle.items.specs.Item.{stepWidth, maxFacts, maxRules}
+use Rattle.reader.specs.Questions.{programOf, fileNo}
+use Rattle.tables.specs.Layout.{programIn, WellFormed}
+use Rattle.tables.specs.Marks.{paint}
+use Rattle.tables.proofs.ProgramHeld.{rules-below}
+use Rattle.tables.proofs.MarksPainted.{unpainted}
+use Rattle.tables.proofs.RulesMarked.{plain-at}
+use Rattle.items.proofs.EachKind.{Bytes}
 use Rattle.reader.proofs.Accepted.{accepted-file, rules-few, facts-below}
-use Rattle.rules.specs.Questions.{has, orderQuestions, orderNo, bufferQuestions, runQuestions, buffersNo, runNo, naming}
-use Rattle.reader.proofs.FirstNo.{all-yes}
-use Rattle.rules.proofs.OperationAsked.{file-accepted}
-use Rattle.rules.proofs.Orders.{keep-once, order-yes}
-use Rattle.rules.proofs.Sets.{has-kinds}
+use Rattle.questions.specs.Questions.{orderQuestions, orderNo, bufferQuestions, runQuestions, buffersNo, runNo, naming}
+use Rattle.items.proofs.FirstNo.{all-yes}
+use Rattle.questions.proofs.OperationAsked.{file-accepted}
+use Rattle.questions.proofs.Orders.{keep-once, order-yes}
 use Rattle.panel_text.specs.Text.{ascending}
-use Rattle.rules.specs.Orders.{placesMarked}
+use Rattle.questions.specs.Orders.{placesMarked}
 
--- The exception rules as marked, ascending.
-pub marked-kinds : {s : List ℕ} {counts : FileCounts} → Accepted s counts → (kinds : List ℕ) → kinds ≡ paint (exception (programOf s)) (replicate maxRules 0) → placesMarked 1 kinds (counts .rules) ≡ ascending (programOf s)
-unfolding placesMarked has
-marked-kinds {s} a kinds k =
-    ap₂ (λ (g : ℕ → Bool) (m : ℕ). keep g (upTo m)) (ap has k ∙ has-kinds s (a .accepted)) (a .rules)
+-- The rules that are not marked as plain are the exception rules, ascending.
+pub unmarked-ascending : {T : List ℕ} → WellFormed T → (marks : List ℕ) → marks ≡ paint (plainRules (programIn T) (inForce (programIn T))) (replicate maxRules 0) → (n : ℕ) → n ≡ count (programIn T) → placesMarked 0 marks n ≡ ascending (programIn T)
+unfolding placesMarked
+unmarked-ascending {T} w marks m n e =
+    ap₂ (λ (l : List ℕ) (k : ℕ). keep (λ i. eqb (getD l i 0) 0) (upTo k)) m e
+    ∙ keep-same _ (exception (programIn T)) (upTo (count (programIn T))) (λ i d. unmarked i (mem-upTo (count (programIn T)) i d))
+  where
+    twice : (b : Bool) → not (not b) ≡ b
+    twice true = refl
+    twice false = refl
+
+    unmarked : (i : ℕ) → i < count (programIn T) → eqb (getD (paint (plainRules (programIn T) (inForce (programIn T))) (replicate maxRules 0)) i 0) 0 ≡ exception (programIn T) i
+    unmarked i h =
+        unpainted maxRules (plainRules (programIn T) (inForce (programIn T))) i (omega (arith, h, rules-below w))
+        ∙ ap not (plain-at (programIn T) i h) ∙ twice (exception (programIn T) i)
 
 ascending-yes : (known : ℕ → Bool) (n : ℕ) → _≡_ {A = Option Refusal} (orderNo known n (naming (keep known (upTo n)))) none
 ascending-yes known n =

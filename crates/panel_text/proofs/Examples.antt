@@ -4,8 +4,8 @@ use mathlib.Core.List.{[], _∷_}
 use Rattle.theory.specs.Rule.{plain, exception, plainRules}
 use Rattle.theory.specs.Derive.{fired, derive, steps}
 use Rattle.theory.specs.Run.{run, eligible, rejected, spares, setAside, factMark}
-use Rattle.reader.specs.Item.{bodyLength, itemOf}
-use Rattle.reader.specs.Cursor.{front, itemsAt}
+use Rattle.items.specs.Item.{bodyLength, itemOf}
+use Rattle.items.specs.Cursor.{front, itemsAt}
 use Rattle.reader.specs.Questions.{fileQuestions}
 use Rattle.panel_text.specs.Text.{decimal, spaced, field, line, headLine, stepLine, runText, panelText}
 

@@ -9,20 +9,20 @@ use mathlib.Core.Option.{Option, none}
 use borrow.Author.Tests.{eq-eqb, ne-eqb}
 use lib.ListN.{length, replicate, length-append, length-replicate}
 use lib.Dec.{eqb}
-use Rattle.theory.specs.Rule.{keep, range, upTo, Program, Mask, FactSet, Bounded, everyRule, null, adjoin, nothing, count, rule, exception, Step}
+use Rattle.theory.specs.Rule.{keep, range, upTo, Program, Mask, FactSet, Bounded, inForce, null, adjoin, nothing, count, rule, exception, Step}
 use Rattle.theory.specs.Run.{Stand, run, stageCount, stepCount}
 use Rattle.theory.proofs.Grounds.{Grounds}
 use Rattle.theory.proofs.Run.{granted, run-sound}
-use Rattle.reader.specs.declared.refusal.Refusal.{Refusal}
-use Rattle.reader.specs.Item.{nameWidth, maxFacts}
-use Rattle.reader.specs.Questions.{programOf, maxRules, fileNo}
-use Rattle.reader.specs.Write.{ruleItem}
-use Rattle.reader.proofs.EachKind.{Bytes}
+use Rattle.items.specs.declared.refusal.Refusal.{Refusal}
+use Rattle.items.specs.Item.{nameWidth, maxFacts, maxRules}
+use Rattle.reader.specs.Questions.{programOf, fileNo}
+use Rattle.items.specs.Write.{ruleItem}
+use Rattle.items.proofs.EachKind.{Bytes}
 use Rattle.reader.proofs.Accepted.{accepted-file, rules-few, facts-below, bounded}
 use Rattle.run.proofs.FewSteps.{Paced, run-paced}
-use Rattle.rules.specs.Questions.{each, naming}
+use Rattle.questions.specs.Questions.{each, naming}
 use Rattle.panel_text.specs.Text.{newline, spaced, field, line, headLine, stepLine, lastLine, rejectedFacts, asideRules, runText, ascending, textRoom}
-use Rattle.rules.specs.Put.{Fits, Put}
+use Rattle.questions.specs.Put.{Fits, Put}
 use Rattle.panel_text.proofs.Decimal.{three-digits}
 
 -- A number of at most three digits.
@@ -91,20 +91,20 @@ module _ (P : Program) (b : Bounded P) (f : P .facts < maxFacts) (r : count P �
   last-length : (x : Bool) → length (lastLine x) ≡ 2
   last-length x = refl
 
-  text-length : (order : List ℕ) → length (runText P (run P everyRule order)) ≤ textRoom
+  text-length : (order : List ℕ) → length (runText P (run P (inForce P) order)) ≤ textRoom
   unfolding runText
   text-length order =
-      let s : Stand = run P everyRule order in
-      let pace : Paced P s = run-paced P b everyRule order in
+      let s : Stand = run P (inForce P) order in
+      let pace : Paced P s = run-paced P b (inForce P) order in
       let taken : stepCount s ≤ P .facts = omega (arith, pace .room) in
       let head : length (headLine (P .facts) (count P) (stageCount s)) ≤ 18 = head-length (P .facts) (count P) (stageCount s) (omega arith) (omega arith) (omega (arith, pace .staged)) in
-      let steps : length (each stepLine (s .trace)) ≤ length (s .trace) * 10 = steps-length (granted P everyRule (s .applied)) (s .trace) nothing (run-sound P everyRule order .grounds) in
+      let steps : length (each stepLine (s .trace)) ≤ length (s .trace) * 10 = steps-length (granted P (inForce P) (s .applied)) (s .trace) nothing (run-sound P (inForce P) order .grounds) in
       let facts : length (each (line 0x58) (rejectedFacts P s)) ≤ P .facts * 6 = kept-length (line 0x58) 6 _ 0 (P .facts) (λ i l. line-length 0x58 i (omega arith)) in
       let rules : length (each (line 0x41) (asideRules P s)) ≤ count P * 6 = kept-length (line 0x41) 6 _ 0 (count P) (λ i l. line-length 0x41 i (omega arith)) in
       simp length-append (omega (arith, head, steps, facts, rules, taken))
 
 -- The text of every accepted file has room.
-pub text-fits : (s : List ℕ) → Bytes s → _≡_ {A = Option Refusal} (fileNo s) none → (order : List ℕ) → length (runText (programOf s) (run (programOf s) everyRule order)) ≤ textRoom
+pub text-fits : (s : List ℕ) → Bytes s → _≡_ {A = Option Refusal} (fileNo s) none → (order : List ℕ) → length (runText (programOf s) (run (programOf s) (inForce (programOf s)) order)) ≤ textRoom
 text-fits s b a order =
     let t = accepted-file s a in
     text-length (programOf s) (bounded t) (facts-below t b) (rules-few t) order

@@ -9,10 +9,10 @@ use mathlib.Core.Option.{Option, none, some, Option·map}
 use borrow.Author.Tests.{ltb-false}
 use lib.ListN.{getD, drop}
 use lib.Dec.{ltb}
-use Rattle.theory.specs.Rule.{Program, everyRule}
+use Rattle.theory.specs.Rule.{Program, inForce}
 use Rattle.theory.specs.Run.{Stand, run}
-use Rattle.reader.specs.declared.refusal.Refusal.{Refusal}
-use Rattle.reader.specs.Question as refusal
+use Rattle.items.specs.declared.refusal.Refusal.{Refusal}
+use Rattle.items.specs.Question as refusal
 use Rattle.reader.specs.Questions.{programOf, fileNo}
 use Rattle.panel_text.specs.Text.{digit, digits, decimal, newline, spaced, field, line, headLine, runText, ascending, panelText}
 use Rattle.panel_text.proofs.RunLines.{refused-text, accepted-text}
@@ -67,7 +67,7 @@ panel-refusal file n = go (fileNo file) refl
   where
     go : (o : Option Refusal) → fileNo file ≡ o → (panelText file ≡ line 0x45 n) ↔ (Option·map refusal.number o ≡ some n)
     go none q = (
-      λ e. absurd (not-a-refusal (programOf file) (run (programOf file) everyRule (ascending (programOf file))) n (sym (accepted-text file q) ∙ e)),
+      λ e. absurd (not-a-refusal (programOf file) (run (programOf file) (inForce (programOf file)) (ascending (programOf file))) n (sym (accepted-text file q) ∙ e)),
       λ e. absurd (let z : _≡_ {A = ℕ} 0 1 = cc in omega arith),
     )
     go (some r) q = (

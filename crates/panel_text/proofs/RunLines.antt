@@ -8,31 +8,32 @@ use mathlib.Core.List.{List, map}
 use mathlib.Core.Option.{Option, none, some}
 use lib.ListN.{length, take, drop, replicate, length-append, length-replicate}
 use lib.Dec.{eqb}
-use Rattle.theory.specs.Rule.{keep, upTo, Program, Bounded, everyRule, count, Step as Taken}
+use Rattle.theory.specs.Rule.{keep, upTo, Program, Bounded, inForce, count, Step as Taken}
 use Rattle.theory.specs.Run.{Stand, run, factMark, factMarks, ruleMark, ruleMarks, stageCount, stepCount}
-use Rattle.theory.proofs.Lists.{mem-upTo}
-use Rattle.reader.specs.declared.refusal.Refusal.{Refusal}
+use Rattle.theory.proofs.Lists.{mem-upTo, keep-same}
+use Rattle.items.specs.declared.refusal.Refusal.{Refusal}
 use Rattle.reader.specs.declared.answer.FileCounts.{FileCounts}
-use Rattle.reader.specs.Question.{number}
-use Rattle.reader.specs.Item.{stepWidth, maxFacts}
-use Rattle.reader.specs.Questions.{programOf, maxRules, fileNo}
+use Rattle.items.specs.Question.{number}
+use Rattle.items.specs.Item.{stepWidth, maxFacts, maxRules, marked}
+use Rattle.reader.specs.Questions.{programOf, fileNo}
 use Rattle.reader.specs.Accepted.{Accepted}
-use Rattle.reader.proofs.EachKind.{Bytes}
+use Rattle.items.proofs.EachKind.{Bytes}
 use Rattle.reader.proofs.Accepted.{accepted-file, rules-few, facts-below, bounded}
 use Rattle.closure.specs.Steps.{stepBytes}
 use Rattle.run.specs.declared.answer.Ran.{Ran}
 use Rattle.run.specs.declared.answer.Ran.the-variants.{Done, Refused}
-use Rattle.rules.specs.Questions.{marked, rowOf, naming}
-use Rattle.run.specs.Outcome.{RunOutcome, over, runWritten, runOutcome}
+use Rattle.questions.specs.Questions.{rowOf, naming}
+use Rattle.run.specs.Outcome.{RunOutcome, runWritten, runOutcome}
+use Rattle.items.specs.Write.{over}
 use Rattle.run.proofs.Outcomes.{outcome-written}
 use Rattle.run.proofs.FewSteps.{Paced, run-paced}
 use Rattle.run.proofs.StepsWritten.{over-length, step-bytes-length, steps-read}
 use Rattle.run.proofs.ReadMarks.{length-marks, mark-at, read-aside}
 use Rattle.run.proofs.ReadSteps.{steps-front}
 use Rattle.panel_text.specs.Text.{line, asideRules, runText, ascending, panelText}
-use Rattle.rules.specs.Orders.{placesMarked}
+use Rattle.questions.specs.Orders.{placesMarked}
 use Rattle.panel_text.specs.Left.{leftText, Tables}
-use Rattle.rules.proofs.Orders.{keep-same, naming-names}
+use Rattle.questions.proofs.Orders.{naming-names}
 use Rattle.panel_text.proofs.AscendingOrder.{run-yes}
 
 -- the row of the steps taken
@@ -47,7 +48,7 @@ unfolding placesMarked
 front-marked f n m room = keep-same _ _ (upTo n) (λ i h. ap (λ (x : ℕ). eqb x m) (mark-at f n room i (mem-upTo n i h)))
 
 -- the rules set aside, which have mark 2
-front-aside : (P : Program) → Bounded P → (order room : List ℕ) → placesMarked 2 (over (ruleMarks P everyRule (run P everyRule order)) room) (count P) ≡ asideRules P (run P everyRule order)
+front-aside : (P : Program) → Bounded P → (order room : List ℕ) → placesMarked 2 (over (ruleMarks P (inForce P) (run P (inForce P) order)) room) (count P) ≡ asideRules P (run P (inForce P) order)
 unfolding placesMarked marked
 front-aside P b order room =
     keep-same _ _ (upTo (count P))
@@ -59,7 +60,7 @@ front-aside P b order room =
 pub record RunEnded (P : Program) (s : Stand) (answer : Ran) (fact-marks rule-marks steps : List ℕ) : Type 0 where
   pub answered : answer ≡ Done (stageCount s) (stepCount s)
   pub facts-marked : fact-marks ≡ over (factMarks P s) (replicate maxFacts 0)
-  pub rules-marked : rule-marks ≡ over (ruleMarks P everyRule s) (replicate maxRules 0)
+  pub rules-marked : rule-marks ≡ over (ruleMarks P (inForce P) s) (replicate maxRules 0)
   pub steps-written : steps ≡ over (stepBytes (s .trace)) (replicate (maxFacts * stepWidth) 0)
 
 -- It has not refused.
@@ -74,19 +75,19 @@ front-places : (f : ℕ → ℕ) (n : ℕ) (room : List ℕ) → n ≤ length (o
 front-places f n room =
     omega (arith, length-append (map f (upTo n)) (drop (length (map f (upTo n))) room), length-marks f n)
 
-module _ {s : List ℕ} {counts : FileCounts} (a : Accepted s counts) (b : Bytes s) (order : List ℕ) (answer : Ran) (fact-marks rule-marks steps : List ℕ) (w : RunEnded (programOf s) (run (programOf s) everyRule order) answer fact-marks rule-marks steps) where
+module _ {s : List ℕ} {counts : FileCounts} (a : Accepted s counts) (b : Bytes s) (order : List ℕ) (answer : Ran) (fact-marks rule-marks steps : List ℕ) (w : RunEnded (programOf s) (run (programOf s) (inForce (programOf s)) order) answer fact-marks rule-marks steps) where
   abbrev P : Program
   P = programOf s
 
   abbrev e : Stand
-  e = run P everyRule order
+  e = run P (inForce P) order
 
   pub tables : Tables (counts .facts) (counts .rules) fact-marks rule-marks
   tables =
       let t = accepted-file s (a .accepted) in
       record {
         fact-places = rw (a .facts, w .facts-marked) (front-places (factMark P e) (P .facts) (replicate maxFacts 0));
-        rule-places = rw (a .rules, w .rules-marked) (front-places (ruleMark P everyRule e) (count P) (replicate maxRules 0));
+        rule-places = rw (a .rules, w .rules-marked) (front-places (ruleMark P (inForce P) e) (count P) (replicate maxRules 0));
         few-facts = omega (arith, a .facts, facts-below t b);
         few-rules = omega (arith, a .rules, rules-few t);
       }
@@ -98,7 +99,7 @@ module _ {s : List ℕ} {counts : FileCounts} (a : Accepted s counts) (b : Bytes
     pub steps-inside : taken * stepWidth ≤ length steps
     steps-inside =
         let t = accepted-file s (a .accepted) in
-        let pace : Paced P e = run-paced P (bounded t) everyRule order in
+        let pace : Paced P e = run-paced P (bounded t) (inForce P) order in
         let taken-are : taken ≡ stepCount e = cc in
         omega (arith, ap length (w .steps-written), over-length (stepBytes (e .trace)) (replicate (maxFacts * stepWidth) 0) (omega (arith, step-bytes-length (e .trace), pace .room, facts-below t b, length-replicate {A = ℕ} (maxFacts * stepWidth) 0)), length-replicate {A = ℕ} (maxFacts * stepWidth) 0, pace .room, facts-below t b)
 
@@ -110,7 +111,7 @@ module _ {s : List ℕ} {counts : FileCounts} (a : Accepted s counts) (b : Bytes
         rw (a .facts, a .rules, stages-are, taken-are, w .facts-marked, w .rules-marked, w .steps-written, front-steps (e .trace) (replicate (maxFacts * stepWidth) 0), front-marked (factMark P e) (P .facts) 2 (replicate maxFacts 0), front-aside P (bounded (accepted-file s (a .accepted))) order (replicate maxRules 0))
 
 -- The run in ascending order of an accepted file.
-pub ran-through : (s order : List ℕ) → Bytes s → _≡_ {A = Option Refusal} (fileNo s) none → order ≡ naming (ascending (programOf s)) → (answer : Ran) (fact-marks rule-marks steps : List ℕ) → _≡_ {A = RunOutcome} (record { answer = answer; fact-marks = fact-marks; rule-marks = rule-marks; steps = steps }) (runOutcome s order (replicate maxFacts 0) (replicate maxRules 0) (replicate (maxFacts * stepWidth) 0)) → RunEnded (programOf s) (run (programOf s) everyRule (ascending (programOf s))) answer fact-marks rule-marks steps
+pub ran-through : (s order : List ℕ) → Bytes s → _≡_ {A = Option Refusal} (fileNo s) none → order ≡ naming (ascending (programOf s)) → (answer : Ran) (fact-marks rule-marks steps : List ℕ) → _≡_ {A = RunOutcome} (record { answer = answer; fact-marks = fact-marks; rule-marks = rule-marks; steps = steps }) (runOutcome s order (replicate maxFacts 0) (replicate maxRules 0) (replicate (maxFacts * stepWidth) 0)) → RunEnded (programOf s) (run (programOf s) (inForce (programOf s)) (ascending (programOf s))) answer fact-marks rule-marks steps
 unfolding runWritten
 ran-through s order b a o answer fm rm st e =
     record {
@@ -123,17 +124,17 @@ ran-through s order b a o answer fm rm st e =
     P : Program
     P = programOf s
 
-    all : _≡_ {A = RunOutcome} (record { answer = answer; fact-marks = fm; rule-marks = rm; steps = st }) (runWritten P (run P everyRule (ascending P)) (replicate maxFacts 0) (replicate maxRules 0) (replicate (maxFacts * stepWidth) 0))
+    all : _≡_ {A = RunOutcome} (record { answer = answer; fact-marks = fm; rule-marks = rm; steps = st }) (runWritten P (run P (inForce P) (ascending P)) (replicate maxFacts 0) (replicate maxRules 0) (replicate (maxFacts * stepWidth) 0))
     all =
         e ∙ ap (λ (l : List ℕ). runOutcome s l (replicate maxFacts 0) (replicate maxRules 0) (replicate (maxFacts * stepWidth) 0)) o
         ∙ sym (outcome-written s (naming (ascending P)) (replicate maxFacts 0) (replicate maxRules 0) (replicate (maxFacts * stepWidth) 0) (run-yes s b a))
-        ∙ ap (λ (l : List ℕ). runWritten P (run P everyRule l) (replicate maxFacts 0) (replicate maxRules 0) (replicate (maxFacts * stepWidth) 0)) (naming-names (ascending P))
+        ∙ ap (λ (l : List ℕ). runWritten P (run P (inForce P) l) (replicate maxFacts 0) (replicate maxRules 0) (replicate (maxFacts * stepWidth) 0)) (naming-names (ascending P))
 
 -- The text of a file that is refused, and of one that is accepted.
 pub refused-text : (s : List ℕ) (r : Refusal) → fileNo s ≡ some r → panelText s ≡ line 0x45 (number r)
 unfolding panelText
 refused-text s r e = rw (e, panelText)
 
-pub accepted-text : (s : List ℕ) → _≡_ {A = Option Refusal} (fileNo s) none → panelText s ≡ runText (programOf s) (run (programOf s) everyRule (ascending (programOf s)))
+pub accepted-text : (s : List ℕ) → _≡_ {A = Option Refusal} (fileNo s) none → panelText s ≡ runText (programOf s) (run (programOf s) (inForce (programOf s)) (ascending (programOf s)))
 unfolding panelText
 accepted-text s e = rw (e, panelText)

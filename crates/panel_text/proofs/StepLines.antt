@@ -2,19 +2,19 @@
 use Prim.Native.Nat.{ℕ}
 use mathlib.Core.Path.{_≡_, ap}
 use mathlib.Core.List.{List, _++_}
-use Rattle.reader.specs.declared.refusal.Refusal.{Refusal}
-use Rattle.reader.specs.declared.item.FactId.{FactId}
-use Rattle.reader.specs.declared.item.RuleId.{RuleId}
-use Rattle.reader.specs.declared.item.Item.{Item}
-use Rattle.reader.specs.declared.item.Item.the-variants.{Step}
-use Rattle.reader.specs.declared.cursor.Cursor.{Cursor}
-use Rattle.reader.specs.declared.cursor.Read.the-variants.{Found, Refused, Ended}
-use Rattle.reader.specs.Cursor.{nextAt}
-use Rattle.rules.proofs.Rows.{stepsFrom, NotStep, no-step-left, steps-ended, other-item, step-read}
-use Rattle.rules.specs.Questions.{each, stepOf, rowOf}
+use Rattle.items.specs.declared.refusal.Refusal.{Refusal}
+use Rattle.items.specs.declared.item.FactId.{FactId}
+use Rattle.items.specs.declared.item.RuleId.{RuleId}
+use Rattle.items.specs.declared.item.Item.{Item}
+use Rattle.items.specs.declared.item.Item.the-variants.{Step}
+use Rattle.items.specs.declared.cursor.Cursor.{Cursor}
+use Rattle.items.specs.declared.cursor.Read.the-variants.{Found, Refused, Ended}
+use Rattle.items.specs.Cursor.{nextAt}
+use Rattle.questions.proofs.Rows.{stepsFrom, NotStep, no-step-left, steps-ended, other-item, step-read}
+use Rattle.questions.specs.Questions.{each, stepOf, rowOf}
 use Rattle.panel_text.specs.Text.{stepLine}
-use Rattle.rules.specs.Put.{Fits, Put}
-use Rattle.rules.proofs.BytesPut.{Putting, ended, nothing-put, next-fits, one-put}
+use Rattle.questions.specs.Put.{Fits, Put}
+use Rattle.questions.proofs.BytesPut.{Putting, ended, nothing-put, next-fits, one-put}
 
 -- the lines of the steps from a cursor on
 abbrev toCome : List ℕ → Cursor → List ℕ

@@ -10,9 +10,9 @@ use borrow.Author.Tests.{le-leb, lt-leb}
 use lib.ListN.{length, getD, take, drop, set, length-set}
 use lib.Seq.{paste, paste-zero, paste-suc, take-all, take-append-seam}
 use lib.Dec.{leb}
-use Rattle.run.specs.Outcome.{over}
+use Rattle.items.specs.Write.{over}
 use Rattle.panel_text.specs.Text.{shown}
-use Rattle.rules.specs.Put.{Put}
+use Rattle.questions.specs.Put.{Put}
 
 -- The first i bytes are copied.
 pub record Copying (text before now : List ℕ) (i : ℕ) : Type 0 where

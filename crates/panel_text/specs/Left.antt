@@ -3,9 +3,9 @@ use Prim.Native.Nat.{ℕ, _≤_}
 use mathlib.Core.List.{List, _++_}
 use lib.ListN.{length}
 use Rattle.theory.specs.Rule.{null}
-use Rattle.reader.specs.Questions.{maxRules}
-use Rattle.rules.specs.Questions.{rowOf, each}
-use Rattle.rules.specs.Orders.{placesMarked}
+use Rattle.items.specs.Item.{maxRules}
+use Rattle.questions.specs.Questions.{rowOf, each}
+use Rattle.questions.specs.Orders.{placesMarked}
 use Rattle.panel_text.specs.Text.{headLine, stepLine, line, lastLine}
 
 -- The lines by the counts, the marks and the row of steps.

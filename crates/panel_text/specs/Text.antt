@@ -5,12 +5,12 @@ use mathlib.Core.List.{List, [], _∷_, _++_}
 use mathlib.Core.Option.{none, some}
 use lib.ListN.{length}
 use lib.Dec.{ltb, leb, eqb}
-use Rattle.theory.specs.Rule.{keep, upTo, Program, everyRule, null, count, exception, Step}
+use Rattle.theory.specs.Rule.{keep, upTo, Program, inForce, null, count, exception, Step}
 use Rattle.theory.specs.Run.{Stand, run, factMark, setAside, stageCount}
-use Rattle.reader.specs.Question as refusal
+use Rattle.items.specs.Question as refusal
 use Rattle.reader.specs.Questions.{programOf, fileNo}
-use Rattle.rules.specs.Questions.{each}
-use Rattle.run.specs.Outcome.{over}
+use Rattle.questions.specs.Questions.{each}
+use Rattle.items.specs.Write.{over}
 
 -- A digit, and a number in decimal digits. No number n has more than n + 1 digits, so k from n up is enough.
 abbrev pub digit : ℕ → List ℕ
@@ -59,7 +59,7 @@ abbrev pub rejectedFacts : Program → Stand → List ℕ
 rejectedFacts P s = keep (λ f. eqb (factMark P s f) 2) (upTo (P .facts))
 
 abbrev pub asideRules : Program → Stand → List ℕ
-asideRules P s = keep (setAside P everyRule (s .derived)) (upTo (count P))
+asideRules P s = keep (setAside P (inForce P) (s .derived)) (upTo (count P))
 
 -- The lines of a run: F, then D for each step, X for each fact in R, A for each rule set aside, and Y or N.
 unfoldable pub runText : Program → Stand → List ℕ
@@ -78,7 +78,7 @@ ascending P = keep (exception P) (upTo (count P))
 unfoldable pub panelText : List ℕ → List ℕ
 panelText file =
     elim (fileNo file) [
-      | none ↦ runText (programOf file) (run (programOf file) everyRule (ascending (programOf file)))
+      | none ↦ runText (programOf file) (run (programOf file) (inForce (programOf file)) (ascending (programOf file)))
       | some r ↦ line 0x45 (refusal.number r)
     ]
 

@@ -1,20 +1,20 @@
 // The lines of a run, by the marks and the steps that it leaves. Internal.
 ghost use Prim.Native.Nat.{_≤_};
 ghost use lib.ListN.{length};
-ghost use Rattle.reader.specs.Questions.{maxRules};
-ghost use Rattle.rules.specs.Questions.{each, rowOf};
-ghost use Rattle.rules.specs.Orders.{placesMarked};
+ghost use Rattle.items.specs.Item.{maxRules};
+ghost use Rattle.questions.specs.Questions.{each, rowOf};
+ghost use Rattle.questions.specs.Orders.{placesMarked};
 ghost use Rattle.panel_text.specs.Text.{line, stepLine};
 ghost use Rattle.panel_text.specs.Left.{leftText, Tables};
-ghost use Rattle.rules.specs.Put.{Fits, Put};
+ghost use Rattle.questions.specs.Put.{Fits, Put};
 use crate::put::put_head;
 use crate::put::put_last;
 use crate::put::put_line;
 use crate::put::put_step;
-use reader::cursor::Cursor;
-use reader::cursor::Read;
-use reader::cursor::Row;
-use reader::item::Item;
+use items::cursor::Cursor;
+use items::cursor::Read;
+use items::cursor::Row;
+use items::item::Item;
 
 // The fact mark of a fact in R, and the rule mark of a rule set aside.
 const IN_R: u8 = 2;
@@ -32,7 +32,7 @@ fn put_steps(out: &mut [u8], from: usize, row: &[u8]) -> usize
         row: Row::Steps,
     };
     loop {
-        match cursor.next(row) {
+        match cursor.next_step(row) {
             Read::Refused(_, _) => {
                 return at;
             }

@@ -1,19 +1,22 @@
 // The ascending order of a file's exception rules. Internal.
-ghost use Rattle.reader.specs.Questions.{programOf};
-ghost use Rattle.reader.specs.Accepted.{Accepted};
-ghost use Rattle.rules.specs.Questions.{naming};
-ghost use Rattle.rules.specs.Put.{Fits, Put};
+ghost use Rattle.tables.specs.Layout.{programIn, WellFormed};
+ghost use Rattle.questions.specs.Questions.{naming};
+ghost use Rattle.questions.specs.Put.{Fits, Put};
 ghost use Rattle.panel_text.specs.Text.{ascending};
-use reader::answer::FileCounts;
-use rules::index::MAX_RULES;
+use items::item::MAX_RULES;
+use tables::layout::TABLE_CELLS;
+use tables::layout::rules_of;
 
-// The order of an accepted file. Answers its length.
-pub fn put_order(file: &[u8], counts: FileCounts, out: &mut [u8]) -> usize
-    requires { ⌜ Accepted (now file) counts ⌝ }
-    requires { ⌜ Fits (naming (ascending (programOf (now file)))) 0 (now out) ⌝ }
-    ensures { λ r. ⌜ Put (naming (ascending (programOf (now (file .entry))))) 0 (now (out .entry)) r (now (out .exit)) ⌝ }
+// The mark of a rule that is not plain.
+const NOT_PLAIN: u8 = 0;
+
+// The order of a program. Answers its length.
+pub fn put_order(tables: &[u16; TABLE_CELLS], out: &mut [u8]) -> usize
+    requires { ⌜ WellFormed (now tables) ⌝ }
+    requires { ⌜ Fits (naming (ascending (programIn (now tables)))) 0 (now out) ⌝ }
+    ensures { λ r. ⌜ Put (naming (ascending (programIn (now (tables .entry))))) 0 (now (out .entry)) r (now (out .exit)) ⌝ }
 {
-    let mut kinds = [0u8; MAX_RULES];
-    rules::index::mark_exceptions(file, &mut kinds);
-    rules::write::write_names(&kinds, 1, counts.rules as usize, out, 0)
+    let mut marks = [0u8; MAX_RULES];
+    tables::marks::mark_plain(tables, &mut marks);
+    questions::write::write_names(&marks, NOT_PLAIN, rules_of(tables), out, 0)
 }

@@ -2,10 +2,10 @@
 // behind what it wrote.
 ghost use mathlib.Core.List.{[], _∷_};
 ghost use Rattle.panel_text.specs.Text.{decimal, spaced, field, line, headLine, stepLine, lastLine};
-ghost use Rattle.rules.specs.Questions.{stepOf};
-ghost use Rattle.rules.specs.Put.{Fits, Put};
-use reader::item::FactId;
-use reader::item::RuleId;
+ghost use Rattle.questions.specs.Questions.{stepOf};
+ghost use Rattle.questions.specs.Put.{Fits, Put};
+use items::item::FactId;
+use items::item::RuleId;
 
 // One byte.
 fn put(out: &mut [u8], at: usize, byte: u8) -> usize

@@ -2,32 +2,34 @@
 ghost use Prim.Native.Nat.{_≤_};
 ghost use mathlib.Core.Path.{_≡_};
 ghost use lib.ListN.{length};
-ghost use Rattle.theory.specs.Rule.{everyRule};
+ghost use Rattle.theory.specs.Rule.{inForce};
 ghost use Rattle.theory.specs.Run.{run as runOf};
 ghost use Rattle.reader.specs.Questions.{programOf};
 ghost use Rattle.reader.specs.Accepted.{Accepted};
+ghost use Rattle.reader.specs.Scanned.{Tabled};
 ghost use Rattle.panel_text.specs.Text.{ascending, runText, panelText, shown, textRoom};
-ghost use Rattle.rules.specs.Put.{Put};
+ghost use Rattle.questions.specs.Put.{Put};
+use items::item::MAX_FACTS;
+use items::item::MAX_RULES;
+use items::write::NAME_WIDTH;
+use items::write::STEP_WIDTH;
 use reader::answer::Asked;
 use reader::answer::FileCounts;
-use reader::rules::MAX_FACTS;
-use reader::write::NAME_WIDTH;
-use reader::write::STEP_WIDTH;
-use rules::index::MAX_RULES;
 use run::answer::Ran;
+use tables::layout::TABLE_CELLS;
 
 // Every text has room in so many bytes: a line of at most 18, at most 255 of 10, 255 and 512 of 6, and one of 2.
 pub const TEXT_ROOM: usize = 8192;
 
 // The lines of the run of an accepted file, in ascending order. The order gets yes to its questions and the buffers are large enough, so the
 // run refuses nothing.
-fn put_run(file: &[u8], counts: FileCounts, out: &mut [u8]) -> usize
-    requires { ⌜ Accepted (now file) counts ⌝ }
+fn put_run(file: &[u8], tables: &[u16; TABLE_CELLS], counts: FileCounts, out: &mut [u8]) -> usize
+    requires { ⌜ Accepted (now file) counts × Tabled (now file) (now tables) ⌝ }
     requires { ⌜ textRoom ≤ length (now out) ⌝ }
-    ensures { λ r. ⌜ Put (runText (programOf (now (file .entry))) (runOf (programOf (now (file .entry))) everyRule (ascending (programOf (now (file .entry)))))) 0 (now (out .entry)) r (now (out .exit)) ⌝ }
+    ensures { λ r. ⌜ Put (runText (programOf (now (file .entry))) (runOf (programOf (now (file .entry))) (inForce (programOf (now (file .entry)))) (ascending (programOf (now (file .entry)))))) 0 (now (out .entry)) r (now (out .exit)) ⌝ }
 {
     let mut order = [0u8; MAX_RULES * NAME_WIDTH];
-    let named = crate::order::put_order(file, counts, &mut order);
+    let named = crate::order::put_order(tables, &mut order);
     let mut fact_marks = [0u8; MAX_FACTS];
     let mut rule_marks = [0u8; MAX_RULES];
     let mut steps = [0u8; MAX_FACTS * STEP_WIDTH];
@@ -63,9 +65,10 @@ pub fn put_text(file: &[u8], out: &mut [u8]) -> usize
     ensures { λ r. ⌜ Put (panelText (now (file .entry))) 0 (now (out .entry)) r (now (out .exit)) ⌝ }
     ensures { λ r. ⌜ r ≤ textRoom ⌝ }
 {
-    match reader::questions::ask_file(file) {
+    let mut tables = [0u16; TABLE_CELLS];
+    match reader::scan::scan(file, &mut tables) {
         Asked::No(r) => crate::put::put_line(out, 0, b'E', r.number() as u16),
-        Asked::Yes(counts) => put_run(file, counts, out),
+        Asked::Yes(counts) => put_run(file, &tables, counts, out),
     }
 }
 

@@ -6,17 +6,18 @@ use mathlib.Core.List.{List, _++_}
 use mathlib.Core.Option.{Option, none, some}
 use borrow.Author.Tests.{ltb-true}
 use lib.Dec.{ltb}
-use Rattle.theory.specs.Rule.{everyRule}
+use Rattle.theory.specs.Rule.{inForce}
 use Rattle.theory.specs.Check.{isProof}
-use Rattle.reader.specs.declared.refusal.Refusal.{Refusal}
+use Rattle.items.specs.declared.refusal.Refusal.{Refusal}
 use Rattle.reader.specs.declared.answer.Asked.the-variants as asked
 use Rattle.reader.specs.Questions.{programOf, fileNo}
-use Rattle.reader.specs.Question.{firstNo}
+use Rattle.items.specs.Question.{firstNo}
 use Rattle.reader.specs.Asked.{fileAsked}
-use Rattle.reader.proofs.FirstNo.{first-no, first-yes}
+use Rattle.items.proofs.FirstNo.{first-no, first-yes}
 use Rattle.reader.proofs.Accepted.{all-asked}
-use Rattle.rules.specs.Questions.{has, rowOf, setQuestions, rowQuestions, setNo, rowNo, checkQuestions, checkNo}
-use Rattle.rules.proofs.OperationAsked.{file-refused, file-accepted}
+use Rattle.items.specs.Item.{has}
+use Rattle.questions.specs.Questions.{rowOf, setQuestions, rowQuestions, setNo, rowNo, checkQuestions, checkNo}
+use Rattle.questions.proofs.OperationAsked.{file-refused, file-accepted}
 use Rattle.proofcheck.specs.declared.answer.Checked.the-variants.{Yes, No, Refused}
 use Rattle.proofcheck.specs.Checked.{checked}
 
@@ -49,7 +50,7 @@ module _ (file set : List ℕ) (fact : ℕ) (row : List ℕ) where
       pub check-row-no : (r : Refusal) → rowNo n fact row ≡ some r → Refused r ≡ checked file set fact row
       check-row-no r q = a-no r (left ∙ q)
 
-      pub all-asked-yes : _≡_ {A = Option Refusal} (rowNo n fact row) none → (b : Bool) → b ≡ isProof (programOf file) everyRule (has set) (rowOf row) fact → cond b Yes No ≡ checked file set fact row
+      pub all-asked-yes : _≡_ {A = Option Refusal} (rowNo n fact row) none → (b : Bool) → b ≡ isProof (programOf file) (inForce (programOf file)) (has set) (rowOf row) fact → cond b Yes No ≡ checked file set fact row
       unfolding checked
       all-asked-yes q b e =
           let yes-all : _≡_ {A = Option Refusal} (checkNo file set fact row) none = left ∙ q in

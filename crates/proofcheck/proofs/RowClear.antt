@@ -3,18 +3,13 @@ use Prim.Native.Nat.{ℕ, _<_}
 use mathlib.Core.Path.{_≡_, refl, sym, ap, _∙_}
 use mathlib.Core.Bool.{Bool, true, false, _&&_}
 use mathlib.Core.List.{List, [], _∷_}
-use native.Mathlib.Omega.{arith}
 use borrow.Author.Tests.{ltb-true}
-use lib.ListN.{getD}
 use lib.Dec.{ltb}
-use Rattle.theory.specs.Rule.{clear, Rule, Program, FactSet, count, rule, Step}
+use Rattle.theory.specs.Rule.{clear, Program, FactSet, count, rule, Step}
 use Rattle.theory.specs.Check.{rowClear}
-use Rattle.theory.proofs.Bools.{and-left, and-right, and-false}
-use Rattle.reader.specs.Questions.{programOf}
-use Rattle.rules.specs.RuleAt.{ruleAt}
-use Rattle.closure.specs.Known.{Known}
-use Rattle.closure.proofs.Ready.{indexed-rule}
+use Rattle.theory.proofs.Bools.{and-left, and-right}
 use Rattle.proofcheck.specs.Steps.{rulesKnown}
+use Rattle.proofcheck.proofs.ReadByView.{regrouped}
 
 abbrev bothClear : Program → FactSet → FactSet → List Step → Bool
 bothClear P T M row = rowClear P T row && rowClear P M row
@@ -41,24 +36,16 @@ module _ {P : Program} {T M : FactSet} {row rest : List Step} (w : Clearing P T 
     pub rule-known : s .by < count P
     rule-known = ltb-true (s .by) (count P) (and-left (ltb (s .by) (count P)) (rulesKnown P more) here-known)
 
-    pub meets-first : clear T (rule P (s .by) .constraints) ≡ false → false ≡ bothClear P T M row
-    meets-first q =
-        let here : bothClear P T M (s ∷ more) ≡ false = rw q in
-        sym (w .same ∙ ap (bothClear P T M) e ∙ here)
+    -- both tests on the first step, then both on the others
+    first : bothClear P T M row ≡ (clear T (rule P (s .by) .constraints) && clear M (rule P (s .by) .constraints)) && bothClear P T M more
+    first = w .same ∙ ap (bothClear P T M) e ∙ regrouped (clear T (rule P (s .by) .constraints)) (rowClear P T more) (clear M (rule P (s .by) .constraints)) (rowClear P M more)
 
-    pub meets-second : clear M (rule P (s .by) .constraints) ≡ false → false ≡ bothClear P T M row
-    meets-second q =
-        let here : bothClear P T M (s ∷ more) ≡ false = rw q (and-false (rowClear P T (s ∷ more))) in
-        sym (w .same ∙ ap (bothClear P T M) e ∙ here)
+    pub one-meets : clear T (rule P (s .by) .constraints) && clear M (rule P (s .by) .constraints) ≡ false → false ≡ bothClear P T M row
+    one-meets q = sym (first ∙ ap (λ (b : Bool). b && bothClear P T M more) q)
 
-    pub one-clear : clear T (rule P (s .by) .constraints) ≡ true → clear M (rule P (s .by) .constraints) ≡ true → Clearing P T M row more
-    one-clear q r =
-        let here : bothClear P T M (s ∷ more) ≡ bothClear P T M more = rw (q, r) in
+    pub one-clear : clear T (rule P (s .by) .constraints) && clear M (rule P (s .by) .constraints) ≡ true → Clearing P T M row more
+    one-clear q =
         record {
-          same = w .same ∙ ap (bothClear P T M) e ∙ here;
+          same = first ∙ ap (λ (b : Bool). b && bothClear P T M more) q;
           known = and-right (ltb (s .by) (count P)) (rulesKnown P more) here-known;
         }
-
--- The constraints that are read at a rule's place.
-pub constraints-there : {file starts : List ℕ} {rules : ℕ} → Known file starts rules → (i at : ℕ) → i < count (programOf file) → at ≡ getD starts i 0 → (T : FactSet) → clear T (ruleAt file at .constraints) ≡ clear T (rule (programOf file) i .constraints)
-constraints-there k i at h a T = ap (λ (r : Rule). clear T (r .constraints)) (indexed-rule k i at (omega (arith, k .counted)) a)

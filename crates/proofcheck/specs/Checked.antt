@@ -5,13 +5,14 @@ use mathlib.Core.Bool.{cond}
 use mathlib.Core.List.{List}
 use mathlib.Core.Logic.{_↔_}
 use mathlib.Core.Option.{none, some}
-use Rattle.theory.specs.Rule.{everyRule}
+use Rattle.theory.specs.Rule.{inForce}
 use Rattle.theory.specs.Stable.{Proof, Admits}
 use Rattle.theory.specs.Check.{isProof}
-use Rattle.reader.specs.Question as refusal
-use Rattle.reader.specs.Question.{noNumber}
+use Rattle.items.specs.Question as refusal
+use Rattle.items.specs.Question.{noNumber}
 use Rattle.reader.specs.Questions.{programOf}
-use Rattle.rules.specs.Questions.{checkNo, has, rowOf}
+use Rattle.items.specs.Item.{has}
+use Rattle.questions.specs.Questions.{checkNo, rowOf}
 use Rattle.proofcheck.specs.declared.answer.Checked.{Checked}
 use Rattle.proofcheck.specs.declared.answer.Checked.the-variants.{Yes, No, Refused}
 
@@ -19,7 +20,7 @@ use Rattle.proofcheck.specs.declared.answer.Checked.the-variants.{Yes, N
 unfoldable pub checked : List ℕ → List ℕ → ℕ → List ℕ → Checked
 checked file set fact row =
     elim (checkNo file set fact row) [
-      | none ↦ cond (isProof (programOf file) everyRule (has set) (rowOf row) fact) Yes No
+      | none ↦ cond (isProof (programOf file) (inForce (programOf file)) (has set) (rowOf row) fact) Yes No
       | some r ↦ Refused r
     ]
 
@@ -38,4 +39,4 @@ verdict (Refused r) = 0
 -- asked fact that the set admits.
 pub record CheckMeans (file set : List ℕ) (fact : ℕ) (row : List ℕ) (r : Checked) : Type 0 where
   pub numbered : number r ≡ noNumber (checkNo file set fact row)
-  pub yes-exactly : number r ≡ 0 → (verdict r ≡ 1) ↔ (Proof (programOf file) everyRule (rowOf row) fact × Admits (programOf file) (has set) (rowOf row))
+  pub yes-exactly : number r ≡ 0 → (verdict r ≡ 1) ↔ (Proof (programOf file) (inForce (programOf file)) (rowOf row) fact × Admits (programOf file) (has set) (rowOf row))

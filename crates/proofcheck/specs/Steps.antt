@@ -6,7 +6,7 @@ use mathlib.Core.List.{List, map}
 use lib.Dec.{ltb}
 use Rattle.theory.specs.Rule.{all, Program, count, Step}
 use Rattle.theory.specs.Stable.{factsOf}
-use Rattle.rules.specs.Questions.{has}
+use Rattle.items.specs.Item.{has}
 
 -- each step's rule is one of the program
 abbrev pub rulesKnown : Program → List Step → Bool

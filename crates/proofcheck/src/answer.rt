@@ -1,4 +1,4 @@
-use reader::refusal::Refusal;
+use items::refusal::Refusal;
 
 // What the proof check answers of a row.
 pub enum Checked {

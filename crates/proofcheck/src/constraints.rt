@@ -1,29 +1,28 @@
 // The constraints of the rules that a row uses. Internal.
 ghost use mathlib.Core.Path.{_≡_};
 ghost use mathlib.Core.Bool.{true, _&&_};
-ghost use Rattle.theory.specs.Rule.{count};
 ghost use Rattle.theory.specs.Check.{rowClear};
+ghost use Rattle.items.specs.Item.{has};
 ghost use Rattle.reader.specs.Questions.{programOf};
-ghost use Rattle.rules.specs.Questions.{has, rowOf};
-ghost use Rattle.closure.specs.Known.{Known};
+ghost use Rattle.reader.specs.Scanned.{Tabled};
+ghost use Rattle.questions.specs.Questions.{rowOf};
 ghost use Rattle.proofcheck.specs.Steps.{rulesKnown};
 use crate::own::constraints_clear;
-use closure::place::start_of;
-use reader::cursor::Cursor;
-use reader::cursor::Read;
-use reader::cursor::Row;
-use reader::item::Item;
-use rules::index::MAX_RULES;
+use items::cursor::Cursor;
+use items::cursor::Read;
+use items::cursor::Row;
+use items::item::Item;
+use tables::layout::TABLE_CELLS;
 
 // Are the constraints of all steps outside the facts of all steps, and outside the set?
 pub fn row_clear(
     file: &[u8],
-    starts: &[u16; MAX_RULES],
+    tables: &[u16; TABLE_CELLS],
     proof: &[u8],
     facts: &[u8],
     set: &[u8],
 ) -> bool
-    requires { ⌜ Known (now file) (now starts) (count (programOf (now file))) ⌝ }
+    requires { ⌜ Tabled (now file) (now tables) ⌝ }
     requires { ⌜ rulesKnown (programOf (now file)) (rowOf (now proof)) ≡ true ⌝ }
     ensures { λ r. ⌜ r ≡ rowClear (programOf (now (file .entry))) (has (now (facts .entry))) (rowOf (now (proof .entry))) && rowClear (programOf (now (file .entry))) (has (now (set .entry))) (rowOf (now (proof .entry))) ⌝ }
 {
@@ -32,23 +31,16 @@ pub fn row_clear(
         row: Row::Steps,
     };
     loop {
-        match cursor.next(proof) {
-            Read::Refused(_, _) => {
-                return true;
-            }
+        match cursor.next_step(proof) {
             Read::Found(item, next) => {
                 if let Item::Step(_, rule) = item {
-                    let at = start_of(starts, rule);
-                    if !constraints_clear(file, at, facts) {
-                        return false;
-                    }
-                    if !constraints_clear(file, at, set) {
+                    if !constraints_clear(file, tables, rule, facts, set) {
                         return false;
                     }
                 }
                 cursor = next;
             }
-            Read::Ended(_) => {
+            _ => {
                 return true;
             }
         }

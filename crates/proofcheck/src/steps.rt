@@ -1,22 +1,23 @@
 // The steps of a row: where it ends, and whether each step follows from those before it. Internal.
 ghost use mathlib.Core.Path.{_≡_};
 ghost use lib.ListN.{length};
-ghost use Rattle.theory.specs.Rule.{everyRule};
+ghost use Rattle.theory.specs.Rule.{inForce};
 ghost use Rattle.theory.specs.Check.{stepHolds, stepsHold, endsWith};
-ghost use Rattle.reader.specs.Item.{maxFacts};
+ghost use Rattle.items.specs.Item.{maxFacts, has};
 ghost use Rattle.reader.specs.Questions.{programOf};
-ghost use Rattle.rules.specs.Questions.{has, rowOf};
-ghost use Rattle.closure.specs.Known.{Known};
+ghost use Rattle.reader.specs.Scanned.{Tabled};
+ghost use Rattle.questions.specs.Questions.{rowOf};
 ghost use Rattle.proofcheck.specs.Steps.{Marked};
-use closure::place::start_of;
-use reader::cursor::Cursor;
-use reader::cursor::Read;
-use reader::cursor::Row;
-use reader::item::FactId;
-use reader::item::Item;
-use reader::item::RuleId;
-use reader::rules::MAX_FACTS;
-use rules::index::MAX_RULES;
+use items::cursor::Cursor;
+use items::cursor::Read;
+use items::cursor::Row;
+use items::item::FactId;
+use items::item::Item;
+use items::item::MAX_FACTS;
+use items::item::RuleId;
+use tables::layout::TABLE_CELLS;
+use tables::layout::rules_of;
+use tables::rule::conclusion;
 
 // Does the last step conclude the fact? An empty row has no last step.
 pub fn ends_with(proof: &[u8], fact: FactId) -> bool
@@ -28,17 +29,14 @@ pub fn ends_with(proof: &[u8], fact: FactId) -> bool
         row: Row::Steps,
     };
     loop {
-        match cursor.next(proof) {
-            Read::Refused(_, _) => {
-                return ends;
-            }
+        match cursor.next_step(proof) {
             Read::Found(item, next) => {
                 if let Item::Step(f, _) = item {
                     ends = f.0 == fact.0;
                 }
                 cursor = next;
             }
-            Read::Ended(_) => {
+            _ => {
                 return ends;
             }
         }
@@ -48,37 +46,34 @@ pub fn ends_with(proof: &[u8], fact: FactId) -> bool
 // Is the rule one of the file, does it conclude the fact, and are its premises among the earlier facts?
 fn step_holds(
     file: &[u8],
-    starts: &[u16; MAX_RULES],
-    rules: usize,
+    tables: &[u16; TABLE_CELLS],
     fact: FactId,
     rule: RuleId,
     earlier: &[u8],
 ) -> bool
-    requires { ⌜ Known (now file) (now starts) rules ⌝ }
-    ensures { λ r. ⌜ r ≡ stepHolds (programOf (now (file .entry))) everyRule (has (now (earlier .entry))) (record { fact = fact .0; by = rule .0 }) ⌝ }
+    requires { ⌜ Tabled (now file) (now tables) ⌝ }
+    ensures { λ r. ⌜ r ≡ stepHolds (programOf (now (file .entry))) (inForce (programOf (now (file .entry)))) (has (now (earlier .entry))) (record { fact = fact .0; by = rule .0 }) ⌝ }
 {
-    if rules <= rule.0 as usize {
+    if rules_of(tables) <= rule.0 as usize {
         return false;
     }
-    let at = start_of(starts, rule);
-    let concluded = rules::rule::conclusion(file, at);
+    let concluded = conclusion(tables, rule);
     if concluded.0 != fact.0 {
         return false;
     }
-    crate::own::premises_in(file, at, earlier)
+    crate::own::premises_in(file, tables, rule, earlier)
 }
 
 // Does each step hold after those before it? Where all do, their facts are marked.
 pub fn steps_hold(
     file: &[u8],
-    starts: &[u16; MAX_RULES],
-    rules: usize,
+    tables: &[u16; TABLE_CELLS],
     proof: &[u8],
     facts: &mut [u8; MAX_FACTS],
 ) -> bool
-    requires { ⌜ Known (now file) (now starts) rules ⌝ }
+    requires { ⌜ Tabled (now file) (now tables) ⌝ }
     requires { ⌜ length (now facts) ≡ maxFacts ⌝ }
-    ensures { λ r. ⌜ r ≡ stepsHold (programOf (now (file .entry))) everyRule (has (now (facts .entry))) (rowOf (now (proof .entry))) ⌝ }
+    ensures { λ r. ⌜ r ≡ stepsHold (programOf (now (file .entry))) (inForce (programOf (now (file .entry)))) (has (now (facts .entry))) (rowOf (now (proof .entry))) ⌝ }
     ensures { λ r. ⌜ Marked (rowOf (now (proof .entry))) (now (facts .entry)) (now (facts .exit)) r ⌝ }
     ensures { λ _. ⌜ length (now (facts .exit)) ≡ maxFacts ⌝ }
 {
@@ -87,21 +82,18 @@ pub fn steps_hold(
         row: Row::Steps,
     };
     loop {
-        match cursor.next(proof) {
-            Read::Refused(_, _) => {
-                return true;
-            }
+        match cursor.next_step(proof) {
             Read::Found(item, next) => {
                 if let Item::Step(fact, rule) = item {
                     let number = fact.0 as usize;
-                    if !step_holds(file, starts, rules, fact, rule, facts) {
+                    if !step_holds(file, tables, fact, rule, facts) {
                         return false;
                     }
                     facts[number] = 1;
                 }
                 cursor = next;
             }
-            Read::Ended(_) => {
+            _ => {
                 return true;
             }
         }

@@ -1,4 +1,3 @@
-pub mod ElementsCounted
 pub mod LiteralsStacked
 pub mod Grounds
 pub mod LiteralsTold

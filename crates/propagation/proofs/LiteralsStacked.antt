@@ -10,13 +10,13 @@ use borrow.Author.Tests.{eqb-true, eqb-false, ne-eqb, lt-ltb, ltb-true}
 use lib.ListN.{length, getD, set, take, length-set}
 use lib.Seq.{getD-set-same, getD-set-other, take-suc, take-suc-set}
 use lib.Dec.{eqb, ltb}
-use Rattle.theory.specs.Rule.{all, mem, howMany, upTo, adjoin}
+use Rattle.theory.specs.Rule.{all, mem, adjoin}
 use Rattle.theory.proofs.Bools.{either, never, and-left, and-right, and-both, or-left, or-right, or-cases, or-none}
-use Rattle.theory.proofs.Lists.{eqb-self, mem-left, mem-append, all-append, upTo-mem, howMany-less}
-use Rattle.rules.specs.Questions.{has}
-use Rattle.literals.specs.Literal.{literals}
+use Rattle.theory.proofs.Lists.{eqb-self, mem-left, mem-append, all-append}
+use Rattle.items.specs.Item.{has}
+use Rattle.index.specs.Literal.{literals, literalCount}
+use Rattle.index.proofs.LiteralsCounted.{count-same, count-more, count-room, count-most}
 use Rattle.propagation.specs.State.{waiting, told, toldCount, Stacked, Waited}
-use Rattle.propagation.proofs.ElementsCounted.{counted-below, counted-most}
 
 -- A literal's byte says whether it is told and whether it is true.
 module _ (marks : List ℕ) (l : ℕ) where
@@ -45,32 +45,6 @@ module _ (s : List ℕ) (n v : ℕ) (h : n < length s) (Q : ℕ → ℕ → Type
       other : eqb x n ≡ false → Q x (getD (set s n v) x 0)
       other e = rw (getD-set-other s n x v 0 (eqb-false x n e)) (there x e)
 
--- the count of the literals told
-pub count-more : (marks marks′ : List ℕ) (l : ℕ) → l < literals → told marks l ≡ false → ((x : ℕ) → told marks′ x ≡ adjoin (told marks) l x) → toldCount marks < toldCount marks′
-unfolding toldCount
-count-more marks marks′ l h f more = go literals h
-  where
-    go : (n : ℕ) → l < n → howMany (told marks) (upTo n) < howMany (told marks′) (upTo n)
-    go n k =
-        howMany-less (told marks′) (told marks) (upTo n)
-        (λ x t. more x ∙ or-right (eqb x l) _ t)
-        l (upTo-mem n l k) (more l ∙ or-left _ _ (eqb-self l)) f
-
-pub count-room : (marks : List ℕ) (l : ℕ) → l < literals → told marks l ≡ false → toldCount marks < literals
-unfolding toldCount
-count-room marks l h f = counted-below (told marks) literals l h f
-
-pub count-most : (marks : List ℕ) → toldCount marks ≤ literals
-unfolding toldCount
-count-most marks = counted-most (told marks) literals
-
-pub count-same : (marks marks′ : List ℕ) → told marks ≡ told marks′ → toldCount marks ≡ toldCount marks′
-unfolding toldCount
-count-same marks marks′ e = go literals
-  where
-    go : (n : ℕ) → howMany (told marks) (upTo n) ≡ howMany (told marks′) (upTo n)
-    go n = ap (λ (p : ℕ → Bool). howMany p (upTo n)) e
-
 -- A literal that may be told already.
 module _ {marks stack : List ℕ} {top : ℕ} (w : Stacked marks stack top) (l : ℕ) (h : l < literals) where
   pub told-before : (getD marks l 0 ≡ 0 → ⊥) → Waited l marks top marks stack top
@@ -88,7 +62,7 @@ module _ {marks stack : List ℕ} {top : ℕ} (w : Stacked marks stack top) (l :
 
   module _ (e : getD marks l 0 ≡ 0) where
     pub room-left : top < literals
-    room-left = omega (arith, w .room, count-room marks l h (untold marks l e))
+    room-left = omega (arith, w .room, count-room (told marks) l h (untold marks l e))
 
     tells-more : (x : ℕ) → told (set marks l waiting) x ≡ eqb x l || told marks x
     unfolding told
@@ -103,7 +77,7 @@ module _ {marks stack : List ℕ} {top : ℕ} (w : Stacked marks stack top) (l :
         (rw e refl) (λ x f. refl)
 
     grown : toldCount marks < toldCount (set marks l waiting)
-    grown = count-more marks (set marks l waiting) l h (untold marks l e) tells-more
+    grown = omega (arith, count-same (told (set marks l waiting)) (adjoin (told marks) l) tells-more, count-more (told marks) l h (untold marks l e))
 
     longer : take (top + 1) (set stack top l) ≡ take top stack ++ (l ∷ [])
     longer = ap (λ (n : ℕ). take n (set stack top l)) (add-one top) ∙ take-suc-set stack top l (omega (arith, w .stack-places, room-left))
@@ -140,7 +114,7 @@ module _ {marks stack : List ℕ} {rest : ℕ} (w : Stacked marks stack (suc res
   last = getD stack rest 0
 
   pub top-inside : rest < literals
-  top-inside = omega (arith, w .room, count-most marks)
+  top-inside = omega (arith, w .room, count-most (told marks))
 
   shorter : take (suc rest) stack ≡ take rest stack ++ (last ∷ [])
   shorter = take-suc stack rest 0 (omega (arith, w .stack-places, top-inside))
@@ -185,7 +159,7 @@ module _ {marks stack : List ℕ} {rest : ℕ} (w : Stacked marks stack (suc res
           literal-places = length-set marks last 1 ∙ w .literal-places;
           stack-places = w .stack-places;
           stacked = and-left _ _ all-shorter;
-          room = omega (arith, w .room, count-same (set marks last 1) marks same-told);
+          room = omega (arith, w .room, ap literalCount same-told);
           waits =
               set-cases marks last 1 (omega (arith, w .literal-places, top-literal)) (λ x b. x < literals → b ≡ waiting → mem x (take rest stack) ≡ true)
               (λ k t. absurd (omega arith)) (λ x f k t. waits-below x f k t);

@@ -2,7 +2,7 @@
 use Prim.Native.Nat.{ℕ, zero, suc, _+_, _-_, _<_, _≤_}
 use native.Mathlib.Omega.{arith}
 use mathlib.Core.Path.{_≡_, refl, sym, ap, _∙_, fun-ext, subst}
-use mathlib.Core.Bool.{Bool, true, false, not, _||_}
+use mathlib.Core.Bool.{Bool, true, false, not, _&&_, _||_}
 use mathlib.Core.List.{List, [], _∷_}
 use mathlib.Core.Logic.{⊎-elim}
 use borrow.Author.Tests.{eqb-true, ne-eqb, ltb-true, ltb-false}
@@ -10,21 +10,19 @@ use lib.ListN.{length, getD, set, length-set, List·getD-eq-default}
 use lib.Dec.{eqb, ltb}
 use Rattle.theory.specs.Rule.{all, howMany, Program, Mask, Sub, everyRule, adjoin, count, rule}
 use Rattle.theory.proofs.Bools.{either, never, and-left, and-right, or-right, or-cases, not-of-false}
-use Rattle.theory.proofs.Lists.{eqb-self, eqb-sym}
-use Rattle.reader.specs.declared.item.FactId.{FactId}
-use Rattle.reader.specs.Item.{maxFacts, factId}
-use Rattle.reader.specs.Questions.{programOf, maxRules}
-use Rattle.reader.proofs.EachKind.{Bytes}
-use Rattle.rules.specs.Questions.{has}
-use Rattle.rules.specs.RuleAt.{ruleAt}
-use Rattle.rules.proofs.Sets.{has-set}
-use Rattle.closure.specs.Known.{Known}
-use Rattle.closure.proofs.Ready.{facts-bounded, facts-few, read-conclusion, conclusion-few}
-use Rattle.literals.specs.Literal.{outside, literals, slots, body}
-use Rattle.literals.specs.Rows.{Chain, Row}
-use Rattle.propagation.specs.State.{Ready, waiting, told, toldCount, Grounded, Spreading, Between, Telling, Waited, Concluded, Onward, Settled}
-use Rattle.propagation.proofs.ElementsCounted.{counted-without}
-use Rattle.propagation.proofs.LiteralsStacked.{has-told, count-same, count-most, set-cases, passed-by, taken, same-told, was-not-true, top-inside, top-literal}
+use Rattle.theory.proofs.Lists.{eqb-self}
+use Rattle.items.specs.declared.item.FactId.{FactId}
+use Rattle.items.specs.Item.{maxFacts, factId, maxRules, has}
+use Rattle.tables.specs.Layout.{programIn, WellFormed}
+use Rattle.tables.proofs.ProgramHeld.{facts-below, conclusion-below}
+use Rattle.tables.proofs.MarksPainted.{has-set}
+use Rattle.index.specs.Literal.{outside, literals, literalCount, lacking}
+use Rattle.index.specs.Cells.{slots, headIn, linkIn, ownerIn, onIn}
+use Rattle.index.specs.Index.{Chain, askers, Indexed}
+use Rattle.index.proofs.LiteralsCounted.{count-most}
+use Rattle.index.proofs.AskersCounted.{askers-known, lacking-told}
+use Rattle.propagation.specs.State.{waiting, told, toldCount, Grounded, Spreading, Between, Telling, Waited, Concluded, Onward, Settled}
+use Rattle.propagation.proofs.LiteralsStacked.{has-told, set-cases, passed-by, taken, same-told, was-not-true, top-inside, top-literal}
 use Rattle.propagation.proofs.Grounds.{grounded-still, conclusion-grounded}
 
 pub adjoined : (S : ℕ → Bool) (f : ℕ) → adjoin S f f ≡ true
@@ -52,42 +50,50 @@ module _ {P : Program} {i : ℕ} {marks marks′ stack′ : List ℕ} {top top�
       apart : (k : ℕ) → outside k ≡ rule P i .conclusion → ⊥
       apart k e = omega (arith, v .bounded .conclusion-below i h, v .few)
 
-module _ {P : Program} {asked : Mask} {rules marks missing stack : List ℕ} {top : ℕ} (w : Spreading P asked rules marks missing stack top) where
+module _ {P : Program} {on asked : Mask} {rules marks missing stack : List ℕ} {top : ℕ} (w : Spreading P on asked rules marks missing stack top) where
   -- other rules are asked for
-  pub asked-for : (asked′ : Mask) → ((i : ℕ) → i < count P → asked′ i ≡ true → getD missing i 0 ≡ 0 → told marks (rule P i .conclusion) ≡ true) → Spreading P asked′ rules marks missing stack top
+  pub asked-for : (asked′ : Mask) → ((i : ℕ) → i < count P → asked′ i ≡ true → getD missing i 0 ≡ 0 → told marks (rule P i .conclusion) ≡ true) → Spreading P on asked′ rules marks missing stack top
   asked-for asked′ f =
-      record { on-stack = w .on-stack; rule-places = w .rule-places; missed = w .missed; fires = f; sound = w .sound }
+      record { on-stack = w .on-stack; rule-places = w .rule-places; missed = w .missed; unused = w .unused; fires = f; sound = w .sound }
 
   module _ {marks′ stack′ : List ℕ} {top′ : ℕ} where
     -- a literal is told that is held out, or has grounds
-    pub one-told : (l : ℕ) → Waited l marks top marks′ stack′ top′ → (l < maxFacts → Grounded P (told marks) l) → Spreading P asked rules marks′ missing stack′ top′
+    pub one-told : (l : ℕ) → Waited l marks top marks′ stack′ top′ → (l < maxFacts → Grounded P on (told marks) l) → Spreading P on asked rules marks′ missing stack′ top′
     one-told l v grounds =
         record {
           on-stack = v .on-stack;
           rule-places = w .rule-places;
-          missed = λ i h. w .missed i h ∙ ap (λ (p : ℕ → Bool). howMany (λ x. not (p x)) (body (rule P i)) + howMany (eqb i) rules) (sym (fun-ext (v .keeps)));
+          missed = λ i h o. w .missed i h o ∙ ap (λ (p : ℕ → Bool). lacking P p i + howMany (eqb i) rules) (sym (fun-ext (v .keeps)));
+          unused = w .unused;
           fires = λ i h a z. more (rule P i .conclusion) (w .fires i h a z);
-          sound = λ f h t. grounded-still P (told marks) (told marks′) more f (⊎-elim (λ e. now f e h) (λ e. w .sound f h e) (or-cases (eqb f l) _ (sym (v .tells f) ∙ t)));
+          sound = λ f h t. grounded-still P on (told marks) (told marks′) more f (⊎-elim (λ e. now f e h) (λ e. w .sound f h e) (or-cases (eqb f l) _ (sym (v .tells f) ∙ t)));
         }
       where
         more : Sub (told marks) (told marks′)
         more x t = v .tells x ∙ or-right (eqb x l) _ t
 
-        now : (f : ℕ) → eqb f l ≡ true → f < maxFacts → Grounded P (told marks) f
+        now : (f : ℕ) → eqb f l ≡ true → f < maxFacts → Grounded P on (told marks) f
         now f e h =
             let is-l : f ≡ l = eqb-true f l e in
-            subst (Grounded P (told marks)) (sym is-l) (grounds (omega arith))
+            subst (Grounded P on (told marks)) (sym is-l) (grounds (omega arith))
 
     -- a rule that misses nothing has its conclusion
-    pub one-concluded : (i : ℕ) → i < count P → getD missing i 0 ≡ 0 → Concluded P i marks top marks′ stack′ top′ → Spreading P (adjoin asked i) rules marks′ missing stack′ top′
+    pub one-concluded : (i : ℕ) → i < count P → getD missing i 0 ≡ 0 → Concluded P i marks top marks′ stack′ top′ → Spreading P on (adjoin asked i) rules marks′ missing stack′ top′
     one-concluded i h z v =
-        record { on-stack = x .on-stack; rule-places = x .rule-places; missed = x .missed; fires = fires-too; sound = x .sound }
+        record { on-stack = x .on-stack; rule-places = x .rule-places; missed = x .missed; unused = x .unused; fires = fires-too; sound = x .sound }
       where
-        none : howMany (λ l. not (has marks l)) (body (rule P i)) ≡ 0
-        none = omega (arith, w .missed i h)
+        in-force : on i ≡ true
+        in-force = not-off (on i) refl
+          where
+            not-off : (b : Bool) → on i ≡ b → b ≡ true
+            not-off true e = refl
+            not-off false e = absurd (omega (arith, w .unused i h e))
 
-        x : Spreading P asked rules marks′ missing stack′ top′
-        x = one-told (rule P i .conclusion) (v .waited) (λ _. conclusion-grounded P (v .bounded) (v .few) (has marks) (told marks) (has-told marks) (w .sound) i h none)
+        none : lacking P (has marks) i ≡ 0
+        none = omega (arith, w .missed i h in-force)
+
+        x : Spreading P on asked rules marks′ missing stack′ top′
+        x = one-told (rule P i .conclusion) (v .waited) (λ _. conclusion-grounded P on (v .bounded) (v .few) (has marks) (told marks) (has-told marks) (w .sound) i h in-force none)
 
         fires-too : (j : ℕ) → j < count P → adjoin asked i j ≡ true → getD missing j 0 ≡ 0 → told marks′ (rule P j .conclusion) ≡ true
         fires-too j k a y = ⊎-elim same (λ e. x .fires j k e y) (or-cases (eqb j i) _ a)
@@ -98,9 +104,9 @@ module _ {P : Program} {asked : Mask} {rules marks missing stack : List ℕ} {to
                 rw is-i (v .waited .tells (rule P i .conclusion) ∙ adjoined (told marks) (rule P i .conclusion))
 
 -- A rule is told once.
-module _ {P : Program} {r : ℕ} {rules marks missing stack : List ℕ} {top : ℕ} (w : Spreading P everyRule (r ∷ rules) marks missing stack top) (h : r < count P) (few : count P ≤ maxRules) where
-  missed-once : getD missing r 0 ≡ howMany (λ l. not (has marks l)) (body (rule P r)) + suc (howMany (eqb r) rules)
-  missed-once = w .missed r h ∙ rw (eqb-self r) refl
+module _ {P : Program} {on : Mask} {r : ℕ} {rules marks missing stack : List ℕ} {top : ℕ} (w : Spreading P on everyRule (r ∷ rules) marks missing stack top) (h : r < count P) (o : on r ≡ true) (few : count P ≤ maxRules) where
+  missed-once : getD missing r 0 ≡ lacking P (has marks) r + suc (howMany (eqb r) rules)
+  missed-once = w .missed r h o ∙ rw (eqb-self r) refl
 
   pub missed-some : 0 < getD missing r 0
   missed-some = omega (arith, missed-once)
@@ -108,15 +114,19 @@ module _ {P : Program} {r : ℕ} {rules marks missing stack : List ℕ} {top : �
   abbrev less : List ℕ
   less = set missing r (getD missing r 0 - 1)
 
-  pub rule-told : Spreading P (λ i. not (eqb i r)) rules marks less stack top
+  pub rule-told : Spreading P on (λ i. not (eqb i r)) rules marks less stack top
   rule-told =
       record {
         on-stack = w .on-stack;
         rule-places = length-set missing r (getD missing r 0 - 1) ∙ w .rule-places;
         missed =
             set-cases missing r (getD missing r 0 - 1) (omega (arith, w .rule-places))
-            (λ i b. i < count P → b ≡ howMany (λ l. not (has marks l)) (body (rule P i)) + howMany (eqb i) rules)
-            (λ _. omega (arith, missed-once)) (λ i e k. w .missed i k ∙ rw e refl);
+            (λ i b. i < count P → on i ≡ true → b ≡ lacking P (has marks) i + howMany (eqb i) rules)
+            (λ _ _. omega (arith, missed-once)) (λ i e k y. w .missed i k y ∙ rw e refl);
+        unused =
+            set-cases missing r (getD missing r 0 - 1) (omega (arith, w .rule-places))
+            (λ i b. i < count P → on i ≡ false → b ≡ 1)
+            (λ _ f. never o f) (λ i e k f. w .unused i k f);
         fires =
             set-cases missing r (getD missing r 0 - 1) (omega (arith, w .rule-places))
             (λ i b. i < count P → not (eqb i r) ≡ true → b ≡ 0 → told marks (rule P i .conclusion) ≡ true)
@@ -127,13 +137,13 @@ module _ {P : Program} {r : ℕ} {rules marks missing stack : List ℕ} {top : �
       not-self : not (eqb r r) ≡ true → eqb r r ≡ false
       not-self a = never a (ap not (eqb-self r))
 
-  pub still-missing : (getD less r 0 ≡ 0 → ⊥) → Spreading P everyRule rules marks less stack top
+  pub still-missing : (getD less r 0 ≡ 0 → ⊥) → Spreading P on everyRule rules marks less stack top
   still-missing n =
       asked-for rule-told everyRule (λ i k _ z. ⊎-elim (λ e. absurd (n (sym (ap (λ (j : ℕ). getD less j 0) (eqb-true i r e)) ∙ z))) (λ e. rule-told .fires i k (not-of-false e) z) (either (eqb i r)))
 
-  pub none-missing-now : {marks′ stack′ : List ℕ} {top′ : ℕ} → getD less r 0 ≡ 0 → Concluded P r marks top marks′ stack′ top′ → Spreading P everyRule rules marks′ less stack′ top′
+  pub none-missing-now : {marks′ stack′ : List ℕ} {top′ : ℕ} → getD less r 0 ≡ 0 → Concluded P r marks top marks′ stack′ top′ → Spreading P on everyRule rules marks′ less stack′ top′
   none-missing-now {marks′} {stack′} {top′} z v =
-      let x : Spreading P (adjoin (λ i. not (eqb i r)) r) rules marks′ less stack′ top′ = one-concluded rule-told r h z v in
+      let x : Spreading P on (adjoin (λ i. not (eqb i r)) r) rules marks′ less stack′ top′ = one-concluded rule-told r h z v in
       asked-for x everyRule (λ i k _ y. x .fires i k (any-rule (eqb i r)) y)
     where
       any-rule : (b : Bool) → b || not b ≡ true
@@ -141,77 +151,77 @@ module _ {P : Program} {r : ℕ} {rules marks missing stack : List ℕ} {top : �
       any-rule false = refl
 
 -- The rules of a chain are told.
-module _ {P : Program} {links owners : List ℕ} {slot : ℕ} {marks missing stack : List ℕ} {top : ℕ} (w : Telling P links owners slot marks missing stack top) where
-  pub chain-ended : slot ≡ 0 → Between P marks missing stack top
+module _ {P : Program} {R : List ℕ} {slot : ℕ} {marks missing stack : List ℕ} {top : ℕ} (w : Telling P R slot marks missing stack top) where
+  pub chain-ended : slot ≡ 0 → Between P (onIn R) marks missing stack top
   chain-ended e = go (w .rules) (w .chain) (w .spreading)
     where
-      go : (rs : List ℕ) → Chain links owners rs slot → Spreading P everyRule rs marks missing stack top → Between P marks missing stack top
+      go : (rs : List ℕ) → Chain R rs slot → Spreading P (onIn R) everyRule rs marks missing stack top → Between P (onIn R) marks missing stack top
       go [] q x = x
       go (r ∷ rs) q x = absurd (omega (arith, q .0))
 
   -- the rule at the slot, and the state once it is told
   pub record RuleTold : Type 0 where
     pub slot-inside : slot < slots
-    pub rule-known : getD owners slot 0 < count P
-    pub link-lower : getD links slot 0 < slot
-    pub some-missing : 0 < getD missing (getD owners slot 0) 0
-    pub goes-on : (getD (set missing (getD owners slot 0) (getD missing (getD owners slot 0) 0 - 1)) (getD owners slot 0) 0 ≡ 0 → ⊥)
-        → Telling P links owners (getD links slot 0) marks (set missing (getD owners slot 0) (getD missing (getD owners slot 0) 0 - 1)) stack top
-    pub concludes : (marks′ stack′ : List ℕ) (top′ : ℕ) → getD (set missing (getD owners slot 0) (getD missing (getD owners slot 0) 0 - 1)) (getD owners slot 0) 0 ≡ 0
-        → Concluded P (getD owners slot 0) marks top marks′ stack′ top′
-        → Telling P links owners (getD links slot 0) marks′ (set missing (getD owners slot 0) (getD missing (getD owners slot 0) 0 - 1)) stack′ top′
+    pub rule-known : ownerIn R slot < count P
+    pub link-lower : linkIn R slot < slot
+    pub some-missing : 0 < getD missing (ownerIn R slot) 0
+    pub goes-on : (getD (set missing (ownerIn R slot) (getD missing (ownerIn R slot) 0 - 1)) (ownerIn R slot) 0 ≡ 0 → ⊥)
+        → Telling P R (linkIn R slot) marks (set missing (ownerIn R slot) (getD missing (ownerIn R slot) 0 - 1)) stack top
+    pub concludes : (marks′ stack′ : List ℕ) (top′ : ℕ) → getD (set missing (ownerIn R slot) (getD missing (ownerIn R slot) 0 - 1)) (ownerIn R slot) 0 ≡ 0
+        → Concluded P (ownerIn R slot) marks top marks′ stack′ top′
+        → Telling P R (linkIn R slot) marks′ (set missing (ownerIn R slot) (getD missing (ownerIn R slot) 0 - 1)) stack′ top′
 
   pub at-slot : count P ≤ maxRules → (slot ≡ 0 → ⊥) → RuleTold
   at-slot few n = go (w .rules) (w .chain) (w .known) (w .spreading)
     where
-      go : (rs : List ℕ) → Chain links owners rs slot → all (λ i. ltb i (count P)) rs ≡ true → Spreading P everyRule rs marks missing stack top → RuleTold
+      go : (rs : List ℕ) → Chain R rs slot → all (λ i. ltb i (count P) && onIn R i) rs ≡ true → Spreading P (onIn R) everyRule rs marks missing stack top → RuleTold
       go [] q k x = absurd (n q)
       go (r ∷ rs) q k x =
           record {
             slot-inside = q .1;
             rule-known = below;
             link-lower = q .3;
-            some-missing = missed-some here below few;
-            goes-on = λ z. record { rules = rs; chain = q .4; known = and-right (ltb r (count P)) _ k; spreading = still-missing here below few z };
-            concludes = λ marks′ stack′ top′ z v. record { rules = rs; chain = q .4; known = and-right (ltb r (count P)) _ k; spreading = none-missing-now here below few z v };
+            some-missing = missed-some here below in-force few;
+            goes-on = λ z. record { rules = rs; chain = q .4; known = and-right (ltb r (count P) && onIn R r) _ k; spreading = still-missing here below in-force few z };
+            concludes = λ marks′ stack′ top′ z v. record { rules = rs; chain = q .4; known = and-right (ltb r (count P) && onIn R r) _ k; spreading = none-missing-now here below in-force few z v };
           }
         where
-          below : getD owners slot 0 < count P
-          below = omega (arith, q .2, ltb-true r (count P) (and-left _ _ k))
+          below : ownerIn R slot < count P
+          below = omega (arith, q .2, ltb-true r (count P) (and-left _ _ (and-left (ltb r (count P) && onIn R r) _ k)))
 
-          here : Spreading P everyRule (getD owners slot 0 ∷ rs) marks missing stack top
-          here = subst (λ (o : ℕ). Spreading P everyRule (o ∷ rs) marks missing stack top) (sym (q .2)) x
+          in-force : onIn R (ownerIn R slot) ≡ true
+          in-force = ap (onIn R) (q .2) ∙ and-right (ltb r (count P)) _ (and-left (ltb r (count P) && onIn R r) _ k)
+
+          here : Spreading P (onIn R) everyRule (ownerIn R slot ∷ rs) marks missing stack top
+          here = subst (λ (o : ℕ). Spreading P (onIn R) everyRule (o ∷ rs) marks missing stack top) (sym (q .2)) x
 
 -- One turn of the loop over a chain, by both ways.
-module _ {P : Program} {links owners : List ℕ} {slot : ℕ} {marks missing stack : List ℕ} {top : ℕ} {w : Telling P links owners slot marks missing stack top} (t : RuleTold w) {marks₀ : List ℕ} {top₀ : ℕ} (o : Onward marks₀ top₀ marks top) (marks′ stack′ : List ℕ) (top′ : ℕ) where
+module _ {P : Program} {R : List ℕ} {slot : ℕ} {marks missing stack : List ℕ} {top : ℕ} {w : Telling P R slot marks missing stack top} (t : RuleTold w) {marks₀ : List ℕ} {top₀ : ℕ} (o : Onward marks₀ top₀ marks top) (marks′ stack′ : List ℕ) (top′ : ℕ) where
   abbrev owner : ℕ
-  owner = getD owners slot 0
+  owner = ownerIn R slot
 
   abbrev missing′ : List ℕ
   missing′ = set missing owner (getD missing owner 0 - 1)
 
-  pub turn-on : (getD missing′ owner 0 ≡ 0 → ⊥) → marks′ ≡ marks → stack′ ≡ stack → top′ ≡ top → Telling P links owners (getD links slot 0) marks′ missing′ stack′ top′ × Onward marks₀ top₀ marks′ top′
+  pub turn-on : (getD missing′ owner 0 ≡ 0 → ⊥) → marks′ ≡ marks → stack′ ≡ stack → top′ ≡ top → Telling P R (linkIn R slot) marks′ missing′ stack′ top′ × Onward marks₀ top₀ marks′ top′
   turn-on n a b c = rw (a, b, c) (t .goes-on n, o)
 
-  pub turn-concluded : getD missing′ owner 0 ≡ 0 → (marks″ stack″ : List ℕ) (top″ : ℕ) → Concluded P owner marks top marks″ stack″ top″ → marks′ ≡ marks″ → stack′ ≡ stack″ → top′ ≡ top″ → Telling P links owners (getD links slot 0) marks′ missing′ stack′ top′ × Onward marks₀ top₀ marks′ top′
+  pub turn-concluded : getD missing′ owner 0 ≡ 0 → (marks″ stack″ : List ℕ) (top″ : ℕ) → Concluded P owner marks top marks″ stack″ top″ → marks′ ≡ marks″ → stack′ ≡ stack″ → top′ ≡ top″ → Telling P R (linkIn R slot) marks′ missing′ stack′ top′ × Onward marks₀ top₀ marks′ top′
   turn-concluded z marks″ stack″ top″ v a b c =
       rw (a, b, c) (t .concludes marks″ stack″ top″ z v, onward-then o (concluded-onward v (t .rule-known)))
 
-pub head-fits : {P : Program} {links owners : List ℕ} {head l : ℕ} → Row P links owners head l → head < slots
-head-fits {links = links} {owners} {head} r = go (r .rules) (r .chain)
-  where
-    go : (rs : List ℕ) → Chain links owners rs head → head < slots
-    go [] q = omega arith
-    go (i ∷ is) q = q .1
+pub head-fits : (R : List ℕ) {head : ℕ} (rules : List ℕ) → Chain R rules head → head < slots
+head-fits R [] q = omega arith
+head-fits R (i ∷ is) q = q .1
 
 -- The literal on top of the stack.
-pub top-of : {P : Program} {marks missing stack : List ℕ} {top : ℕ} → Between P marks missing stack top → 0 < top → Between P marks missing stack (suc (top - 1))
-top-of {P} {marks} {missing} {stack} {top} w h = subst (λ (n : ℕ). Between P marks missing stack n) (from-one top h) w
+pub top-of : {P : Program} {on : Mask} {marks missing stack : List ℕ} {top : ℕ} → Between P on marks missing stack top → 0 < top → Between P on marks missing stack (suc (top - 1))
+top-of {P} {on} {marks} {missing} {stack} {top} w h = subst (λ (n : ℕ). Between P on marks missing stack n) (from-one top h) w
   where
     from-one : (n : ℕ) → 0 < n → n ≡ suc (n - 1)
     from-one n k = omega arith
 
-module _ {P : Program} {marks missing stack : List ℕ} {rest : ℕ} (w : Between P marks missing stack (suc rest)) where
+module _ {P : Program} {on : Mask} {marks missing stack : List ℕ} {rest : ℕ} (w : Between P on marks missing stack (suc rest)) where
   abbrev last : ℕ
   last = getD stack rest 0
 
@@ -221,9 +231,9 @@ module _ {P : Program} {marks missing stack : List ℕ} {rest : ℕ} (w : Betwee
   pub last-literal : last < literals
   last-literal = top-literal (w .on-stack)
 
-  pub not-waiting : (getD marks last 0 ≡ waiting → ⊥) → Between P marks missing stack rest
+  pub not-waiting : (getD marks last 0 ≡ waiting → ⊥) → Between P on marks missing stack rest
   not-waiting n =
-      record { on-stack = passed-by (w .on-stack) n; rule-places = w .rule-places; missed = w .missed; fires = w .fires; sound = w .sound }
+      record { on-stack = passed-by (w .on-stack) n; rule-places = w .rule-places; missed = w .missed; unused = w .unused; fires = w .fires; sound = w .sound }
 
   module _ (e : getD marks last 0 ≡ waiting) where
     pub as-told : told (set marks last 1) ≡ told marks
@@ -232,49 +242,48 @@ module _ {P : Program} {marks missing stack : List ℕ} {rest : ℕ} (w : Betwee
     true-now : has (set marks last 1) ≡ adjoin (has marks) last
     true-now = has-set marks last (omega (arith, w .on-stack .literal-places, last-literal))
 
-    -- a literal that is true is missing no more
-    fewer : (xs : List ℕ) → howMany (λ l. not (has marks l)) xs ≡ howMany (λ l. not (has (set marks last 1) l)) xs + howMany (eqb last) xs
-    fewer =
-        counted-without (λ l. not (has marks l)) (λ l. not (has (set marks last 1) l)) last
-        (ap not (was-not-true (w .on-stack) e))
-        (ap not (ap (λ (p : ℕ → Bool). p last) true-now ∙ adjoined (has marks) last))
-        (λ x f. ap not (sym (ap (λ (p : ℕ → Bool). p x) true-now ∙ other x f)))
-      where
-        other : (x : ℕ) → eqb last x ≡ false → adjoin (has marks) last x ≡ has marks x
-        other x f = rw (eqb-sym x last, f) refl
+    fewer : (i : ℕ) → i < count P → on i ≡ true → lacking P (has marks) i ≡ lacking P (has (set marks last 1)) i + howMany (eqb i) (askers P on last)
+    fewer i h o =
+        lacking-told P on last i h o (has marks) last-literal (was-not-true (w .on-stack) e)
+        ∙ ap (λ (p : ℕ → Bool). lacking P p i + howMany (eqb i) (askers P on last)) (sym true-now)
 
-    pub one-true : {links owners : List ℕ} {head : ℕ} → Row P links owners head last → Telling P links owners head (set marks last 1) missing stack rest
-    one-true r =
+    -- its rules are still to be told
+    true-spreads : Spreading P on everyRule (askers P on last) (set marks last 1) missing stack rest
+    true-spreads =
         record {
-          rules = r .rules;
-          chain = r .chain;
-          known = r .known;
-          spreading =
-              record {
-                on-stack = taken (w .on-stack) e;
-                rule-places = w .rule-places;
-                missed = λ i h. omega (arith, w .missed i h, fewer (body (rule P i)), r .counted i h);
-                fires = λ i h a z. ap (λ (p : ℕ → Bool). p (rule P i .conclusion)) as-told ∙ w .fires i h a z;
-                sound = rw as-told (w .sound);
-              };
+          on-stack = taken (w .on-stack) e;
+          rule-places = w .rule-places;
+          missed = λ i h o. omega (arith, w .missed i h o, fewer i h o);
+          unused = w .unused;
+          fires = λ i h a z. ap (λ (p : ℕ → Bool). p (rule P i .conclusion)) as-told ∙ w .fires i h a z;
+          sound = rw as-told (w .sound);
         }
 
     pub held-as-before : {marks′ : List ℕ} {top′ : ℕ} → Onward (set marks last 1) rest marks′ top′ → (k : ℕ) → told marks′ (outside k) ≡ told marks (outside k)
     held-as-before o k = o .outside-kept k ∙ ap (λ (p : ℕ → Bool). p (outside k)) as-told
 
     pub nearer : {marks′ : List ℕ} {top′ : ℕ} → Onward (set marks last 1) rest marks′ top′ → (literals + top′) - toldCount marks′ < (literals + suc rest) - toldCount marks
-    nearer {marks′} {top′} o = omega (arith, o .paced, count-same (set marks last 1) marks as-told, count-most marks, count-most marks′)
+    nearer {marks′} {top′} o = omega (arith, o .paced, ap literalCount as-told, count-most (told marks), count-most (told marks′))
+
+pub one-true : {P : Program} {R marks missing stack : List ℕ} {rest : ℕ} (x : Indexed P R) (w : Between P (onIn R) marks missing stack (suc rest)) → getD marks (getD stack rest 0) 0 ≡ waiting → Telling P R (headIn R (getD stack rest 0)) (set marks (getD stack rest 0) 1) missing stack rest
+one-true {P} {R} {stack = stack} {rest} x w e =
+    record {
+      rules = askers P (onIn R) (getD stack rest 0);
+      chain = x .chain (getD stack rest 0) (last-literal w);
+      known = askers-known P (onIn R) (getD stack rest 0);
+      spreading = true-spreads w e;
+    }
 
 -- Each turn of the loop over the stack takes one from it, and puts no more on it than are told.
-module _ {P : Program} {marks missing stack : List ℕ} {top : ℕ} (w : Between P marks missing stack top) (h : 0 < top) where
+module _ {P : Program} {on : Mask} {marks missing stack : List ℕ} {top : ℕ} (w : Between P on marks missing stack top) (h : 0 < top) where
   pub told-less : (e : getD marks (getD stack (top - 1) 0) 0 ≡ waiting) (marks′ : List ℕ) (top′ : ℕ) → Onward (set marks (getD stack (top - 1) 0) 1) (top - 1) marks′ top′ → (literals + top′) - toldCount marks′ < (literals + top) - toldCount marks
   told-less e marks′ top′ o = omega (arith, nearer (top-of w h) e o)
 
   pub passed-less : (literals + (top - 1)) - toldCount marks < (literals + top) - toldCount marks
-  passed-less = omega (arith, count-most marks)
+  passed-less = omega (arith, count-most (told marks))
 
-pub none-waits : {P : Program} {marks missing stack : List ℕ} {top : ℕ} → Between P marks missing stack top → top ≤ 0 → Between P marks missing stack 0
-none-waits {P} {marks} {missing} {stack} {top} w h = subst (λ (n : ℕ). Between P marks missing stack n) (is-none top h) w
+pub none-waits : {P : Program} {on : Mask} {marks missing stack : List ℕ} {top : ℕ} → Between P on marks missing stack top → top ≤ 0 → Between P on marks missing stack 0
+none-waits {P} {on} {marks} {missing} {stack} {top} w h = subst (λ (n : ℕ). Between P on marks missing stack n) (is-none top h) w
   where
     is-none : (n : ℕ) → n ≤ 0 → n ≡ 0
     is-none n k = omega arith
@@ -294,32 +303,33 @@ told-true marks size small = fun-ext (λ l. ⊎-elim (λ h. bit (getD marks l 0)
         let far : length marks ≤ l = omega (arith, ltb-false l literals h) in
         rw (List·getD-eq-default marks 0 far) refl
 
-module _ {P : Program} {marks missing : List ℕ} where
-  all-settled : {stack : List ℕ} (w : Between P marks missing stack 0) (l : ℕ) → l < literals → getD marks l 0 < waiting
+module _ {P : Program} {on : Mask} {marks missing : List ℕ} where
+  all-settled : {stack : List ℕ} (w : Between P on marks missing stack 0) (l : ℕ) → l < literals → getD marks l 0 < waiting
   all-settled w l h = less (getD marks l 0) (w .on-stack .bytes l h) (λ e. never (w .on-stack .waits l h e) refl)
     where
       less : (b : ℕ) → b ≤ waiting → (b ≡ waiting → ⊥) → b < waiting
       less b m n = omega arith
 
-  same : {stack : List ℕ} → Between P marks missing stack 0 → has marks ≡ told marks
+  same : {stack : List ℕ} → Between P on marks missing stack 0 → has marks ≡ told marks
   same w = told-true marks (w .on-stack .literal-places) (all-settled w)
 
-  pub now-settled : {stack : List ℕ} → Between P marks missing stack 0 → Settled P marks missing
+  pub now-settled : {stack : List ℕ} → Between P on marks missing stack 0 → Settled P on marks missing
   now-settled w =
       record {
         literal-places = w .on-stack .literal-places;
         rule-places = w .rule-places;
         bits = all-settled w;
-        missed = λ i h. omega (arith, w .missed i h);
+        missed = λ i h o. omega (arith, w .missed i h o);
+        unused = w .unused;
         fires = λ i h z. ap (λ (p : ℕ → Bool). p (rule P i .conclusion)) (same w) ∙ w .fires i h refl z;
         sound = rw (same w) (λ N c f h t. w .sound f h t N c);
       }
 
-  pub held-then : {stack : List ℕ} → Between P marks missing stack 0 → (k : ℕ) → has marks (outside k) ≡ told marks (outside k)
+  pub held-then : {stack : List ℕ} → Between P on marks missing stack 0 → (k : ℕ) → has marks (outside k) ≡ told marks (outside k)
   held-then w k = ap (λ (p : ℕ → Bool). p (outside k)) (same w)
 
   -- From what is settled on, more may be held out.
-  pub settled-between : (stack : List ℕ) → length stack ≡ literals → Settled P marks missing → Between P marks missing stack 0
+  pub settled-between : (stack : List ℕ) → length stack ≡ literals → Settled P on marks missing → Between P on marks missing stack 0
   settled-between stack size w =
       record {
         on-stack =
@@ -332,23 +342,27 @@ module _ {P : Program} {marks missing : List ℕ} where
               bytes = λ l h. omega (arith, w .bits l h);
             };
         rule-places = w .rule-places;
-        missed = λ i h. omega (arith, w .missed i h);
+        missed = λ i h o. omega (arith, w .missed i h o);
+        unused = w .unused;
         fires = λ i h _ z. has-told marks (rule P i .conclusion) (w .fires i h z);
         sound = rw (← told-true marks (w .literal-places) (w .bits)) (λ f h t N c. w .sound N c f h t);
       }
 
-pub ready-known : {file starts heads links owners : List ℕ} → Ready file starts heads links owners → Known file starts (count (programOf file))
-ready-known r = record { accepted = r .accepted; counted = refl; indexed = r .indexed }
+-- The conclusion of a rule, as read from the tables.
+module _ {T : List ℕ} (t : WellFormed T) (i : ℕ) (h : i < count (programIn T)) (f : FactId) (e : f ≡ factId (rule (programIn T) i .conclusion)) where
+  few : programIn T .facts ≤ maxFacts
+  few = omega (arith, facts-below t)
 
--- The conclusion of a rule, as read from an accepted file.
-module _ {file starts : List ℕ} (k : Known file starts (count (programOf file))) (bytes : Bytes file) (i at : ℕ) (h : i < count (programOf file)) (a : at ≡ getD starts i 0) (f : FactId) (e : f ≡ factId (ruleAt file at .conclusion)) where
+  is : f .0 ≡ rule (programIn T) i .conclusion
+  is = ap (λ (g : FactId). g .0) e
+
   pub conclusion-literal : f .0 < literals
-  conclusion-literal = omega (arith, conclusion-few k i at h a f e bytes)
+  conclusion-literal = omega (arith, is, conclusion-below t h, few)
 
-  pub read-concluded : {marks marks′ stack′ : List ℕ} {top top′ : ℕ} → Waited (f .0) marks top marks′ stack′ top′ → Concluded (programOf file) i marks top marks′ stack′ top′
+  pub read-concluded : {marks marks′ stack′ : List ℕ} {top top′ : ℕ} → Waited (f .0) marks top marks′ stack′ top′ → Concluded (programIn T) i marks top marks′ stack′ top′
   read-concluded {marks} {marks′} {stack′} {top} {top′} v =
       record {
-        bounded = facts-bounded k;
-        few = omega (arith, facts-few k bytes);
-        waited = subst (λ (l : ℕ). Waited l marks top marks′ stack′ top′) (read-conclusion k i at h a f e) v;
+        bounded = t .in-bounds;
+        few = few;
+        waited = subst (λ (l : ℕ). Waited l marks top marks′ stack′ top′) is v;
       }

@@ -9,24 +9,24 @@ use native.Mathlib.Omega.{arith}
 use borrow.Author.Tests.{ltb-true, leb-true, eqb-true, lt-ltb}
 use lib.ListN.{length, getD}
 use lib.Dec.{ltb, leb, eqb}
-use Rattle.theory.specs.Rule.{all, Rule, Program, count, rule, blank, Bounded}
+use Rattle.theory.specs.Rule.{all, Rule, count, blank, Bounded}
 use Rattle.theory.proofs.Bools.{and-both}
-use Rattle.reader.specs.declared.refusal.Refusal.{Refusal}
-use Rattle.reader.specs.declared.refusal.Refusal.the-variants.{FactTooHigh, NoRuleOpened}
-use Rattle.reader.specs.declared.cursor.Fault.the-variants.{NoByte, OtherKind, ShortBody}
-use Rattle.reader.specs.Question.{firstNo}
-use Rattle.reader.specs.declared.item.FactId.{FactId}
-use Rattle.reader.specs.declared.item.Item.{Item}
-use Rattle.reader.specs.declared.item.Item.the-variants.{Facts, Opens, Premise, Constraint, Rules, Names, Step}
-use Rattle.reader.specs.declared.cursor.Cursor.{Cursor}
-use Rattle.reader.specs.declared.cursor.Read.{Read}
-use Rattle.reader.specs.declared.cursor.Read.the-variants.{Found, Refused, Ended}
-use Rattle.reader.specs.declared.questions.Scan.{Scan}
-use Rattle.reader.specs.Item.{maxFacts, itemWidth}
-use Rattle.reader.specs.Cursor.{Token, item, bad, past, nextAt, itemsAt, fileStart}
-use Rattle.reader.specs.Questions.{premisesOf, constraintsOf, rulesOf, factCount, programOf, maxBytes, maxRules, fresh, opened, bodyQuestions, openingQuestions, fileQuestions, fileNo}
-use Rattle.reader.proofs.Items.{ReadAt, found, not-found, row-ended}
-use Rattle.reader.proofs.EachKind.{Bytes, width-of-item, narrow-item}
+use Rattle.items.specs.declared.refusal.Refusal.{Refusal}
+use Rattle.items.specs.declared.refusal.Refusal.the-variants.{FactTooHigh, NoRuleOpened}
+use Rattle.items.specs.declared.cursor.Fault.the-variants.{NoByte, OtherKind, ShortBody}
+use Rattle.items.specs.Question.{firstNo}
+use Rattle.items.specs.declared.item.FactId.{FactId}
+use Rattle.items.specs.declared.item.Item.{Item}
+use Rattle.items.specs.declared.item.Item.the-variants.{Facts, Opens, Premise, Constraint, Rules, Names, Step}
+use Rattle.items.specs.declared.cursor.Cursor.{Cursor}
+use Rattle.items.specs.declared.cursor.Read.{Read}
+use Rattle.items.specs.declared.cursor.Read.the-variants.{Found, Refused, Ended}
+use Rattle.reader.specs.declared.answer.Scan.{Scan}
+use Rattle.items.specs.Item.{maxFacts, itemWidth, maxBytes, maxRules}
+use Rattle.items.specs.Cursor.{Token, item, bad, past, nextAt, itemsAt, fileStart}
+use Rattle.reader.specs.Questions.{premisesOf, constraintsOf, rulesOf, factCount, programOf, fresh, opened, bodyQuestions, openingQuestions, fileQuestions, fileNo}
+use Rattle.items.proofs.Items.{ReadAt, found, not-found, row-ended}
+use Rattle.items.proofs.EachKind.{Bytes, width-of-item, narrow-item}
 
 -- A yes to all is a yes to the first question and to the others.
 pub all-asked : (r : Refusal) (b : Bool) (rest : Option Refusal) → _≡_ {A = Option Refusal} (cond b rest (some r)) none → (b ≡ true) × (_≡_ {A = Option Refusal} rest none)
@@ -124,6 +124,14 @@ rules-below (premise below first g) i h = rules-below g i h
 rules-below (constraint below first g) i h = rules-below g i h
 rules-below (last e) i h = absurd (omega arith)
 
+pub body-bounded : {n : ℕ} {ts : List Token} → GoodBody (fresh n) ts → Bounded (record { facts = n; rules = rulesOf ts })
+body-bounded g =
+    record {
+      conclusion-below = λ i h. rules-below g i h .conclusion;
+      premises-below = λ i h. rules-below g i h .premises;
+      constraints-below = λ i h. rules-below g i h .constraints;
+    }
+
 -- Where the items after the first begin.
 abbrev pub bodyStart : List ℕ → Cursor
 bodyStart s = past s fileStart
@@ -185,12 +193,4 @@ module _ {s : List ℕ} (a : AcceptedFile s) where
   rules-few = rw (a .rules) (omega (arith, few-rules (a .good) (omega arith)))
 
   pub bounded : Bounded (programOf s)
-  bounded =
-      record {
-        conclusion-below = λ i h. below i h .conclusion;
-        premises-below = λ i h. below i h .premises;
-        constraints-below = λ i h. below i h .constraints;
-      }
-    where
-      below : (i : ℕ) → i < count (programOf s) → RuleBelow (programOf s .facts) (rule (programOf s) i)
-      below i h = rw (a .rules) (rules-below (a .good) i (rw (a .rules) at h))
+  bounded = rw (a .rules) (body-bounded (a .good))

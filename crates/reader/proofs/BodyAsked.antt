@@ -1,76 +1,114 @@
--- The questions on a file, along its items.
-use Prim.Native.Nat.{ℕ, suc, _+_, _<_, _≤_}
-use mathlib.Core.Path.{_≡_, sym, ap, _∙_}
+-- The questions on the items of a file after the first, along these items.
+use Prim.Native.Nat.{ℕ, _+_, _<_, _≤_}
+use mathlib.Core.Path.{_≡_, refl, sym, ap, _∙_}
+use mathlib.Core.Bool.{true}
 use mathlib.Core.List.{List, [], _∷_}
 use mathlib.Core.Logic.{⊎-elim}
-use mathlib.Core.Option.{some}
+use mathlib.Core.Option.{none, some}
 use native.Mathlib.Omega.{arith}
-use native.Mathlib.Nat.{add-zero}
+use borrow.Author.Tests.{lt-ltb, le-ltb, eq-eqb, ne-eqb}
 use lib.ListN.{length}
-use Rattle.reader.specs.declared.refusal.Refusal.{Refusal}
-use Rattle.reader.specs.declared.refusal.Refusal.the-variants.{FileCutOff, BytesAfterEnd}
-use Rattle.reader.specs.declared.item.Item.{Item}
-use Rattle.reader.specs.declared.cursor.Cursor.{Cursor}
-use Rattle.reader.specs.declared.cursor.Row.the-variants.{Body}
-use Rattle.reader.specs.declared.cursor.Fault.the-variants.{NoByte}
-use Rattle.reader.specs.declared.cursor.Read.the-variants.{Found, Refused, Ended}
-use Rattle.reader.specs.declared.answer.Asked.the-variants.{Yes, No}
-use Rattle.reader.specs.declared.questions.Scan.{Scan}
-use Rattle.reader.specs.declared.questions.Lead.{Lead}
-use Rattle.reader.specs.declared.questions.Lead.the-variants.{More, Last, Stop}
-use Rattle.reader.specs.Question.{firstNo}
-use Rattle.reader.specs.Cursor.{rowAfter, Token, item, bad, placeQuestions, nextAt, itemsAt}
-use Rattle.reader.specs.Questions.{rulesOf, opened, bodyQuestions}
-use Rattle.reader.specs.Asked.{askedOf, countsAfter, bodyAsked, resumed}
-use Rattle.reader.proofs.Items.{NoItemAt, found, not-found, row-ended, none-left, some-left}
+use lib.Dec.{ltb}
+use Rattle.items.specs.declared.refusal.Refusal.{Refusal}
+use Rattle.items.specs.declared.refusal.Refusal.the-variants.{FileCutOff, UnknownKind, FactTooHigh, NoRuleOpened, TooManyRules, WrongRuleCount, BytesAfterEnd}
+use Rattle.items.specs.declared.item.FactId.{FactId}
+use Rattle.items.specs.declared.item.Item.{Item}
+use Rattle.items.specs.declared.item.Item.the-variants.{Opens, Premise, Constraint, Rules}
+use Rattle.items.specs.declared.cursor.Cursor.{Cursor}
+use Rattle.items.specs.declared.cursor.Row.the-variants.{Body}
+use Rattle.items.specs.declared.cursor.Fault.the-variants.{NoByte}
+use Rattle.items.specs.declared.cursor.Read.the-variants.{Refused, Ended}
+use Rattle.reader.specs.declared.answer.Scan.{Scan}
+use Rattle.items.specs.Item.{maxRules}
+use Rattle.items.specs.Question.{firstNo}
+use Rattle.items.specs.Cursor.{rowAfter, Token, item, bad, placeQuestions, nextAt, itemsAt}
+use Rattle.reader.specs.Questions.{factQuestion, ownerQuestion, bodyQuestions}
+use Rattle.reader.specs.BodyScanned.{bodyNo}
+use Rattle.items.proofs.Items.{ReadAt, NoItemAt, not-found, row-ended, none-left, some-left}
+use Rattle.reader.proofs.Tags.{NotOfBody, not-of-body}
 
-pub pos-of-ne : {n : ℕ} → (n ≡ 0 → ⊥) → 0 < n
-pos-of-ne h = omega arith
+-- The count of facts, and the rules opened so far.
+abbrev pub seen : ℕ → ℕ → Scan
+seen facts n = record { facts = facts; rules = n }
 
--- A rule that is opened is one of those to come, or one of those before.
-pub one-rule-more : (scan : Scan) (ts : List Token) → askedOf (firstNo (bodyQuestions (opened scan) ts)) (record { facts = scan .facts; rules = scan .rules + suc (length (rulesOf ts)) }) ≡ bodyAsked (opened scan) ts
-one-rule-more scan ts = ap (λ (n : ℕ). askedOf (firstNo (bodyQuestions (opened scan) ts)) (record { facts = scan .facts; rules = n })) (omega arith)
-
--- A walk along the body: what is to come gives the answer of the whole.
-pub record Along (s : List ℕ) (c₀ : Cursor) (scan₀ : Scan) (c : Cursor) (scan : Scan) : Type 0 where
+-- A walk along the body: what is to come gives the first no of the whole.
+pub record Along (s : List ℕ) (c₀ : Cursor) (facts : ℕ) (c : Cursor) (n : ℕ) : Type 0 where
   pub body : c .row ≡ Body
-  pub same : bodyAsked scan₀ (itemsAt s c₀) ≡ bodyAsked scan (itemsAt s c)
+  pub same : bodyNo facts s c₀ ≡ firstNo (bodyQuestions (seen facts n) (itemsAt s c))
 
-module _ (s : List ℕ) (c₀ : Cursor) (scan₀ : Scan) (c : Cursor) (scan : Scan) (w : Along s c₀ scan₀ c scan) where
+pub not-begun : (s : List ℕ) (c : Cursor) (facts : ℕ) → c .row ≡ Body → Along s c facts c 0
+not-begun s c facts b = record { body = b; same = refl }
+
+-- A premise or a constraint: the same questions.
+abbrev pub Own : Item → FactId → Type 0
+Own i f = (scan : Scan) (ts : List Token) → firstNo (bodyQuestions scan (item i ∷ ts)) ≡ firstNo (factQuestion scan f ∷ ownerQuestion scan ∷ bodyQuestions scan ts)
+
+pub own-premise : (f : FactId) → Own (Premise f) f
+own-premise f = λ scan ts. refl
+
+pub own-constraint : (f : FactId) → Own (Constraint f) f
+own-constraint f = λ scan ts. refl
+
+module _ {s : List ℕ} {c₀ : Cursor} {facts : ℕ} {c : Cursor} {n : ℕ} (w : Along s c₀ facts c n) where
   -- no item: the first no is that of the questions on the place
-  no-item : (d : Cursor) (r : Refusal) → NoItemAt s c r d → firstNo (bodyQuestions scan (itemsAt s c)) ≡ some r
-  no-item d r n = ⊎-elim no-byte at-fault (n .why) ∙ (sym (ap (λ row. firstNo (placeQuestions row (bad (n .fault)))) (w .body)) ∙ n .no)
+  pub refused : (d : Cursor) (r : Refusal) → nextAt s c ≡ Refused r d → bodyNo facts s c₀ ≡ some r
+  refused d r e = w .same ∙ (⊎-elim no-byte at-fault (p .why) ∙ (sym (ap (λ row. firstNo (placeQuestions row (bad (p .fault)))) (w .body)) ∙ p .no))
     where
-      no-byte : (itemsAt s c ≡ []) × (n .fault ≡ NoByte) → firstNo (bodyQuestions scan (itemsAt s c)) ≡ firstNo (placeQuestions Body (bad (n .fault)))
-      no-byte q = ap (λ ts. firstNo (bodyQuestions scan ts)) (q .0) ∙ sym (ap (λ fault. firstNo (placeQuestions Body (bad fault))) (q .1))
+      p : NoItemAt s c r d
+      p = not-found s c d r e
 
-      at-fault : itemsAt s c ≡ bad (n .fault) ∷ [] → firstNo (bodyQuestions scan (itemsAt s c)) ≡ firstNo (placeQuestions Body (bad (n .fault)))
-      at-fault q = ap (λ ts. firstNo (bodyQuestions scan ts)) q
+      no-byte : (itemsAt s c ≡ []) × (p .fault ≡ NoByte) → firstNo (bodyQuestions (seen facts n) (itemsAt s c)) ≡ firstNo (placeQuestions Body (bad (p .fault)))
+      no-byte q = ap (λ ts. firstNo (bodyQuestions (seen facts n) ts)) (q .0) ∙ sym (ap (λ fault. firstNo (placeQuestions Body (bad fault))) (q .1))
 
-  pub refused : (d : Cursor) (r : Refusal) → nextAt s c ≡ Refused r d → No r ≡ bodyAsked scan₀ (itemsAt s c₀)
-  refused d r e = sym (w .same ∙ ap (λ o. askedOf o (countsAfter scan (itemsAt s c))) (no-item d r (not-found s c d r e)))
+      at-fault : itemsAt s c ≡ bad (p .fault) ∷ [] → firstNo (bodyQuestions (seen facts n) (itemsAt s c)) ≡ firstNo (placeQuestions Body (bad (p .fault)))
+      at-fault q = ap (λ ts. firstNo (bodyQuestions (seen facts n) ts)) q
 
   -- the row ends: no byte is left
-  pub cut-off : (d : Cursor) → nextAt s c ≡ Ended d → No FileCutOff ≡ bodyAsked scan₀ (itemsAt s c₀)
-  cut-off d e = sym (w .same ∙ ap (bodyAsked scan) (row-ended s c d e))
+  pub cut-off : (d : Cursor) → nextAt s c ≡ Ended d → bodyNo facts s c₀ ≡ some FileCutOff
+  cut-off d e = w .same ∙ ap (λ ts. firstNo (bodyQuestions (seen facts n) ts)) (row-ended s c d e)
 
-  module _ (d : Cursor) (i : Item) (r : Lead) (e : nextAt s c ≡ Found i d) (a : (ts : List Token) → bodyAsked scan (item i ∷ ts) ≡ resumed r scan ts) where
-    -- an item, and where its questions lead
-    on : bodyAsked scan₀ (itemsAt s c₀) ≡ resumed r scan (itemsAt s d)
-    on = w .same ∙ ap (bodyAsked scan) (found s c d i e .items) ∙ a (itemsAt s d)
+  module _ {i : Item} {d : Cursor} (r : ReadAt s c i d) where
+    -- an item: the first no is that of its questions and of what follows
+    on : bodyNo facts s c₀ ≡ firstNo (bodyQuestions (seen facts n) (item i ∷ itemsAt s d))
+    on = w .same ∙ ap (λ ts. firstNo (bodyQuestions (seen facts n) ts)) (r .items)
 
-    pub no-to-item : (n : Refusal) → r ≡ Stop n → No n ≡ bodyAsked scan₀ (itemsAt s c₀)
-    no-to-item n q = sym (on ∙ ap (λ x. resumed x scan (itemsAt s d)) q)
+    body-after : d .row ≡ Body
+    body-after = r .row ∙ ap rowAfter (w .body)
 
-    pub bytes-left : r ≡ Last → d .at < length s → No BytesAfterEnd ≡ bodyAsked scan₀ (itemsAt s c₀)
-    bytes-left q h = sym (on ∙ rw (q, some-left s d h))
+    pub other-row : NotOfBody i → bodyNo facts s c₀ ≡ some UnknownKind
+    other-row k = on ∙ not-of-body i (seen facts n) (itemsAt s d) k
 
-    pub all-yes : r ≡ Last → length s ≤ d .at → Yes (record { facts = scan .facts; rules = scan .rules }) ≡ bodyAsked scan₀ (itemsAt s c₀)
-    all-yes q h = sym (on ∙ rw (q, none-left s d h, add-zero (scan .rules)))
+  module _ {f : FactId} {d : Cursor} (r : ReadAt s c (Opens f) d) where
+    pub conclusion-too-high : facts ≤ f .0 → bodyNo facts s c₀ ≡ some FactTooHigh
+    conclusion-too-high h = on r ∙ rw (le-ltb (f .0) facts h)
 
-    pub next-item : (next : Scan) → r ≡ More next → Along s c₀ scan₀ d next
-    next-item next q =
-        record {
-          body = found s c d i e .row ∙ ap rowAfter (w .body);
-          same = on ∙ ap (λ x. resumed x scan (itemsAt s d)) q;
-        }
+    module _ (below : f .0 < facts) where
+      pub too-many-rules : maxRules ≤ n → bodyNo facts s c₀ ≡ some TooManyRules
+      too-many-rules h = on r ∙ rw (lt-ltb (f .0) facts below, le-ltb n maxRules h)
+
+      pub rule-opened : n < maxRules → Along s c₀ facts d (n + 1)
+      rule-opened h = record { body = body-after r; same = on r ∙ rw (lt-ltb (f .0) facts below, lt-ltb n maxRules h) }
+
+  module _ {i : Item} {f : FactId} {d : Cursor} (own : Own i f) (r : ReadAt s c i d) where
+    pub own-too-high : facts ≤ f .0 → bodyNo facts s c₀ ≡ some FactTooHigh
+    own-too-high h = on r ∙ (own (seen facts n) (itemsAt s d) ∙ rw (le-ltb (f .0) facts h))
+
+    module _ (below : f .0 < facts) where
+      pub no-rule-opened : n ≡ 0 → bodyNo facts s c₀ ≡ some NoRuleOpened
+      no-rule-opened h = on r ∙ (own (seen facts n) (itemsAt s d) ∙ rw (lt-ltb (f .0) facts below, h))
+
+      pub own-read : (n ≡ 0 → ⊥) → Along s c₀ facts d n
+      own-read h =
+          let some-opened : ltb 0 n ≡ true = lt-ltb 0 n (omega arith) in
+          record { body = body-after r; same = on r ∙ (own (seen facts n) (itemsAt s d) ∙ rw (lt-ltb (f .0) facts below, some-opened)) }
+
+  module _ {k : ℕ} {d : Cursor} (r : ReadAt s c (Rules k) d) where
+    pub wrong-count : (k ≡ n → ⊥) → bodyNo facts s c₀ ≡ some WrongRuleCount
+    wrong-count h = on r ∙ rw (ne-eqb k n h)
+
+    module _ (right : k ≡ n) where
+      pub bytes-left : d .at < length s → bodyNo facts s c₀ ≡ some BytesAfterEnd
+      bytes-left h = on r ∙ rw (eq-eqb k n right, some-left s d h)
+
+      pub all-yes : length s ≤ d .at → bodyNo facts s c₀ ≡ none
+      all-yes h = on r ∙ rw (eq-eqb k n right, none-left s d h)

@@ -3,8 +3,8 @@ use mathlib.Core.Path.{_≡_, refl}
 use mathlib.Core.List.{[], _∷_}
 use Rattle.theory.specs.Rule.{exception, constraintFact}
 use Rattle.reader.specs.declared.answer.Accept.the-variants.{Accepted}
-use Rattle.reader.specs.Item.{bodyLength, itemOf}
-use Rattle.reader.specs.Cursor.{front, itemsAt}
+use Rattle.items.specs.Item.{bodyLength, itemOf}
+use Rattle.items.specs.Cursor.{front, itemsAt}
 use Rattle.reader.specs.Questions.{fileQuestions, exceptions, constraintFacts}
 use Rattle.reader.specs.Accept.{acceptOf, number}
 

@@ -1,22 +1,28 @@
 -- What the questions on a file tell once they are asked: the first no, or that the file is accepted, and its counts.
-use Prim.Native.Nat.{ℕ, _<_, _≤_}
+use Prim.Native.Nat.{ℕ, _<_}
 use mathlib.Core.Path.{_≡_, refl, sym, ap, _∙_}
 use mathlib.Core.List.{List}
 use mathlib.Core.Option.{Option, none, some}
 use native.Mathlib.Omega.{arith}
 use Rattle.theory.specs.Rule.{count}
-use Rattle.reader.specs.declared.refusal.Refusal.{Refusal}
+use Rattle.items.specs.declared.refusal.Refusal.{Refusal}
 use Rattle.reader.specs.declared.answer.Accept.the-variants as accept
 use Rattle.reader.specs.declared.answer.FileCounts.{FileCounts}
 use Rattle.reader.specs.declared.answer.Asked.the-variants.{Yes, No}
-use Rattle.reader.specs.Item.{maxFacts}
-use Rattle.reader.specs.Questions.{programOf, maxRules, fileNo, exceptions, constraintFacts}
+use Rattle.items.specs.Item.{maxFacts}
+use Rattle.reader.specs.Questions.{programOf, fileNo, exceptions, constraintFacts}
 use Rattle.reader.specs.Asked.{askedOf, countsOf, fileAsked}
 use Rattle.reader.specs.Accepted.{Accepted}
 use Rattle.reader.specs.Accept.{acceptOf}
-use Rattle.reader.proofs.EachKind.{Bytes}
-use Rattle.reader.proofs.Marks.{exceptions-le, constraintFacts-le}
-use Rattle.reader.proofs.Accepted.{AcceptedFile, accepted-file, facts-below, rules-few}
+use Rattle.items.proofs.EachKind.{Bytes}
+use Rattle.reader.proofs.Accepted.{accepted-file, facts-below}
+
+-- A no is the answer, and nothing is promised of the tables.
+pub said-no : {o : Option Refusal} {A : Type 0} {r : Refusal} (counts : FileCounts) → o ≡ some r → (No r ≡ askedOf o counts) × (_≡_ {A = Option Refusal} o none → A)
+said-no {o} {A} {r} counts e = (sym (ap (λ (x : Option Refusal). askedOf x counts) e), λ h. absurd (never (sym e ∙ h)))
+  where
+    never : _≡_ {A = Option Refusal} (some r) none → ⊥
+    never q = let z : _≡_ {A = ℕ} 0 1 = cc in omega arith
 
 -- a no, and a yes with its counts
 pub asked-no : (o : Option Refusal) (counts : FileCounts) (r : Refusal) → askedOf o counts ≡ No r → o ≡ some r
@@ -29,17 +35,19 @@ pub asked-yes : (o : Option Refusal) (counts told : FileCounts) → askedOf o co
 asked-yes none counts told e = (refl, (cc))
 asked-yes (some n) counts told e = absurd (let z : _≡_ {A = ℕ} 0 1 = cc in omega arith)
 
--- the counts of an accepted file, told in one or in two
+-- the counts of an accepted file, told in one or one by one
 pub counts-told : (s : List ℕ) (counts : FileCounts) → _≡_ {A = Option Refusal} (fileNo s) none → counts ≡ countsOf (programOf s) → Accepted s counts
 counts-told s counts a e =
     record {
       accepted = a;
       facts = ap (λ (x : FileCounts). x .facts) e;
       rules = ap (λ (x : FileCounts). x .rules) e;
+      exceptions = ap (λ (x : FileCounts). x .exceptions) e;
+      constraints = ap (λ (x : FileCounts). x .constraints) e;
     }
 
 pub told-counts : {s : List ℕ} {counts : FileCounts} → Accepted s counts → counts ≡ countsOf (programOf s)
-told-counts a = λ j. record { facts = a .facts j; rules = a .rules j }
+told-counts a = λ j. record { facts = a .facts j; rules = a .rules j; exceptions = a .exceptions j; constraints = a .constraints j }
 
 module _ (s : List ℕ) where
   pub file-no : (r : Refusal) → fileAsked s ≡ No r → fileNo s ≡ some r
@@ -58,13 +66,7 @@ module _ (s : List ℕ) where
   unfolding acceptOf
   accepted-answer f r e k q a b c d = rw (q, acceptOf, a, b, c, d)
 
--- The counts of an accepted file are small.
+-- The count of facts of an accepted file is small.
 module _ {s : List ℕ} {counts : FileCounts} (a : Accepted s counts) where
   pub few-facts : Bytes s → counts .facts < maxFacts
   few-facts b = rw (a .facts) (facts-below (accepted-file s (a .accepted)) b)
-
-  pub few-exceptions : exceptions (programOf s) ≤ maxRules
-  few-exceptions = omega (arith, exceptions-le (programOf s), rules-few (accepted-file s (a .accepted)))
-
-  pub few-constraints : Bytes s → constraintFacts (programOf s) < maxFacts
-  few-constraints b = omega (arith, constraintFacts-le (programOf s), facts-below (accepted-file s (a .accepted)) b)

@@ -5,12 +5,12 @@ use mathlib.Core.Path.{_≡_}
 use mathlib.Core.Bool.{Bool, true, false, cond}
 use mathlib.Core.List.{List, [], _∷_, _++_}
 use mathlib.Core.Option.{Option, none, some}
-use Rattle.reader.specs.declared.refusal.Refusal.{Refusal}
-use Rattle.reader.specs.declared.refusal.Refusal.the-variants.{FileTooLong, NoFactCount, FileCutOff, UnknownKind, BodyCutOff, FactTooHigh, NoRuleOpened, TooManyRules, WrongRuleCount, BytesAfterEnd}
-use Rattle.reader.specs.declared.item.Item.the-variants.{Facts, Opens, Premise, Constraint, Rules, Names, Step}
-use Rattle.reader.specs.declared.questions.Scan.{Scan}
-use Rattle.reader.specs.Question.{Question, firstNo}
-use Rattle.reader.specs.Cursor.{Token, item, bad, itemsAt, fileStart}
+use Rattle.items.specs.declared.refusal.Refusal.{Refusal}
+use Rattle.items.specs.declared.refusal.Refusal.the-variants.{FileTooLong, NoFactCount, FileCutOff, UnknownKind, BodyCutOff, FactTooHigh, NoRuleOpened, TooManyRules, WrongRuleCount, BytesAfterEnd}
+use Rattle.items.specs.declared.item.Item.the-variants.{Facts, Opens, Premise, Constraint, Rules, Names, Step}
+use Rattle.reader.specs.declared.answer.Scan.{Scan}
+use Rattle.items.specs.Question.{Question, firstNo}
+use Rattle.items.specs.Cursor.{Token, item, bad, itemsAt, fileStart}
 use Rattle.reader.specs.Questions.{fresh, opened, bodyQuestions, openingQuestions, fileQuestions}
 
 -- Q holds of the refusal of every question of a list.

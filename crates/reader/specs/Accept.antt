@@ -4,11 +4,11 @@ use mathlib.Core.Path.{_≡_}
 use mathlib.Core.List.{List}
 use mathlib.Core.Option.{Option, none, some}
 use Rattle.theory.specs.Rule.{count}
-use Rattle.reader.specs.declared.refusal.Refusal.{Refusal}
+use Rattle.items.specs.declared.refusal.Refusal.{Refusal}
 use Rattle.reader.specs.declared.answer.Accept.{Accept}
 use Rattle.reader.specs.declared.answer.Accept.the-variants.{Accepted, Refused}
-use Rattle.reader.specs.Question as refusal
-use Rattle.reader.specs.Question.{noNumber}
+use Rattle.items.specs.Question as refusal
+use Rattle.items.specs.Question.{noNumber}
 use Rattle.reader.specs.Questions.{exceptions, constraintFacts, programOf, fileNo}
 
 -- What `accept` answers for a file.

@@ -1,20 +1,21 @@
 -- The program that a file's items mean, and the questions on a file, 1 to 10, in the order of document 01 ("Questions before a result").
 use Prim.Native.Nat.{ℕ, _+_}
 use mathlib.Core.List.{List, [], _∷_, _++_}
-use Rattle.theory.specs.Rule.{Rule, Program, howMany, upTo, count, exception, constraintFact, everyRule}
-use Rattle.reader.specs.declared.item.FactId.{FactId}
-use Rattle.reader.specs.declared.item.Item.the-variants.{Facts, Opens, Premise, Constraint, Rules, Names, Step}
-use Rattle.reader.specs.Cursor.{Token, item, bad, itemsAt, fileStart, placeQuestions}
+use Rattle.theory.specs.Rule.{Rule, Program, howMany, upTo, count, exception, constraintFact, inForce}
+use Rattle.items.specs.declared.item.FactId.{FactId}
+use Rattle.items.specs.declared.item.Item.the-variants.{Facts, Opens, Premise, Constraint, Rules, Names, Step}
+use Rattle.items.specs.Item.{maxBytes, maxRules}
+use Rattle.items.specs.Cursor.{Token, item, bad, itemsAt, fileStart, placeQuestions, ended}
 use mathlib.Core.Bool.{Bool, true, false}
 use mathlib.Core.Option.{Option}
 use lib.ListN.{length}
 use lib.Dec.{eqb, ltb, leb}
-use Rattle.reader.specs.declared.refusal.Refusal.{Refusal}
-use Rattle.reader.specs.declared.refusal.Refusal.the-variants.{FileTooLong, FactTooHigh, NoRuleOpened, TooManyRules, WrongRuleCount, BytesAfterEnd}
-use Rattle.reader.specs.declared.cursor.Row.the-variants.{Opening, Body}
-use Rattle.reader.specs.declared.cursor.Fault.the-variants.{NoByte, OtherKind}
-use Rattle.reader.specs.declared.questions.Scan.{Scan}
-use Rattle.reader.specs.Question.{Question, ask, firstNo}
+use Rattle.items.specs.declared.refusal.Refusal.{Refusal}
+use Rattle.items.specs.declared.refusal.Refusal.the-variants.{FileTooLong, FactTooHigh, NoRuleOpened, TooManyRules, WrongRuleCount, BytesAfterEnd}
+use Rattle.items.specs.declared.cursor.Row.the-variants.{Opening, Body}
+use Rattle.items.specs.declared.cursor.Fault.the-variants.{NoByte, OtherKind}
+use Rattle.reader.specs.declared.answer.Scan.{Scan}
+use Rattle.items.specs.Question.{Question, ask, firstNo}
 
 -- The premises of the rule just opened: those of the 02 items that stand before an item of another kind than 02 and 03.
 abbrev pub premisesOf : List Token → List ℕ
@@ -78,22 +79,7 @@ exceptions P = howMany (exception P) (upTo (count P))
 
 -- How many constraint facts.
 unfoldable pub constraintFacts : Program → ℕ
-constraintFacts P = howMany (constraintFact P everyRule) (upTo (P .facts))
-
--- The most bytes of a file (question 1), the most rules (question 8), and the most constraint facts that the search takes (question 40).
-abbrev pub maxBytes : ℕ
-maxBytes = 32767
-
-abbrev pub maxRules : ℕ
-maxRules = 512
-
-abbrev pub maxGuessed : ℕ
-maxGuessed = 16
-
--- No item is left: the file ends there.
-abbrev pub ended : List Token → Bool
-ended [] = true
-ended (t ∷ ts) = false
+constraintFacts P = howMany (constraintFact P (inForce P)) (upTo (P .facts))
 
 -- What the questions need of the items before: the count of facts, and how many rules were opened.
 abbrev pub fresh : ℕ → Scan

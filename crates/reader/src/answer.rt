@@ -1,4 +1,4 @@
-use crate::refusal::Refusal;
+use items::refusal::Refusal;
 
 // What `accept` answers: the counts of an accepted file, or the first no.
 pub enum Accept {
@@ -11,8 +11,16 @@ pub enum Accept {
     Refused(Refusal),
 }
 
-// The counts of facts and rules of an accepted file.
+// The counts of an accepted file: its facts, rules, exception rules and constraint facts.
 pub struct FileCounts {
+    pub facts: u16,
+    pub rules: u16,
+    pub exceptions: u16,
+    pub constraints: u16,
+}
+
+// What the questions need of the items before: the count of facts, and how many rules were opened.
+pub struct Scan {
     pub facts: u16,
     pub rules: u16,
 }

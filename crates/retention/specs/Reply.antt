@@ -3,7 +3,7 @@ use Prim.Native.Nat.{ℕ}
 use mathlib.Core.List.{List}
 use Rattle.reader.specs.declared.answer.Accept.{Accept}
 use Rattle.reader.specs.declared.answer.Accept.the-variants.{Accepted, Refused}
-use Rattle.reader.specs.Item.{stepWidth}
+use Rattle.items.specs.Item.{stepWidth}
 use Rattle.reader.specs.Accept as accept
 use Rattle.run.specs.declared.answer.Ran.{Ran}
 use Rattle.run.specs.Outcome as ran

@@ -1,10 +1,10 @@
 // The replies, and each answer as a reply. A refusal has its number and 0 for every other value.
 ghost use mathlib.Core.Path.{_≡_};
 ghost use Rattle.retention.specs.Reply.{fileOf, countsOfRan, countsOfSearched, verdictOfJudged, verdictOfChecked};
+use items::write::STEP_WIDTH;
 use judge::answer::Judged;
 use proofcheck::answer::Checked;
 use reader::answer::Accept;
-use reader::write::STEP_WIDTH;
 use run::answer::Ran;
 use search::answer::Searched;
 

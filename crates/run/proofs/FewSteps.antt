@@ -11,10 +11,8 @@ use Rattle.theory.specs.Run.{Stand, stage, start, run, stageCount, stepCount}
 use Rattle.theory.proofs.Lists.{howMany-le, length-range}
 use Rattle.theory.proofs.Derive.{missing, trail-length, fired-trail}
 use Rattle.theory.proofs.Run.{Eligible, picked, exception-known, run-keeps}
-use Rattle.reader.specs.Item.{stepWidth}
-use Rattle.reader.specs.Questions.{programOf}
-use Rattle.rules.specs.Questions.{has}
-use Rattle.closure.specs.Known.{Room}
+use Rattle.items.specs.Item.{stepWidth, has}
+use Rattle.closure.specs.Room.{Room}
 
 -- Each step so far is of a fact of its own, and so is each stage.
 pub record Paced (P : Program) (s : Stand) : Type 0 where
@@ -64,5 +62,9 @@ module _ (P : Program) (b : Bounded P) where
       run-keeps P on order (Paced P) (start-paced on) (λ s i v e. stage-paced on s i (picked P on order s i e) v)
 
 -- where there is room for each fact that is missing, there is room for each rule that fires
-pub fired-fits : {file set row : List ℕ} (n : ℕ) → Bounded (programOf file) → Room file set row (stepWidth * (n + 1)) → (on : Mask) → n + 1 + length (fired (programOf file) on (has set)) ≤ length row
-fired-fits {file} {set} n b r on = omega (arith, r .steps-left, fired-missing (programOf file) b on (has set))
+pub fired-fits : {P : Program} {set row : List ℕ} (n : ℕ) → Bounded P → Room P set row (stepWidth * (n + 1)) → (on : Mask) → n + 1 + length (fired P on (has set)) ≤ length row
+fired-fits {P} {set} n b r on = omega (arith, r .steps-left, fired-missing P b on (has set))
+
+-- Room is a matter of the set and of the length of the steps.
+pub room-kept : {P : Program} {set set′ steps steps′ : List ℕ} {at : ℕ} → Room P set steps at → set′ ≡ set → length steps′ ≡ length steps → Room P set′ steps′ at
+room-kept r e l = record { facts = rw e (r .facts); steps-left = rw (e, l) (r .steps-left) }

@@ -1,10 +1,8 @@
-pub mod KnownRules
 pub mod StepsWritten
 pub mod FewSteps
 pub mod MemoryShown
 pub mod StandsKept
 pub mod MarksWritten
-pub mod PlainMask
 pub mod RunAsked
 pub mod Outcomes
 pub mod ReadMarks

@@ -9,11 +9,11 @@ use native.Mathlib.Numerals.{add-one}
 use borrow.Author.Tests.{lt-ltb, eq-eqb, ne-eqb}
 use lib.ListN.{length, getD, set, length-set, length-map}
 use lib.Seq.{paste, paste-zero, paste-suc, take-all}
-use Rattle.theory.specs.Rule.{all, clear, mem, range, upTo, Rule, Program, FactSet, everyRule, null, count, rule, plain}
+use Rattle.theory.specs.Rule.{all, clear, mem, range, upTo, Program, FactSet, inForce, null, count, rule, plain, exception}
 use Rattle.theory.specs.Run.{Stand, rejected, setAside, factMark, ruleMark, factMarks}
 use Rattle.theory.proofs.Lists.{length-range}
-use Rattle.rules.specs.Questions.{has}
-use Rattle.run.specs.Outcome.{over}
+use Rattle.items.specs.Item.{has}
+use Rattle.items.specs.Write.{over}
 
 -- The first i of the marks that f gives to the numbers below n are written.
 pub record Marking (f : ℕ → ℕ) (n : ℕ) (before now : List ℕ) (i : ℕ) : Type 0 where
@@ -78,33 +78,33 @@ module _ (derived rejections : List ℕ) (f : ℕ) where
     an-open e = rw (ne-eqb _ 1 o, ne-eqb _ 1 e)
 
 -- The ways to the mark of one rule, by what the rule says of D.
-module _ (P : Program) (s : Stand) (i : ℕ) (h : i < count P) (R : Rule) (r : R ≡ rule P i) (a : Bool) (q : a ≡ mem i (s .applied)) (D : FactSet) (d : D ≡ s .derived) where
-  rule-mark : cond (not (null (R .constraints))) (cond a 1 (cond (all D (R .premises) && clear D (R .constraints) && not (D (R .conclusion))) 2 3)) 0 ≡ ruleMark P everyRule s i
-  unfolding ruleMark setAside plain
-  rule-mark = rw (r, q, d, lt-ltb i (count P) h) (go (null (rule P i .constraints)) _)
+module _ (P : Program) (s : Stand) (i : ℕ) (h : i < count P) (a : Bool) (q : a ≡ mem i (s .applied)) (D : FactSet) (d : D ≡ s .derived) where
+  rule-mark : cond (exception P i) (cond a 1 (cond (all D (rule P i .premises) && clear D (rule P i .constraints) && not (D (rule P i .conclusion))) 2 3)) 0 ≡ ruleMark P (inForce P) s i
+  unfolding ruleMark setAside plain exception
+  rule-mark = rw (q, d, lt-ltb i (count P) h) (go (null (rule P i .constraints)) _)
     where
       go : (b : Bool) (x : ℕ) → cond (not b) x 0 ≡ cond b 0 x
       go true x = refl
       go false x = refl
 
-  pub a-plain : not (null (R .constraints)) ≡ false → 0 ≡ ruleMark P everyRule s i
+  pub a-plain : exception P i ≡ false → 0 ≡ ruleMark P (inForce P) s i
   a-plain e = rw e at rule-mark
 
-  module _ (e : not (null (R .constraints)) ≡ true) where
-    pub an-applied : a ≡ true → 1 ≡ ruleMark P everyRule s i
+  module _ (e : exception P i ≡ true) where
+    pub an-applied : a ≡ true → 1 ≡ ruleMark P (inForce P) s i
     an-applied t = rw (e, t) at rule-mark
 
     module _ (t : a ≡ false) where
-      pub a-premise-out : all D (R .premises) ≡ false → 3 ≡ ruleMark P everyRule s i
+      pub a-premise-out : all D (rule P i .premises) ≡ false → 3 ≡ ruleMark P (inForce P) s i
       a-premise-out p = rw (e, t, p) at rule-mark
 
-      module _ (p : all D (R .premises) ≡ true) where
-        pub a-constraint-in : clear D (R .constraints) ≡ false → 3 ≡ ruleMark P everyRule s i
+      module _ (p : all D (rule P i .premises) ≡ true) where
+        pub a-constraint-in : clear D (rule P i .constraints) ≡ false → 3 ≡ ruleMark P (inForce P) s i
         a-constraint-in k = rw (e, t, p, k) at rule-mark
 
-        module _ (k : clear D (R .constraints) ≡ true) where
-          pub a-conclusion-in : D (R .conclusion) ≡ true → 3 ≡ ruleMark P everyRule s i
+        module _ (k : clear D (rule P i .constraints) ≡ true) where
+          pub a-conclusion-in : D (rule P i .conclusion) ≡ true → 3 ≡ ruleMark P (inForce P) s i
           a-conclusion-in f = rw (e, t, p, k, f) at rule-mark
 
-          pub set-aside : D (R .conclusion) ≡ false → 2 ≡ ruleMark P everyRule s i
+          pub set-aside : D (rule P i .conclusion) ≡ false → 2 ≡ ruleMark P (inForce P) s i
           set-aside f = rw (e, t, p, k, f) at rule-mark

@@ -8,21 +8,17 @@ use native.Mathlib.Nat.{zero-add}
 use borrow.Author.Tests.{ltb-true}
 use lib.ListN.{length, set, replicate, length-set, length-append, length-replicate}
 use lib.Dec.{eqb, ltb}
-use Rattle.theory.specs.Rule.{mem, Program, Bounded, everyRule, count, rule, Step, plainRules}
+use Rattle.theory.specs.Rule.{mem, Program, Bounded, inForce, count, rule, Step, plainRules}
 use Rattle.theory.specs.Derive.{conclude, closure, derive, fired, steps, stepBy}
 use Rattle.theory.specs.Run.{Stand, rejected, stage, start}
 use Rattle.theory.proofs.Bools.{or-none, or-left, or-false, false-of}
 use Rattle.theory.proofs.Lists.{all-elem, any-append}
-use Rattle.reader.specs.Item.{maxFacts, stepWidth}
-use Rattle.reader.specs.Questions.{maxRules}
-use Rattle.reader.specs.Rules.{paint}
-use Rattle.reader.specs.Write.{stepItem, placed}
-use Rattle.reader.proofs.Marks.{both-tests}
-use Rattle.rules.specs.Questions.{has}
-use Rattle.rules.proofs.Sets.{past-end, has-set, unmarked, length-paint}
+use Rattle.items.specs.Item.{maxFacts, stepWidth, maxRules, has}
+use Rattle.tables.specs.Marks.{paint}
+use Rattle.items.specs.Write.{stepItem, placed}
+use Rattle.tables.proofs.MarksPainted.{both-tests, past-end, has-set, unmarked, length-paint, has-painted, paint-self}
 use Rattle.closure.specs.Steps.{stepBytes}
-use Rattle.closure.proofs.Painted.{has-painted, paint-self}
-use Rattle.closure.proofs.Deriving.{has-derived}
+use Rattle.closure.proofs.StepsDerived.{has-derived}
 use Rattle.run.specs.Stands.{Holds, Advances, outset}
 use Rattle.run.proofs.StepsWritten.{steps-more}
 use Rattle.run.proofs.FewSteps.{steps-length}
@@ -38,8 +34,8 @@ module _ (P : Program) where
   abbrev pub settled : Stand → Stand
   settled s =
       record {
-        derived = closure P everyRule (s .derived);
-        trace = s .trace ++ steps P (plainRules P everyRule) (s .derived);
+        derived = closure P (inForce P) (s .derived);
+        trace = s .trace ++ steps P (plainRules P (inForce P)) (s .derived);
         applied = s .applied;
       }
 
@@ -52,26 +48,26 @@ module _ (P : Program) where
         applied = s .applied ++ (i ∷ []);
       }
 
-  pub settled-entered : (s : Stand) (i : ℕ) → settled (entered s i) ≡ stage P everyRule s i
+  pub settled-entered : (s : Stand) (i : ℕ) → settled (entered s i) ≡ stage P (inForce P) s i
   settled-entered s i =
-      ap (λ (row : List Step). record { derived = stage P everyRule s i .derived; trace = row; applied = s .applied ++ (i ∷ []) })
-      (append-assoc (s .trace) (stepBy P i ∷ []) (steps P (plainRules P everyRule) (conclude P (s .derived) i)))
+      ap (λ (row : List Step). record { derived = stage P (inForce P) s i .derived; trace = row; applied = s .applied ++ (i ∷ []) })
+      (append-assoc (s .trace) (stepBy P i ∷ []) (steps P (plainRules P (inForce P)) (conclude P (s .derived) i)))
 
   module _ (b : Bounded P) (narrow : P .facts ≤ maxFacts) (s : Stand) (derived rejections applied row room : List ℕ) (n : ℕ) (w : Holds P s derived rejections applied row room n) where
-    pub settled-shown : (plain : List ℕ) → has plain ≡ plainRules P everyRule → (derived′ row′ : List ℕ) (more : ℕ) → derived′ ≡ paint (derive P (has plain) (has derived)) derived → row′ ≡ placed (stepBytes (steps P (has plain) (has derived))) (stepWidth * n) row → more ≡ length (fired P (has plain) (has derived)) → Holds P (settled s) derived′ rejections applied row′ room (n + more)
+    pub settled-shown : (plain : List ℕ) → has plain ≡ plainRules P (inForce P) → (derived′ row′ : List ℕ) (more : ℕ) → derived′ ≡ paint (derive P (has plain) (has derived)) derived → row′ ≡ placed (stepBytes (steps P (has plain) (has derived))) (stepWidth * n) row → more ≡ length (fired P (has plain) (has derived)) → Holds P (settled s) derived′ rejections applied row′ room (n + more)
     settled-shown plain q derived′ row′ more d r m =
         record {
           sets = record { d = ap has d ∙ has-derived P (has plain) b derived (omega (arith, w .derived-places)) ∙ rw (q, w .sets .d); r = w .sets .r };
           applied-shown = w .applied-shown;
-          steps-shown = r ∙ rw (q, w .sets .d, w .steps-shown) (steps-more (s .trace) (steps P (plainRules P everyRule) (s .derived)) room n (w .counted));
-          counted = omega (arith, w .counted, m, same, length-append (s .trace) (steps P (plainRules P everyRule) (s .derived)));
+          steps-shown = r ∙ rw (q, w .sets .d, w .steps-shown) (steps-more (s .trace) (steps P (plainRules P (inForce P)) (s .derived)) room n (w .counted));
+          counted = omega (arith, w .counted, m, same, length-append (s .trace) (steps P (plainRules P (inForce P)) (s .derived)));
           derived-places = ap length d ∙ length-paint (derive P (has plain) (has derived)) derived ∙ w .derived-places;
           rejected-places = w .rejected-places;
           applied-places = w .applied-places;
         }
       where
-        same : length (fired P (has plain) (has derived)) ≡ length (steps P (plainRules P everyRule) (s .derived))
-        same = rw (q, w .sets .d) (sym (steps-length P (plainRules P everyRule) (s .derived)))
+        same : length (fired P (has plain) (has derived)) ≡ length (steps P (plainRules P (inForce P)) (s .derived))
+        same = rw (q, w .sets .d) (sym (steps-length P (plainRules P (inForce P)) (s .derived)))
 
     module _ (i : ℕ) (known : i < count P) (few : count P ≤ maxRules) where
       conclusion-place : rule P i .conclusion < length derived
@@ -116,13 +112,13 @@ module _ (P : Program) where
           }
 
   -- A stage: what each of its parts leaves, as the calls say it.
-  module _ (b : Bounded P) (narrow : P .facts ≤ maxFacts) (i : ℕ) (known : i < count P) (few : count P ≤ maxRules) (plain : List ℕ) (q : has plain ≡ plainRules P everyRule) where
-    pub advanced : (derived rejections applied row : List ℕ) (n f : ℕ) → f ≡ rule P i .conclusion → (ks : List ℕ) → ks ≡ rule P i .constraints → (derived′ rejections′ row₁ row′ : List ℕ) (more : ℕ) → row₁ ≡ placed (stepItem f i) (stepWidth * n) row → (more ≡ length (fired P (has plain) (has (set derived f 1)))) × ((derived′ ≡ paint (derive P (has plain) (has (set derived f 1))) (set derived f 1)) × (row′ ≡ placed (stepBytes (steps P (has plain) (has (set derived f 1)))) (stepWidth * (n + 1)) row₁)) → rejections′ ≡ paint (λ g. mem g ks) rejections → Advances P i derived rejections applied row n derived′ rejections′ (set applied i 1) row′ (n + 1 + more)
-    advanced derived rejections applied row n f e ks c derived′ rejections′ row₁ row′ more r d j =
-        record { holds = λ s room w. rw (← settled-entered s i) (settled-shown b narrow (entered s i) (set derived f 1) rejections′ (set applied i 1) row₁ room (n + 1) (rw (r, e, j, c) (entered-shown b narrow s derived rejections applied row room n w i known few)) plain q derived′ row′ more (d .1 .0) (d .1 .1) (d .0)) }
+  module _ (b : Bounded P) (narrow : P .facts ≤ maxFacts) (i : ℕ) (known : i < count P) (few : count P ≤ maxRules) (plain : List ℕ) (q : has plain ≡ plainRules P (inForce P)) where
+    pub advanced : (derived rejections applied row : List ℕ) (n f : ℕ) → f ≡ rule P i .conclusion → (derived′ rejections′ row₁ row′ : List ℕ) (more : ℕ) → row₁ ≡ placed (stepItem f i) (stepWidth * n) row → (more ≡ length (fired P (has plain) (has (set derived f 1)))) × ((derived′ ≡ paint (derive P (has plain) (has (set derived f 1))) (set derived f 1)) × (row′ ≡ placed (stepBytes (steps P (has plain) (has (set derived f 1)))) (stepWidth * (n + 1)) row₁)) → rejections′ ≡ paint (λ g. mem g (rule P i .constraints)) rejections → Advances P i derived rejections applied row n derived′ rejections′ (set applied i 1) row′ (n + 1 + more)
+    advanced derived rejections applied row n f e derived′ rejections′ row₁ row′ more r d j =
+        record { holds = λ s room w. rw (← settled-entered s i) (settled-shown b narrow (entered s i) (set derived f 1) rejections′ (set applied i 1) row₁ room (n + 1) (rw (r, e, j) (entered-shown b narrow s derived rejections applied row room n w i known few)) plain q derived′ row′ more (d .1 .0) (d .1 .1) (d .0)) }
 
   -- The start: D is closed for the first time.
-  pub start-shown : Bounded P → P .facts ≤ maxFacts → (derived rejections applied row : List ℕ) → Holds P outset derived rejections applied row row 0 → (plain : List ℕ) → has plain ≡ plainRules P everyRule → (derived′ row′ : List ℕ) (more : ℕ) → (more ≡ length (fired P (has plain) (has derived))) × ((derived′ ≡ paint (derive P (has plain) (has derived)) derived) × (row′ ≡ placed (stepBytes (steps P (has plain) (has derived))) 0 row)) → Holds P (start P everyRule) derived′ rejections applied row′ row more
+  pub start-shown : Bounded P → P .facts ≤ maxFacts → (derived rejections applied row : List ℕ) → Holds P outset derived rejections applied row row 0 → (plain : List ℕ) → has plain ≡ plainRules P (inForce P) → (derived′ row′ : List ℕ) (more : ℕ) → (more ≡ length (fired P (has plain) (has derived))) × ((derived′ ≡ paint (derive P (has plain) (has derived)) derived) × (row′ ≡ placed (stepBytes (steps P (has plain) (has derived))) 0 row)) → Holds P (start P (inForce P)) derived′ rejections applied row′ row more
   start-shown b narrow derived rejections applied row w plain q derived′ row′ more d =
       rw (zero-add more) at (settled-shown b narrow outset derived rejections applied row row 0 w plain q derived′ row′ more (d .1 .0) (d .1 .1) (d .0))
 

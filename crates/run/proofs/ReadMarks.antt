@@ -10,7 +10,7 @@ use borrow.Author.Tests.{lt-ltb, le-ltb, ltb-true}
 use lib.ListN.{length, getD, take, drop, length-map, List·getD-append}
 use lib.Seq.{take-at, drop-at}
 use lib.Dec.{eqb, ltb}
-use Rattle.theory.specs.Rule.{mem, range, upTo, Program, Bounded, everyRule, count, rule, plain}
+use Rattle.theory.specs.Rule.{mem, range, upTo, Program, Bounded, inForce, count, rule, plain}
 use Rattle.theory.specs.Run.{rejected, run, setAside, factMark, ruleMark, factMarks, ruleMarks}
 use Rattle.theory.proofs.Bools.{never, and-left, false-of}
 use Rattle.theory.proofs.Lists.{length-range, all-elem, any-witness}
@@ -18,8 +18,8 @@ use Rattle.theory.proofs.Run.{run-sound, run-disjoint, not-both, exception-know
 use Rattle.theory.proofs.Absent.{run-absent}
 use Rattle.theory.proofs.RunStable.{concluded-kept}
 use Rattle.theory.proofs.Marks.{aside-supported, aside-exception}
-use Rattle.run.specs.Outcome.{over}
-use Rattle.rules.specs.Questions.{marked}
+use Rattle.items.specs.Write.{over}
+use Rattle.items.specs.Item.{marked}
 
 pub getD-range : (f : ℕ → ℕ) (n a i : ℕ) → i < n → getD (map f (range a n)) i 0 ≡ f (a + i)
 getD-range f zero a i l = absurd (omega arith)
@@ -52,23 +52,23 @@ read-marks f n mark room S inside outside = fun-ext (λ i. go i (decLt i n))
     go i (no h) = let l : n ≤ i = omega arith in rw (le-ltb i n l) (sym (outside i l))
 
 module _ (P : Program) (b : Bounded P) (order : List ℕ) where
-  pub read-derived : (room : List ℕ) → marked (P .facts) 1 (over (factMarks P (run P everyRule order)) room) ≡ run P everyRule order .derived
+  pub read-derived : (room : List ℕ) → marked (P .facts) 1 (over (factMarks P (run P (inForce P) order)) room) ≡ run P (inForce P) order .derived
   unfolding factMark
   read-derived room =
-      read-marks (factMark P (run P everyRule order)) (P .facts) 1 room (run P everyRule order .derived)
-      (λ f _. one (run P everyRule order .derived f) (rejected P (run P everyRule order .applied) f))
-      (λ f l. run-absent P everyRule order f (λ i k _ e. let c : rule P i .conclusion < P .facts = b .conclusion-below i k in absurd (omega arith)))
+      read-marks (factMark P (run P (inForce P) order)) (P .facts) 1 room (run P (inForce P) order .derived)
+      (λ f _. one (run P (inForce P) order .derived f) (rejected P (run P (inForce P) order .applied) f))
+      (λ f l. run-absent P (inForce P) order f (λ i k _ e. let c : rule P i .conclusion < P .facts = b .conclusion-below i k in absurd (omega arith)))
     where
       one : (d r : Bool) → eqb (cond d 1 (cond r 2 0)) 1 ≡ d
       one true r = refl
       one false true = refl
       one false false = refl
 
-  pub read-rejected : (room : List ℕ) → marked (P .facts) 2 (over (factMarks P (run P everyRule order)) room) ≡ rejected P (run P everyRule order .applied)
+  pub read-rejected : (room : List ℕ) → marked (P .facts) 2 (over (factMarks P (run P (inForce P) order)) room) ≡ rejected P (run P (inForce P) order .applied)
   unfolding factMark rejected
   read-rejected room =
-      read-marks (factMark P (run P everyRule order)) (P .facts) 2 room (rejected P (run P everyRule order .applied))
-      (λ f _. two (run P everyRule order .derived f) (rejected P (run P everyRule order .applied) f) (run-disjoint P everyRule order f))
+      read-marks (factMark P (run P (inForce P) order)) (P .facts) 2 room (rejected P (run P (inForce P) order .applied))
+      (λ f _. two (run P (inForce P) order .derived f) (rejected P (run P (inForce P) order .applied) f) (run-disjoint P (inForce P) order f))
       outside
     where
       two : (d r : Bool) → (d ≡ true → r ≡ true → ⊥) → eqb (cond d 1 (cond r 2 0)) 2 ≡ r
@@ -77,23 +77,23 @@ module _ (P : Program) (b : Bounded P) (order : List ℕ) where
       two false true n = refl
       two false false n = refl
 
-      outside : (f : ℕ) → P .facts ≤ f → rejected P (run P everyRule order .applied) f ≡ false
-      outside f l = false-of (rejected P (run P everyRule order .applied) f) clash
+      outside : (f : ℕ) → P .facts ≤ f → rejected P (run P (inForce P) order .applied) f ≡ false
+      outside f l = false-of (rejected P (run P (inForce P) order .applied) f) clash
         where
-          clash : rejected P (run P everyRule order .applied) f ≡ true → ⊥
+          clash : rejected P (run P (inForce P) order .applied) f ≡ true → ⊥
           clash t =
-              let w = any-witness (λ i. mem f (rule P i .constraints)) (run P everyRule order .applied) t in
-              let e = run-sound P everyRule order .excepted (w .0) (w .1) in
-              never (all-elem (λ g. ltb g (P .facts)) (rule P (w .0) .constraints) (b .constraints-below (w .0) (exception-known P everyRule (w .0) e)) f (w .2)) (le-ltb f (P .facts) l)
+              let w = any-witness (λ i. mem f (rule P i .constraints)) (run P (inForce P) order .applied) t in
+              let e = run-sound P (inForce P) order .excepted (w .0) (w .1) in
+              never (all-elem (λ g. ltb g (P .facts)) (rule P (w .0) .constraints) (b .constraints-below (w .0) (exception-known P (inForce P) (w .0) e)) f (w .2)) (le-ltb f (P .facts) l)
 
-  pub read-aside : (room : List ℕ) → marked (count P) 2 (over (ruleMarks P everyRule (run P everyRule order)) room) ≡ setAside P everyRule (run P everyRule order .derived)
+  pub read-aside : (room : List ℕ) → marked (count P) 2 (over (ruleMarks P (inForce P) (run P (inForce P) order)) room) ≡ setAside P (inForce P) (run P (inForce P) order .derived)
   unfolding ruleMark
   read-aside room =
-      read-marks (ruleMark P everyRule (run P everyRule order)) (count P) 2 room (setAside P everyRule (run P everyRule order .derived))
-      (λ i _. two (plain P i) (mem i (run P everyRule order .applied)) (setAside P everyRule (run P everyRule order .derived) i)
-      (λ p a. not-both P everyRule i p (aside-exception P everyRule (run P everyRule order) (run-sound P everyRule order) i (aside-supported P everyRule (run P everyRule order .derived) i a)))
-      (λ m a. never a (concluded-kept P everyRule (run P everyRule order .derived) i (run-sound P everyRule order .concluded i m))))
-      (λ i l. false-of (setAside P everyRule (run P everyRule order .derived) i) (λ a. let k : i < count P = aside-supported P everyRule (run P everyRule order .derived) i a .known in absurd (omega arith)))
+      read-marks (ruleMark P (inForce P) (run P (inForce P) order)) (count P) 2 room (setAside P (inForce P) (run P (inForce P) order .derived))
+      (λ i _. two (plain P i) (mem i (run P (inForce P) order .applied)) (setAside P (inForce P) (run P (inForce P) order .derived) i)
+      (λ p a. not-both P (inForce P) i p (aside-exception P (inForce P) (run P (inForce P) order) (run-sound P (inForce P) order) i (aside-supported P (inForce P) (run P (inForce P) order .derived) i a)))
+      (λ m a. never a (concluded-kept P (inForce P) (run P (inForce P) order .derived) i (run-sound P (inForce P) order .concluded i m))))
+      (λ i l. false-of (setAside P (inForce P) (run P (inForce P) order .derived) i) (λ a. let k : i < count P = aside-supported P (inForce P) (run P (inForce P) order .derived) i a .known in absurd (omega arith)))
     where
       two : (p a s : Bool) → (p ≡ true → s ≡ true → ⊥) → (a ≡ true → s ≡ true → ⊥) → eqb (cond p 0 (cond a 1 (cond s 2 3))) 2 ≡ s
       two true a true n m = absurd (n refl refl)
@@ -103,11 +103,11 @@ module _ (P : Program) (b : Bounded P) (order : List ℕ) where
       two false false true n m = refl
       two false false false n m = refl
 
-  pub read-plain : (room : List ℕ) → marked (count P) 0 (over (ruleMarks P everyRule (run P everyRule order)) room) ≡ plain P
+  pub read-plain : (room : List ℕ) → marked (count P) 0 (over (ruleMarks P (inForce P) (run P (inForce P) order)) room) ≡ plain P
   unfolding ruleMark plain
   read-plain room =
-      read-marks (ruleMark P everyRule (run P everyRule order)) (count P) 0 room (plain P)
-      (λ i _. zero-mark (plain P i) (mem i (run P everyRule order .applied)) (setAside P everyRule (run P everyRule order .derived) i))
+      read-marks (ruleMark P (inForce P) (run P (inForce P) order)) (count P) 0 room (plain P)
+      (λ i _. zero-mark (plain P i) (mem i (run P (inForce P) order .applied)) (setAside P (inForce P) (run P (inForce P) order .derived) i))
       (λ i l. false-of (plain P i) (λ a. let k : i < count P = ltb-true i (count P) (and-left (ltb i (count P)) _ a) in absurd (omega arith)))
     where
       zero-mark : (p a s : Bool) → eqb (cond p 0 (cond a 1 (cond s 2 3))) 0 ≡ p
@@ -116,13 +116,13 @@ module _ (P : Program) (b : Bounded P) (order : List ℕ) where
       zero-mark false false true = refl
       zero-mark false false false = refl
 
-  pub read-applied : (room : List ℕ) → marked (count P) 1 (over (ruleMarks P everyRule (run P everyRule order)) room) ≡ (λ i. mem i (run P everyRule order .applied))
+  pub read-applied : (room : List ℕ) → marked (count P) 1 (over (ruleMarks P (inForce P) (run P (inForce P) order)) room) ≡ (λ i. mem i (run P (inForce P) order .applied))
   unfolding ruleMark
   read-applied room =
-      read-marks (ruleMark P everyRule (run P everyRule order)) (count P) 1 room (λ i. mem i (run P everyRule order .applied))
-      (λ i _. one (plain P i) (mem i (run P everyRule order .applied)) (setAside P everyRule (run P everyRule order .derived) i)
-      (λ p m. not-both P everyRule i p (run-sound P everyRule order .excepted i m)))
-      (λ i l. false-of (mem i (run P everyRule order .applied)) (λ m. let k : i < count P = exception-known P everyRule i (run-sound P everyRule order .excepted i m) in absurd (omega arith)))
+      read-marks (ruleMark P (inForce P) (run P (inForce P) order)) (count P) 1 room (λ i. mem i (run P (inForce P) order .applied))
+      (λ i _. one (plain P i) (mem i (run P (inForce P) order .applied)) (setAside P (inForce P) (run P (inForce P) order .derived) i)
+      (λ p m. not-both P (inForce P) i p (run-sound P (inForce P) order .excepted i m)))
+      (λ i l. false-of (mem i (run P (inForce P) order .applied)) (λ m. let k : i < count P = exception-known P (inForce P) i (run-sound P (inForce P) order .excepted i m) in absurd (omega arith)))
     where
       one : (p a s : Bool) → (p ≡ true → a ≡ true → ⊥) → eqb (cond p 0 (cond a 1 (cond s 2 3))) 1 ≡ a
       one true true s n = absurd (n refl refl)

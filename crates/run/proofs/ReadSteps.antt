@@ -8,9 +8,9 @@ use lib.Seq.{take-at}
 use lib.Dec.{eqb}
 use Rattle.theory.specs.Rule.{Step as Taken}
 use Rattle.theory.specs.Stable.{rowTo}
-use Rattle.reader.specs.Item.{stepWidth}
+use Rattle.items.specs.Item.{stepWidth}
 use Rattle.closure.specs.Steps.{stepBytes}
-use Rattle.run.specs.Outcome.{over}
+use Rattle.items.specs.Write.{over}
 use Rattle.run.proofs.StepsWritten.{step-bytes-append, step-bytes-length}
 
 pub steps-front : (row : List Taken) (room : List ℕ) → take (stepWidth * length row) (over (stepBytes row) room) ≡ stepBytes row

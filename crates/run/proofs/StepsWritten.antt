@@ -7,13 +7,12 @@ use native.Mathlib.Omega.{arith}
 use lib.ListN.{length, drop, length-append, length-drop}
 use lib.Seq.{take-append-seam, drop-append-add, drop-drop}
 use Rattle.theory.specs.Rule.{Step}
-use Rattle.reader.specs.Item.{stepWidth}
-use Rattle.reader.specs.Cursor.{itemsAt, stepsStart}
-use Rattle.reader.specs.Write.{stepItem, placed}
-use Rattle.reader.proofs.ReadBack.{step-item-first}
-use Rattle.rules.specs.Questions.{whole, stepsOf, rowOf}
+use Rattle.items.specs.Item.{stepWidth}
+use Rattle.items.specs.Cursor.{itemsAt, stepsStart}
+use Rattle.items.specs.Write.{stepItem, placed, over}
+use Rattle.items.proofs.ReadBack.{step-item-first}
+use Rattle.questions.specs.Questions.{whole, stepsOf, rowOf}
 use Rattle.closure.specs.Steps.{stepBytes}
-use Rattle.run.specs.Outcome.{over}
 
 -- What is placed behind the front goes on from there.
 pub over-more : (xs bs room : List ℕ) → placed bs (length xs) (over xs room) ≡ over (xs ++ bs) room

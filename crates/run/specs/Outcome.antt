@@ -1,16 +1,17 @@
 -- What a run answers and leaves in the buffers lent to it (document 01, "The run").
 use Prim.Native.Nat.{ℕ}
 use mathlib.Core.Path.{_≡_}
-use mathlib.Core.List.{List, _++_}
+use mathlib.Core.List.{List}
 use mathlib.Core.Option.{Option, none, some}
-use lib.ListN.{length, drop}
-use Rattle.theory.specs.Rule.{Program, everyRule}
+use lib.ListN.{length}
+use Rattle.theory.specs.Rule.{Program, inForce}
 use Rattle.theory.specs.Run.{Stand, run, factMarks, ruleMarks, stageCount, stepCount}
-use Rattle.reader.specs.declared.refusal.Refusal.{Refusal}
-use Rattle.reader.specs.Question as refusal
-use Rattle.reader.specs.Question.{noNumber}
+use Rattle.items.specs.declared.refusal.Refusal.{Refusal}
+use Rattle.items.specs.Question as refusal
+use Rattle.items.specs.Question.{noNumber}
 use Rattle.reader.specs.Questions.{programOf}
-use Rattle.rules.specs.Questions.{namedIn, runNo}
+use Rattle.questions.specs.Questions.{namedIn, runNo}
+use Rattle.items.specs.Write.{over}
 use Rattle.closure.specs.Steps.{stepBytes}
 use Rattle.run.specs.declared.answer.Ran.{Ran}
 use Rattle.run.specs.declared.answer.Ran.the-variants.{Done, Refused}
@@ -22,13 +23,9 @@ pub record RunOutcome : Type 0 where
   pub rule-marks : List ℕ
   pub steps : List ℕ
 
--- xs over the front of ys; past them ys keeps its contents
-abbrev pub over : List ℕ → List ℕ → List ℕ
-over xs ys = xs ++ drop (length xs) ys
-
 -- The run of a file under an order.
 abbrev pub runOf : List ℕ → List ℕ → Stand
-runOf file order = run (programOf file) everyRule (namedIn order)
+runOf file order = run (programOf file) (inForce (programOf file)) (namedIn order)
 
 -- What a run that ends at s answers, and writes over the front of each buffer.
 unfoldable pub runWritten : Program → Stand → List ℕ → List ℕ → List ℕ → RunOutcome
@@ -36,7 +33,7 @@ runWritten P s facts rules steps =
     record {
       answer = Done (stageCount s) (stepCount s);
       fact-marks = over (factMarks P s) facts;
-      rule-marks = over (ruleMarks P everyRule s) rules;
+      rule-marks = over (ruleMarks P (inForce P) s) rules;
       steps = over (stepBytes (s .trace)) steps;
     }
 

@@ -1,16 +1,19 @@
 -- Internal: how the working memory of a run holds where the run stands.
-use Prim.Native.Nat.{ℕ}
+use Prim.Native.Nat.{ℕ, _*_, _≤_}
 use mathlib.Core.Path.{_≡_}
-use mathlib.Core.List.{List, []}
+use mathlib.Core.List.{List, [], _++_}
+use mathlib.Core.Option.{Option}
 use lib.ListN.{length}
-use Rattle.theory.specs.Rule.{mem, Program, everyRule, nothing}
-use Rattle.theory.specs.Run.{Stand, stage, stepCount}
-use Rattle.reader.specs.Item.{maxFacts}
-use Rattle.reader.specs.Questions.{maxRules}
-use Rattle.rules.specs.Questions.{has}
+use Rattle.theory.specs.Rule.{mem, Program, inForce, count, exception, nothing}
+use Rattle.theory.specs.Run.{Stand, stage, run, stepCount}
+use Rattle.items.specs.declared.refusal.Refusal.{Refusal}
+use Rattle.items.specs.Question.{firstNo}
+use Rattle.items.specs.Item.{maxFacts, maxRules, stepWidth, has}
+use Rattle.tables.specs.Layout.{programIn}
+use Rattle.questions.specs.Questions.{namedIn, orderQuestions, bufferQuestions}
 use Rattle.closure.specs.Steps.{stepBytes}
-use Rattle.stage.specs.Refused.{Shows}
-use Rattle.run.specs.Outcome.{over}
+use Rattle.stage.specs.Refused.{Shows, NamesOnly}
+use Rattle.items.specs.Write.{over}
 
 -- Before D is closed for the first time: no fact is derived, no rule applied.
 abbrev pub outset : Stand
@@ -29,4 +32,20 @@ pub record Holds (P : Program) (s : Stand) (derived rejections applied steps roo
 
 -- What a stage that applies rule i does to the memory: where it held a stand, it holds the stand after that stage.
 pub record Advances (P : Program) (i : ℕ) (derived rejections applied steps : List ℕ) (n : ℕ) (derived′ rejections′ applied′ steps′ : List ℕ) (n′ : ℕ) : Type 0 where
-  pub holds : (s : Stand) (room : List ℕ) → Holds P s derived rejections applied steps room n → Holds P (stage P everyRule s i) derived′ rejections′ applied′ steps′ room n′
+  pub holds : (s : Stand) (room : List ℕ) → Holds P s derived rejections applied steps room n → Holds P (stage P (inForce P) s i) derived′ rejections′ applied′ steps′ room n′
+
+-- The run of the program that the tables hold, under an order.
+abbrev pub runIn : List ℕ → List ℕ → Stand
+runIn T order = run (programIn T) (inForce (programIn T)) (namedIn order)
+
+-- The order names exception rules alone, and the buffers have these lengths: room for the marks and for a step for each fact.
+pub record MayRun (P : Program) (order : List ℕ) (facts rules steps : ℕ) : Type 0 where
+  pub names-only : NamesOnly P order
+  pub facts-fit : P .facts ≤ facts
+  pub rules-fit : count P ≤ rules
+  pub steps-fit : stepWidth * P .facts ≤ steps
+
+-- The first no to the questions behind those of the file.
+abbrev pub tabledNo : Program → List ℕ → ℕ → ℕ → ℕ → Option Refusal
+tabledNo P order facts rules steps =
+    firstNo (orderQuestions (exception P) (count P) order ++ bufferQuestions P facts rules steps)

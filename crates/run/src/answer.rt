@@ -1,4 +1,4 @@
-use reader::refusal::Refusal;
+use items::refusal::Refusal;
 
 // What a run answers: the counts of its stages and of its steps, or the first no.
 pub enum Ran {

@@ -1,20 +1,21 @@
 // The marks that a run writes. Internal.
-ghost use Prim.Native.Nat.{ℕ, _≤_, _<_};
+ghost use Prim.Native.Nat.{_≤_, _<_};
 ghost use mathlib.Core.Path.{_≡_};
 ghost use lib.ListN.{length};
-ghost use Rattle.theory.specs.Rule.{mem, Program, everyRule, count, rule};
+ghost use Rattle.theory.specs.Rule.{mem, Program, inForce, count};
 ghost use Rattle.theory.specs.Run.{Stand, rejected as rejectedBy, ruleMark, factMarks, ruleMarks};
-ghost use Rattle.reader.specs.Item.{maxFacts};
-ghost use Rattle.reader.specs.Questions.{programOf};
-ghost use Rattle.rules.specs.Questions.{has};
-ghost use Rattle.rules.specs.RuleAt.{ruleAt};
-ghost use Rattle.closure.specs.Known.{Known};
-ghost use Rattle.run.specs.Outcome.{over};
-use closure::place::start_of;
-use reader::item::RuleId;
-use reader::rules::MAX_FACTS;
-use rules::fact_set::in_set;
-use rules::index::MAX_RULES;
+ghost use Rattle.items.specs.Item.{maxFacts, has};
+ghost use Rattle.tables.specs.Layout.{programIn, WellFormed};
+ghost use Rattle.items.specs.Write.{over};
+use items::item::MAX_FACTS;
+use items::item::MAX_RULES;
+use items::item::RuleId;
+use tables::layout::TABLE_CELLS;
+use tables::layout::rules_of;
+use tables::rule::conclusion_in;
+use tables::rule::constraints_clear;
+use tables::rule::is_exception;
+use tables::rule::premises_in;
 
 // Fact marks: 1 in D, 2 in R, 0 open.
 pub fn write_fact_marks(
@@ -40,22 +41,29 @@ pub fn write_fact_marks(
 }
 
 // The mark of one rule: 0 plain, 1 applied at a stage, 2 set aside, 3 other.
-fn rule_mark(file: &[u8], at: usize, applied: bool, derived: &[u8; MAX_FACTS]) -> u8
-    ensures { λ r. ⌜ ((P : Program) (s : Stand) (i : ℕ) → i < count P → ruleAt (now (file .entry)) at ≡ rule P i → applied ≡ mem i (s .applied) → has (now (derived .entry)) ≡ s .derived → r ≡ ruleMark P everyRule s i) ⌝ }
+fn rule_mark(
+    tables: &[u16; TABLE_CELLS],
+    rule: RuleId,
+    applied: bool,
+    derived: &[u8; MAX_FACTS],
+) -> u8
+    requires { ⌜ WellFormed (now tables) × (rule .0 < count (programIn (now tables))) ⌝ }
+    requires { ⌜ programIn (now tables) .facts ≤ length (now derived) ⌝ }
+    ensures { λ r. ⌜ ((s : Stand) → applied ≡ mem (rule .0) (s .applied) → has (now (derived .entry)) ≡ s .derived → r ≡ ruleMark (programIn (now (tables .entry))) (inForce (programIn (now (tables .entry)))) s (rule .0)) ⌝ }
 {
-    if !rules::rule::is_exception(file, at) {
+    if !is_exception(tables, rule) {
         return 0;
     }
     if applied {
         return 1;
     }
-    if !rules::rule::premises_in(file, at, derived) {
+    if !premises_in(tables, rule, derived) {
         return 3;
     }
-    if !rules::rule::constraints_clear(file, at, derived) {
+    if !constraints_clear(tables, rule, derived) {
         return 3;
     }
-    if in_set(derived, rules::rule::conclusion(file, at)) {
+    if conclusion_in(tables, rule, derived) {
         3
     } else {
         2
@@ -64,21 +72,20 @@ fn rule_mark(file: &[u8], at: usize, applied: bool, derived: &[u8; MAX_FACTS]) -
 
 // The mark of each rule.
 pub fn write_rule_marks(
-    file: &[u8],
-    starts: &[u16; MAX_RULES],
-    rules: usize,
+    tables: &[u16; TABLE_CELLS],
     applied: &[u8; MAX_RULES],
     derived: &[u8; MAX_FACTS],
     out: &mut [u8],
 )
-    requires { ⌜ Known (now file) (now starts) rules ⌝ }
-    requires { ⌜ rules ≤ length (now out) ⌝ }
-    ensures { λ _. ⌜ ((s : Stand) → has (now (applied .entry)) ≡ (λ i. mem i (s .applied)) → has (now (derived .entry)) ≡ s .derived → now (out .exit) ≡ over (ruleMarks (programOf (now (file .entry))) everyRule s) (now (out .entry))) ⌝ }
+    requires { ⌜ WellFormed (now tables) ⌝ }
+    requires { ⌜ programIn (now tables) .facts ≤ length (now derived) ⌝ }
+    requires { ⌜ count (programIn (now tables)) ≤ length (now out) ⌝ }
+    ensures { λ _. ⌜ ((s : Stand) → has (now (applied .entry)) ≡ (λ i. mem i (s .applied)) → has (now (derived .entry)) ≡ s .derived → now (out .exit) ≡ over (ruleMarks (programIn (now (tables .entry))) (inForce (programIn (now (tables .entry)))) s) (now (out .entry))) ⌝ }
 {
+    let rules = rules_of(tables);
     let mut i: usize = 0;
     while i < rules {
-        let at = start_of(starts, RuleId(i as u16));
-        out[i] = rule_mark(file, at, applied[i] == 1, derived);
+        out[i] = rule_mark(tables, RuleId(i as u16), applied[i] == 1, derived);
         i += 1;
     }
 }

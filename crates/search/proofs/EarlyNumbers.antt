@@ -4,11 +4,11 @@ use native.Mathlib.Omega.{arith}
 use mathlib.Core.Path.{_≡_}
 use mathlib.Core.List.{List}
 use mathlib.Core.Option.{some}
-use Rattle.reader.specs.declared.refusal.Refusal.{Refusal}
-use Rattle.reader.specs.Question as refusal
+use Rattle.items.specs.declared.refusal.Refusal.{Refusal}
+use Rattle.items.specs.Question as refusal
 use Rattle.reader.specs.Questions.{programOf, fileQuestions}
 use Rattle.reader.proofs.FileRefusals.{each-first, each-append, FileRefusals, each-file}
-use Rattle.rules.specs.Questions.{bufferQuestions, limitQuestions, earlyQuestions, earlyNo}
+use Rattle.questions.specs.Questions.{bufferQuestions, limitQuestions, earlyQuestions, earlyNo}
 
 -- a number, and below that of the last question
 abbrev Early : Refusal → Type 0

@@ -1,6 +1,6 @@
 pub mod SearchAsked
 pub mod EarlyNumbers
-pub mod OrderGroups
 pub mod RunUnder
 pub mod Outcomes
 pub mod SearchMeaning
+pub mod Guesses

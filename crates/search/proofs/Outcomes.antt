@@ -6,21 +6,21 @@ use mathlib.Core.Bool.{Bool, true, false}
 use mathlib.Core.List.{List, [], _∷_}
 use mathlib.Core.Option.{Option, none, some}
 use lib.ListN.{length, replicate}
-use Rattle.theory.specs.Rule.{keep, howMany, upTo, downFrom, Program, FactSet, everyRule, constraintFact}
+use Rattle.theory.specs.Rule.{keep, howMany, upTo, downFrom, Program, FactSet, inForce, constraintFact}
 use Rattle.theory.specs.Search.{guessed, search}
 use Rattle.theory.proofs.Bools.{never}
-use Rattle.theory.proofs.Lists.{mem-downFrom}
-use Rattle.reader.specs.declared.refusal.Refusal.{Refusal}
-use Rattle.reader.specs.declared.refusal.Refusal.the-variants.{NoStableSet}
-use Rattle.reader.specs.Item.{maxFacts}
+use Rattle.theory.proofs.Lists.{mem-downFrom, keep-same}
+use Rattle.items.specs.declared.refusal.Refusal.{Refusal}
+use Rattle.items.specs.declared.refusal.Refusal.the-variants.{NoStableSet}
+use Rattle.items.specs.Item.{maxFacts, has}
 use Rattle.reader.specs.Questions.{programOf, constraintFacts}
-use Rattle.reader.specs.Rules.{paint}
-use Rattle.reader.proofs.Marks.{painted, painted-count}
-use Rattle.rules.specs.Questions.{has, someStable, stableQuestion, earlyQuestions, searchQuestions, earlyNo, searchNo}
-use Rattle.rules.proofs.Orders.{keep-same}
+use Rattle.tables.specs.Marks.{paint}
+use Rattle.reader.proofs.RulesCounted.{painted-count}
+use Rattle.tables.proofs.MarksPainted.{painted}
+use Rattle.questions.specs.Questions.{someStable, stableQuestion, earlyQuestions, searchQuestions, earlyNo, searchNo}
 use Rattle.earliest.specs.Branch.{Shown}
-use Rattle.reader.specs.Question.{firstNo}
-use Rattle.reader.proofs.FirstNo.{first-no, first-yes}
+use Rattle.items.specs.Question.{firstNo}
+use Rattle.items.proofs.FirstNo.{first-no, first-yes}
 use Rattle.search.specs.Outcome.{SearchOutcome, foundAt, refusedWith, takenSet, searchOutcome}
 
 module _ (file facts rules steps order : List ℕ) where
@@ -39,42 +39,27 @@ module _ (file facts rules steps order : List ℕ) where
     unfolding searchQuestions
     last-asked = first-yes (earlyQuestions file (length facts) (length rules) (length steps) (length order)) _ e
 
-    pub searched-without : _≡_ {A = Option FactSet} (search (programOf file) everyRule) none → _≡_ {A = SearchOutcome} (refusedWith NoStableSet facts rules steps order) (searchOutcome file facts rules steps order)
+    pub searched-without : _≡_ {A = Option FactSet} (search (programOf file) (inForce (programOf file))) none → _≡_ {A = SearchOutcome} (refusedWith NoStableSet facts rules steps order) (searchOutcome file facts rules steps order)
     unfolding someStable
     searched-without q = searched-no NoStableSet (last-asked ∙ rw (q, someStable))
 
-    pub searched-with : (M : FactSet) → search (programOf file) everyRule ≡ some M → _≡_ {A = SearchOutcome} (foundAt (programOf file) M facts rules steps order) (searchOutcome file facts rules steps order)
+    pub searched-with : (M : FactSet) → search (programOf file) (inForce (programOf file)) ≡ some M → _≡_ {A = SearchOutcome} (foundAt (programOf file) M facts rules steps order) (searchOutcome file facts rules steps order)
     unfolding someStable searchOutcome takenSet
     searched-with M q =
         let all-yes : _≡_ {A = Option Refusal} (searchNo file (length facts) (length rules) (length steps) (length order)) none = last-asked ∙ rw (q, someStable) in
         sym (rw (all-yes, searchOutcome, q, takenSet))
 
     -- by the answer whether there is a set, and the set that the bytes show
-    pub searched-none : (bytes : List ℕ) (r : Bool) → r ≡ false → Shown (search (programOf file) everyRule) r bytes → _≡_ {A = SearchOutcome} (refusedWith NoStableSet facts rules steps order) (searchOutcome file facts rules steps order)
-    searched-none bytes r f s = go (search (programOf file) everyRule) refl s
+    pub searched-none : (bytes : List ℕ) (r : Bool) → r ≡ false → Shown (search (programOf file) (inForce (programOf file))) r bytes → _≡_ {A = SearchOutcome} (refusedWith NoStableSet facts rules steps order) (searchOutcome file facts rules steps order)
+    searched-none bytes r f s = go (search (programOf file) (inForce (programOf file))) refl s
       where
-        go : (o : Option FactSet) → search (programOf file) everyRule ≡ o → Shown o r bytes → _≡_ {A = SearchOutcome} (refusedWith NoStableSet facts rules steps order) (searchOutcome file facts rules steps order)
+        go : (o : Option FactSet) → search (programOf file) (inForce (programOf file)) ≡ o → Shown o r bytes → _≡_ {A = SearchOutcome} (refusedWith NoStableSet facts rules steps order) (searchOutcome file facts rules steps order)
         go none q w = searched-without q
         go (some M) q w = never (w .0) f
 
-    pub searched-found : (bytes : List ℕ) (r : Bool) → r ≡ true → Shown (search (programOf file) everyRule) r bytes → _≡_ {A = SearchOutcome} (foundAt (programOf file) (has bytes) facts rules steps order) (searchOutcome file facts rules steps order)
-    searched-found bytes r t s = go (search (programOf file) everyRule) refl s
+    pub searched-found : (bytes : List ℕ) (r : Bool) → r ≡ true → Shown (search (programOf file) (inForce (programOf file))) r bytes → _≡_ {A = SearchOutcome} (foundAt (programOf file) (has bytes) facts rules steps order) (searchOutcome file facts rules steps order)
+    searched-found bytes r t s = go (search (programOf file) (inForce (programOf file))) refl s
       where
-        go : (o : Option FactSet) → search (programOf file) everyRule ≡ o → Shown o r bytes → _≡_ {A = SearchOutcome} (foundAt (programOf file) (has bytes) facts rules steps order) (searchOutcome file facts rules steps order)
+        go : (o : Option FactSet) → search (programOf file) (inForce (programOf file)) ≡ o → Shown o r bytes → _≡_ {A = SearchOutcome} (foundAt (programOf file) (has bytes) facts rules steps order) (searchOutcome file facts rules steps order)
         go none q w = never t w
         go (some M) q w = ap (λ (N : FactSet). foundAt (programOf file) N facts rules steps order) (w .1) ∙ searched-with M q
-
--- The constraint facts, as marked.
-module _ (P : Program) (h : P .facts ≤ maxFacts) (marks : List ℕ) (m : marks ≡ paint (constraintFact P everyRule) (replicate maxFacts 0)) (n : ℕ) (f : n ≡ P .facts) where
-  pub guesses-counted : howMany (has marks) (upTo n) ≡ constraintFacts P
-  unfolding has
-  guesses-counted = ap₂ (λ (l : List ℕ) (k : ℕ). howMany (has l) (upTo k)) m f ∙ painted-count P maxFacts h
-
-  pub guesses-listed : keep (has marks) (downFrom n) ≡ guessed P everyRule
-  unfolding has guessed
-  guesses-listed =
-      ap₂ (λ (l : List ℕ) (k : ℕ). keep (has l) (downFrom k)) m f
-      ∙ keep-same _ (constraintFact P everyRule) (downFrom (P .facts)) (λ k d. painted maxFacts (constraintFact P everyRule) k (below (mem-downFrom (P .facts) k d)))
-    where
-      below : {k : ℕ} → k < P .facts → k < maxFacts
-      below l = omega arith

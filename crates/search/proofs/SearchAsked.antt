@@ -1,40 +1,61 @@
 -- The questions before a search, and what a yes to all of them tells.
 use Prim.Native.Nat.{ℕ, _*_, _≤_, _<_}
-use mathlib.Core.Path.{_≡_, sym, _∙_}
-use mathlib.Core.List.{List}
+use mathlib.Core.Path.{_≡_, sym, ap, _∙_}
+use mathlib.Core.List.{List, _++_}
 use mathlib.Core.Option.{Option, none, some}
 use native.Mathlib.Omega.{arith}
 use borrow.Author.Tests.{le-leb, lt-leb, leb-true}
 use lib.Dec.{leb}
 use Rattle.theory.specs.Rule.{Program}
-use Rattle.reader.specs.declared.refusal.Refusal.{Refusal}
-use Rattle.reader.specs.declared.refusal.Refusal.the-variants.{OrderShort, TooManyConstraints}
+use Rattle.items.specs.declared.refusal.Refusal.{Refusal}
+use Rattle.items.specs.declared.refusal.Refusal.the-variants.{OrderShort, TooManyConstraints}
+use Rattle.items.specs.Item.{nameWidth, maxGuessed}
+use Rattle.items.specs.Question.{firstNo}
+use Rattle.items.proofs.FirstNo.{first-no, first-yes, both-yes}
+use Rattle.tables.specs.Layout.{programIn}
 use Rattle.reader.specs.declared.answer.FileCounts.{FileCounts}
-use Rattle.reader.specs.declared.answer.Asked.the-variants.{Yes, No}
-use Rattle.reader.specs.Item.{nameWidth}
-use Rattle.reader.specs.Questions.{programOf, fileQuestions, fileNo, maxGuessed, exceptions, constraintFacts}
-use Rattle.reader.specs.Asked.{countsOf, askedOf, fileAsked}
-use Rattle.reader.specs.Accepted.{Accepted}
-use Rattle.reader.proofs.FirstNo.{first-no, first-yes, both-yes}
-use Rattle.reader.proofs.FileAsked.{asked-no, asked-yes, counts-told}
+use Rattle.reader.specs.Questions.{programOf, fileQuestions, fileNo, exceptions, constraintFacts}
+use Rattle.reader.specs.declared.answer.Asked.the-variants as asked
+use Rattle.reader.specs.Asked.{countsOf, fileAsked}
 use Rattle.reader.proofs.Accepted.{all-asked}
-use Rattle.rules.proofs.OperationAsked.{file-refused, file-accepted}
-use Rattle.rules.specs.Questions.{bufferQuestions, buffersNo, limitQuestions, earlyQuestions, limitsNo, earlyNo}
+use Rattle.questions.specs.declared.answer.Answer.{Answer}
+use Rattle.questions.specs.declared.answer.Answer.the-variants.{Yes, No}
+use Rattle.questions.specs.Answer.{answerOf}
+use Rattle.questions.specs.Questions.{bufferQuestions, buffersNo, limitQuestions, earlyQuestions, limitsNo, earlyNo}
+use Rattle.questions.proofs.NamesAsked.{said-yes, said-no}
+use Rattle.questions.proofs.OperationAsked.{file-refused, file-accepted}
 
--- The ways of the questions on the order's length and on the constraint facts, by their counts.
-module _ (P : Program) (counts : FileCounts) (order n : ℕ) (e : n ≡ exceptions P) where
-  pub order-short : order < nameWidth * n → No OrderShort ≡ askedOf (limitsNo P order) counts
+-- The ways of the questions on the order's length and on the constraint facts, by the counts of the file.
+module _ (P : Program) (counts : FileCounts) (order : ℕ) (e : counts ≡ countsOf P) where
+  named : counts .exceptions ≡ exceptions P
+  named = ap (λ (c : FileCounts). c .exceptions) e
+
+  guessed : counts .constraints ≡ constraintFacts P
+  guessed = ap (λ (c : FileCounts). c .constraints) e
+
+  pub order-short : order < nameWidth * counts .exceptions → No OrderShort ≡ answerOf (limitsNo P order)
   unfolding limitQuestions
-  order-short h = rw (lt-leb (nameWidth * exceptions P) order (omega arith))
+  order-short h = rw (lt-leb (nameWidth * exceptions P) order (omega (arith, named)))
 
-  module _ (l : nameWidth * n ≤ order) (k : ℕ) (f : k ≡ constraintFacts P) where
-    pub too-many : maxGuessed < k → No TooManyConstraints ≡ askedOf (limitsNo P order) counts
+  module _ (l : nameWidth * counts .exceptions ≤ order) where
+    pub too-many : maxGuessed < counts .constraints → No TooManyConstraints ≡ answerOf (limitsNo P order)
     unfolding limitQuestions
-    too-many h = rw (le-leb (nameWidth * exceptions P) order (omega arith), lt-leb (constraintFacts P) maxGuessed (omega arith))
+    too-many h = rw (le-leb (nameWidth * exceptions P) order (omega (arith, named)), lt-leb (constraintFacts P) maxGuessed (omega (arith, guessed)))
 
-    pub within-limits : k ≤ maxGuessed → Yes counts ≡ askedOf (limitsNo P order) counts
+    pub within-limits : counts .constraints ≤ maxGuessed → Yes ≡ answerOf (limitsNo P order)
     unfolding limitQuestions
-    within-limits h = rw (le-leb (nameWidth * exceptions P) order (omega arith), le-leb (constraintFacts P) maxGuessed (omega arith))
+    within-limits h = rw (le-leb (nameWidth * exceptions P) order (omega (arith, named)), le-leb (constraintFacts P) maxGuessed (omega (arith, guessed)))
+
+-- The questions of the buffers, then of the limits.
+module _ (P : Program) (facts rules steps order : ℕ) where
+  abbrev pub laterNo : Option Refusal
+  laterNo = firstNo (bufferQuestions P facts rules steps ++ limitQuestions P order)
+
+  pub buffers-refuse : (r : Refusal) → No r ≡ answerOf (buffersNo P facts rules steps) → No r ≡ answerOf laterNo
+  buffers-refuse r e = sym (ap answerOf (first-no (bufferQuestions P facts rules steps) (limitQuestions P order) r (said-no _ r e)))
+
+  pub limits-decide : Yes ≡ answerOf (buffersNo P facts rules steps) → answerOf (limitsNo P order) ≡ answerOf laterNo
+  limits-decide e = sym (ap answerOf (first-yes (bufferQuestions P facts rules steps) (limitQuestions P order) (said-yes _ e)))
 
 -- What a search may rely on where all questions but the last got yes.
 pub record AllYesses (file : List ℕ) (facts rules steps order : ℕ) : Type 0 where
@@ -45,22 +66,21 @@ pub record AllYesses (file : List ℕ) (facts rules steps order : ℕ) : Type 0 
 
 -- The ways of the questions before a search.
 module _ (file : List ℕ) (facts rules steps order : ℕ) where
-  module _ (yes-all : _≡_ {A = Option Refusal} (fileNo file) none) (counts : FileCounts) where
-    pub search-buffers-no : (r : Refusal) → askedOf (buffersNo (programOf file) facts rules steps) counts ≡ No r → earlyNo file facts rules steps order ≡ some r
-    unfolding earlyQuestions
-    search-buffers-no r e =
-        file-accepted file _ yes-all
-        ∙ first-no (bufferQuestions (programOf file) facts rules steps) _ r (asked-no _ counts r e)
-
-    pub search-limits : (got : FileCounts) → askedOf (buffersNo (programOf file) facts rules steps) counts ≡ Yes got → _≡_ {A = Option Refusal} (earlyNo file facts rules steps order) (limitsNo (programOf file) order)
-    unfolding earlyQuestions
-    search-limits got e =
-        file-accepted file _ yes-all
-        ∙ first-yes (bufferQuestions (programOf file) facts rules steps) _ (asked-yes _ counts got e .0)
-
-  pub search-file-no : (r : Refusal) → fileAsked file ≡ No r → earlyNo file facts rules steps order ≡ some r
+  pub search-file-no : (r : Refusal) → fileAsked file ≡ asked.No r → earlyNo file facts rules steps order ≡ some r
   unfolding earlyQuestions
   search-file-no r e = file-refused file _ r e
+
+  -- of an accepted file, as its tables answer them
+  module _ (yes-all : _≡_ {A = Option Refusal} (fileNo file) none) (T : List ℕ) (p : programIn T ≡ programOf file) where
+    early-later : _≡_ {A = Option Refusal} (earlyNo file facts rules steps order) (laterNo (programIn T) facts rules steps order)
+    unfolding earlyQuestions
+    early-later = rw p (file-accepted file _ yes-all)
+
+    pub search-refused : (r : Refusal) → No r ≡ answerOf (laterNo (programIn T) facts rules steps order) → earlyNo file facts rules steps order ≡ some r
+    search-refused r e = early-later ∙ said-no _ r e
+
+    pub search-asked : Yes ≡ answerOf (laterNo (programIn T) facts rules steps order) → _≡_ {A = Option Refusal} (earlyNo file facts rules steps order) none
+    search-asked e = early-later ∙ said-yes _ e
 
   pub all-yes : _≡_ {A = Option Refusal} (earlyNo file facts rules steps order) none → AllYesses file facts rules steps order
   unfolding earlyQuestions limitQuestions
@@ -76,9 +96,3 @@ module _ (file : List ℕ) (facts rules steps order : ℕ) where
         order-fits = leb-true _ _ (o .0);
         few-guesses = leb-true _ _ (k .0);
       }
-
-  -- the questions before the last got yes, with the counts of the file
-  pub search-yes : (counts : FileCounts) → askedOf (earlyNo file facts rules steps order) (countsOf (programOf file)) ≡ Yes counts → (_≡_ {A = Option Refusal} (earlyNo file facts rules steps order) none) × Accepted file counts
-  search-yes counts e =
-      let t = asked-yes (earlyNo file facts rules steps order) (countsOf (programOf file)) counts e in
-      (t .0, counts-told file counts (all-yes (t .0) .accepted) (sym (t .1)))

@@ -1,4 +1,2 @@
 -- What is promised.
 pub mod Outcome
--- What only code and proofs use.
-pub mod Groups

@@ -4,17 +4,18 @@ use mathlib.Core.Path.{_≡_}
 use mathlib.Core.List.{List}
 use mathlib.Core.Option.{Option, none, some}
 use lib.ListN.{length}
-use Rattle.theory.specs.Rule.{Program, FactSet, everyRule, nothing}
+use Rattle.theory.specs.Rule.{Program, FactSet, inForce, nothing}
 use Rattle.theory.specs.Run.{Stand, run, factMarks, ruleMarks, stageCount, stepCount}
 use Rattle.theory.specs.Stable.{Stable, Earliest, anySet, orderFor}
 use Rattle.theory.specs.Search.{search}
-use Rattle.reader.specs.declared.refusal.Refusal.{Refusal}
-use Rattle.reader.specs.Question as refusal
-use Rattle.reader.specs.Question.{noNumber}
+use Rattle.items.specs.declared.refusal.Refusal.{Refusal}
+use Rattle.items.specs.Question as refusal
+use Rattle.items.specs.Question.{noNumber}
 use Rattle.reader.specs.Questions.{programOf}
-use Rattle.rules.specs.Questions.{naming, marked, searchNo}
+use Rattle.items.specs.Item.{marked}
+use Rattle.questions.specs.Questions.{naming, searchNo}
 use Rattle.closure.specs.Steps.{stepBytes}
-use Rattle.run.specs.Outcome.{over}
+use Rattle.items.specs.Write.{over}
 use Rattle.search.specs.declared.answer.Searched.{Searched}
 use Rattle.search.specs.declared.answer.Searched.the-variants.{Found, Refused}
 
@@ -32,14 +33,14 @@ searchWritten P row s facts rules steps order =
     record {
       answer = Found (stageCount s) (stepCount s);
       fact-marks = over (factMarks P s) facts;
-      rule-marks = over (ruleMarks P everyRule s) rules;
+      rule-marks = over (ruleMarks P (inForce P) s) rules;
       steps = over (stepBytes (s .trace)) steps;
       order = over (naming row) order;
     }
 
 -- The order for a stable set, and the run under it.
 abbrev pub foundAt : Program → FactSet → List ℕ → List ℕ → List ℕ → List ℕ → SearchOutcome
-foundAt P M = searchWritten P (orderFor P everyRule M) (run P everyRule (orderFor P everyRule M))
+foundAt P M = searchWritten P (orderFor P (inForce P) M) (run P (inForce P) (orderFor P (inForce P) M))
 
 -- A refusal alters no byte.
 abbrev pub refusedWith : Refusal → List ℕ → List ℕ → List ℕ → List ℕ → SearchOutcome
@@ -48,7 +49,7 @@ refusedWith r facts rules steps order =
 
 -- The set that the search takes. Where there is none, question 41 gets no, and nothing is taken.
 unfoldable pub takenSet : Program → FactSet
-takenSet P = elim (search P everyRule) [ some M ↦ M | none ↦ nothing ]
+takenSet P = elim (search P (inForce P)) [ some M ↦ M | none ↦ nothing ]
 
 -- What a search answers and leaves.
 unfoldable pub searchOutcome : List ℕ → List ℕ → List ℕ → List ℕ → List ℕ → SearchOutcome
@@ -75,5 +76,5 @@ steps (Refused r) = 0
 -- the fact marks 1, and 41 says that no set is stable.
 pub record SearchMeans (file : List ℕ) (no : Option Refusal) (o : SearchOutcome) : Type 0 where
   pub numbered : number (o .answer) ≡ noNumber no
-  pub earliest : number (o .answer) ≡ 0 → Earliest (programOf file) everyRule anySet (marked (programOf file .facts) 1 (o .fact-marks))
-  pub none-stable : number (o .answer) ≡ 41 → (M : FactSet) → Stable (programOf file) everyRule M → ⊥
+  pub earliest : number (o .answer) ≡ 0 → Earliest (programOf file) (inForce (programOf file)) anySet (marked (programOf file .facts) 1 (o .fact-marks))
+  pub none-stable : number (o .answer) ≡ 41 → (M : FactSet) → Stable (programOf file) (inForce (programOf file)) M → ⊥

@@ -1,4 +1,4 @@
-use reader::refusal::Refusal;
+use items::refusal::Refusal;
 
 // What a search answers: the counts of the run under the order that it wrote, or the first no.
 pub enum Searched {

@@ -1,6 +1,6 @@
 -- The search for the first eligible rule of an order: what is to come finds what the whole finds, at every stand that the marks show.
 use Prim.Native.Nat.{ℕ, _<_}
-use mathlib.Core.Path.{_≡_, refl, sym, ap, ap₂, _∙_}
+use mathlib.Core.Path.{_≡_, refl, sym, ap, _∙_}
 use mathlib.Core.Bool.{Bool, true, false}
 use mathlib.Core.List.{List, [], _∷_}
 use mathlib.Core.Logic.{_⊎_, ⊎-elim}
@@ -9,28 +9,22 @@ use borrow.Author.Tests.{eqb-true, eqb-false, eq-eqb}
 use lib.ListN.{length, getD, set}
 use lib.Seq.{getD-set-other}
 use lib.Dec.{eqb}
-use Rattle.theory.specs.Rule.{all, clear, mem, Rule, Program, FactSet, everyRule, rule, exception}
+use Rattle.theory.specs.Rule.{all, clear, mem, Program, Bounded, FactSet, inForce, count, rule, exception}
 use Rattle.theory.specs.Run.{Stand, spares, trial, eligible}
 use Rattle.theory.proofs.Bools.{either, never, false-of}
 use Rattle.theory.proofs.Lists.{mem-here, mem-there}
 use Rattle.theory.proofs.Run.{Eligible, eligible-parts, eligible-whole, exception-known}
-use Rattle.reader.specs.declared.item.FactId.{FactId}
-use Rattle.reader.specs.Item.{maxFacts, factId, ruleId}
-use Rattle.reader.specs.Questions.{programOf}
-use Rattle.reader.proofs.EachKind.{Bytes}
-use Rattle.rules.specs.Questions.{has}
-use Rattle.rules.specs.RuleAt.{ruleAt}
+use Rattle.items.specs.Item.{maxFacts, ruleId, has}
 use Rattle.closure.specs.declared.found.Found.the-variants.{At, Nothing}
 use Rattle.closure.specs.Steps.{foundOf}
-use Rattle.closure.specs.Known.{Known}
-use Rattle.closure.proofs.Ready.{Seeking, whole-seeking, seek-along, seek-ended, seek-passes, seek-fails, indexed-rule}
+use Rattle.theory.proofs.ListWalks.{Seeking, whole-seeking, seek-along, seek-ended, seek-passes, seek-fails}
 use Rattle.stage.specs.Refused.{Shows, RefusedAt, Refuses, Finds, apartBelow, NamesOnly}
 use Rattle.stage.proofs.SetsApart.{spares-apart}
 use Rattle.stage.proofs.TrialClosed.{trial-past}
 
 -- What a stand tells of the search: it goes on where the whole order would, and the marks are those of refused rules.
 pub record Goes (P : Program) (order rest skip : List ℕ) (s : Stand) : Type 0 where
-  pub seeking : Seeking (eligible P everyRule s) order rest
+  pub seeking : Seeking (eligible P (inForce P) s) order rest
   pub refuses : Refuses P s (has skip)
 
 -- The names to come, and the marks now, beside the order and the marks at entry.
@@ -66,7 +60,7 @@ module _ {P : Program} {order inD inR skip₀ rest skip : List ℕ} (w : Looking
     later : (j : ℕ) → mem j more ≡ true → mem j order ≡ true
     later j m = w .named j (ap (mem j) e ∙ mem-there j i more m)
 
-    pub passed-over : ((s : Stand) → Shows P inD inR s → Refuses P s (has skip) → eligible P everyRule s i ≡ false) → Looking P order inD inR skip₀ more skip
+    pub passed-over : ((s : Stand) → Shows P inD inR s → Refuses P s (has skip) → eligible P (inForce P) s i ≡ false) → Looking P order inD inR skip₀ more skip
     passed-over out =
         record {
           named = later;
@@ -86,7 +80,7 @@ module _ {P : Program} {order inD inR skip₀ rest skip : List ℕ} (w : Looking
             (λ t. let same : j ≡ i = eqb-true j i t in rw same (out s v))
             (λ t. w .goes s v q .refuses j (one-more skip i j m (eqb-false j i t)))
 
-    pub found-first : ((s : Stand) → Shows P inD inR s → eligible P everyRule s i ≡ true) → (s : Stand) → Shows P inD inR s → Refuses P s (has skip₀) → Finds P order s (At (ruleId i)) (has (set skip i 1))
+    pub found-first : ((s : Stand) → Shows P inD inR s → eligible P (inForce P) s i ≡ true) → (s : Stand) → Shows P inD inR s → Refuses P s (has skip₀) → Finds P order s (At (ruleId i)) (has (set skip i 1))
     found-first in-it s v q =
         record {
           first = sym (ap foundOf (seek-passes (w .goes s v q .seeking) i more e (in-it s v)));
@@ -97,73 +91,66 @@ module _ {P : Program} {order inD inR skip₀ rest skip : List ℕ} (w : Looking
 pub record Tried (P : Program) (inD inR T own : List ℕ) (i : ℕ) : Type 0 where
   pub meets-own : clear (has T) own ≡ false → (s : Stand) → Shows P inD inR s → RefusedAt P s i
   pub meets-rejected : apartBelow maxFacts (has T) (has inR) ≡ false → (s : Stand) → Shows P inD inR s → RefusedAt P s i
-  pub meets-neither : clear (has T) own ≡ true → apartBelow maxFacts (has T) (has inR) ≡ true → (s : Stand) → Shows P inD inR s → eligible P everyRule s i ≡ true
+  pub meets-neither : clear (has T) own ≡ true → apartBelow maxFacts (has T) (has inR) ≡ true → (s : Stand) → Shows P inD inR s → eligible P (inForce P) s i ≡ true
 
 -- A marked rule is not eligible.
-pub skipped : (P : Program) (skip : List ℕ) (i : ℕ) → getD skip i 0 ≡ 1 → (s : Stand) → Refuses P s (has skip) → eligible P everyRule s i ≡ false
+pub skipped : (P : Program) (skip : List ℕ) (i : ℕ) → getD skip i 0 ≡ 1 → (s : Stand) → Refuses P s (has skip) → eligible P (inForce P) s i ≡ false
 unfolding has
 skipped P skip i m s q = q i (eq-eqb _ _ m) .not-eligible
 
--- A rule of the order is one of the file's.
-pub named-known : {file starts : List ℕ} {rules : ℕ} → Known file starts rules → (order : List ℕ) → NamesOnly (programOf file) order → (i : ℕ) → mem i order ≡ true → i < rules
-named-known k order n i m = omega (arith, k .counted, exception-known _ everyRule i (n i m))
+-- A rule of the order is one of the program.
+pub named-known : (P : Program) (order : List ℕ) → NamesOnly P order → (i : ℕ) → mem i order ≡ true → i < count P
+named-known P order n i m = exception-known P (inForce P) i (n i m)
 
--- The tests on one rule, on the file's bytes.
-module _ {file starts : List ℕ} {rules : ℕ} (k : Known file starts rules) (inD inR : List ℕ) (i at : ℕ) (h : i < rules) (a : at ≡ getD starts i 0) where
-  here : ruleAt file at ≡ rule (programOf file) i
-  here = indexed-rule k i at h a
+-- The tests on one rule.
+module _ (P : Program) (inD inR : List ℕ) (i : ℕ) where
+  -- the premises and the conclusion at any stand that is shown
+  premises-shown : (b : Bool) → all (has inD) (rule P i .premises) ≡ b → (s : Stand) → Shows P inD inR s → all (s .derived) (rule P i .premises) ≡ b
+  premises-shown b p s v = ap (λ (S : FactSet). all S (rule P i .premises)) (sym (v .d)) ∙ p
 
-  -- the premises at any stand that is shown
-  premises-shown : (b : Bool) → all (has inD) (ruleAt file at .premises) ≡ b → (s : Stand) → Shows (programOf file) inD inR s → all (s .derived) (rule (programOf file) i .premises) ≡ b
-  premises-shown b p s v = ap₂ (λ (S : FactSet) (r : Rule). all S (r .premises)) (sym (v .d)) (sym here) ∙ p
+  conclusion-shown : (b : Bool) → has inD (rule P i .conclusion) ≡ b → (s : Stand) → Shows P inD inR s → s .derived (rule P i .conclusion) ≡ b
+  conclusion-shown b q s v = ap (λ (S : FactSet). S (rule P i .conclusion)) (sym (v .d)) ∙ q
 
-  pub unfounded : all (has inD) (ruleAt file at .premises) ≡ false → (s : Stand) → Shows (programOf file) inD inR s → eligible (programOf file) everyRule s i ≡ false
-  unfounded p s v =
-      false-of _ (λ u. never (eligible-parts (programOf file) everyRule s i u .premises-in) (premises-shown false p s v))
+  pub unfounded : all (has inD) (rule P i .premises) ≡ false → (s : Stand) → Shows P inD inR s → eligible P (inForce P) s i ≡ false
+  unfounded p s v = false-of _ (λ u. never (eligible-parts P (inForce P) s i u .premises-in) (premises-shown false p s v))
 
-  module _ (f : FactId) (e : f ≡ factId (ruleAt file at .conclusion)) where
-    conclusion-shown : (b : Bool) → has inD (f .0) ≡ b → (s : Stand) → Shows (programOf file) inD inR s → s .derived (rule (programOf file) i .conclusion) ≡ b
-    conclusion-shown b q s v =
-        ap₂ (λ (S : FactSet) (r : Rule). S (r .conclusion)) (sym (v .d)) (sym here) ∙ ap (λ (g : FactId). has inD (g .0)) (sym e) ∙ q
-
-    pub concluded : has inD (f .0) ≡ true → (s : Stand) → Shows (programOf file) inD inR s → eligible (programOf file) everyRule s i ≡ false
-    concluded q s v =
-        false-of _ (λ u. never (conclusion-shown true q s v) (eligible-parts (programOf file) everyRule s i u .conclusion-out))
+  pub concluded : has inD (rule P i .conclusion) ≡ true → (s : Stand) → Shows P inD inR s → eligible P (inForce P) s i ≡ false
+  concluded q s v = false-of _ (λ u. never (conclusion-shown true q s v) (eligible-parts P (inForce P) s i u .conclusion-out))
 
   -- with its premises in D and its conclusion not, and its trial closure
-  module _ (b : Bytes file) (full : length inD ≡ maxFacts) (p : all (has inD) (ruleAt file at .premises) ≡ true) (T : List ℕ) (t : has T ≡ trial (programOf file) everyRule (has inD) i) where
-    trial-shown : (s : Stand) → Shows (programOf file) inD inR s → has T ≡ trial (programOf file) everyRule (s .derived) i
-    trial-shown s v = t ∙ ap (λ (D : FactSet). trial (programOf file) everyRule D i) (v .d)
+  module _ (bounds : Bounded P) (few : P .facts < maxFacts) (full : length inD ≡ maxFacts) (h : i < count P) (p : all (has inD) (rule P i .premises) ≡ true) (T : List ℕ) (t : has T ≡ trial P (inForce P) (has inD) i) where
+    trial-shown : (s : Stand) → Shows P inD inR s → has T ≡ trial P (inForce P) (s .derived) i
+    trial-shown s v = t ∙ ap (λ (D : FactSet). trial P (inForce P) D i) (v .d)
 
-    rejected-shown : (s : Stand) → Shows (programOf file) inD inR s → apartBelow maxFacts (has T) (has inR) ≡ spares (programOf file) (trial (programOf file) everyRule (s .derived) i) (s .applied)
+    rejected-shown : (s : Stand) → Shows P inD inR s → apartBelow maxFacts (has T) (has inR) ≡ spares P (trial P (inForce P) (s .derived) i) (s .applied)
     rejected-shown s v =
         ap (apartBelow maxFacts (has T)) (v .r)
-        ∙ spares-apart (programOf file) (has T) (s .applied) maxFacts (λ f l. ap (λ (S : FactSet). S f) t ∙ trial-past k b inD full i h f l)
-        ∙ ap (λ (S : FactSet). spares (programOf file) S (s .applied)) (trial-shown s v)
+        ∙ spares-apart P (has T) (s .applied) maxFacts (λ f l. ap (λ (S : FactSet). S f) t ∙ trial-past bounds few inD full i h f l)
+        ∙ ap (λ (S : FactSet). spares P S (s .applied)) (trial-shown s v)
 
-    own-shown : (s : Stand) → Shows (programOf file) inD inR s → clear (has T) (ruleAt file at .constraints) ≡ clear (trial (programOf file) everyRule (s .derived) i) (rule (programOf file) i .constraints)
-    own-shown s v = ap₂ (λ (S : FactSet) (r : Rule). clear S (r .constraints)) (trial-shown s v) here
+    own-shown : (s : Stand) → Shows P inD inR s → clear (has T) (rule P i .constraints) ≡ clear (trial P (inForce P) (s .derived) i) (rule P i .constraints)
+    own-shown s v = ap (λ (S : FactSet). clear S (rule P i .constraints)) (trial-shown s v)
 
-    pub tried : exception (programOf file) i ≡ true → (f : FactId) → f ≡ factId (ruleAt file at .conclusion) → has inD (f .0) ≡ false → Tried (programOf file) inD inR T (ruleAt file at .constraints) i
-    tried x f e q =
+    pub tried : exception P i ≡ true → has inD (rule P i .conclusion) ≡ false → Tried P inD inR T (rule P i .constraints) i
+    tried x q =
         record {
           meets-own = λ m s v. refused s v (λ u. never (u .spares-own) (sym (own-shown s v) ∙ m));
           meets-rejected = λ m s v. refused s v (λ u. never (u .spares-rejected) (sym (rejected-shown s v) ∙ m));
           meets-neither = λ m n s v.
-              eligible-whole (programOf file) everyRule s i
+              eligible-whole P (inForce P) s i
               (record {
                 excepted = x;
                 in-force = refl;
-                conclusion-out = conclusion-shown f e false q s v;
+                conclusion-out = conclusion-shown false q s v;
                 premises-in = premises-shown true p s v;
                 spares-own = sym (own-shown s v) ∙ m;
                 spares-rejected = sym (rejected-shown s v) ∙ n;
               });
         }
       where
-        refused : (s : Stand) → Shows (programOf file) inD inR s → (Eligible (programOf file) everyRule s i → ⊥) → RefusedAt (programOf file) s i
+        refused : (s : Stand) → Shows P inD inR s → (Eligible P (inForce P) s i → ⊥) → RefusedAt P s i
         refused s v out =
             record {
               premises-in = premises-shown true p s v;
-              not-eligible = false-of _ (λ u. out (eligible-parts (programOf file) everyRule s i u));
+              not-eligible = false-of _ (λ u. out (eligible-parts P (inForce P) s i u));
             }

@@ -11,9 +11,9 @@ use lib.Dec.{ltb}
 use Rattle.theory.specs.Rule.{clear, mem, range, upTo, Program, FactSet, rule}
 use Rattle.theory.specs.Run.{rejected, spares}
 use Rattle.theory.proofs.Bools.{either, never, and-both, and-false, both-ways, false-of, false-of-not, not-of-false}
-use Rattle.theory.proofs.Lists.{all-elem, all-of, any-of, any-witness, clear-elem, clear-of, upTo-mem}
-use Rattle.rules.specs.Questions.{has}
-use Rattle.rules.proofs.ItemWalks.{Decides, whole-decides, not-tested, all-pass, one-fails, one-passes, range-all, range-cons, range-end}
+use Rattle.theory.proofs.Lists.{all-elem, all-of, any-of, any-witness, clear-elem, clear-of, upTo-mem, range-all, range-cons, range-end}
+use Rattle.items.specs.Item.{has}
+use Rattle.theory.proofs.ListWalks.{Decides, whole-decides, not-tested, all-pass, one-fails, one-passes}
 use Rattle.stage.specs.Refused.{apartBelow}
 
 -- The places below i have been compared: those from i on decide.

@@ -3,9 +3,9 @@ use Prim.Native.Nat.{ℕ}
 use mathlib.Core.Path.{_≡_}
 use mathlib.Core.Bool.{Bool, true, false, not, _&&_}
 use mathlib.Core.List.{List}
-use Rattle.theory.specs.Rule.{all, mem, upTo, Program, everyRule, rule, exception}
+use Rattle.theory.specs.Rule.{all, mem, upTo, Program, inForce, rule, exception}
 use Rattle.theory.specs.Run.{Stand, rejected, eligible, firstEligible}
-use Rattle.rules.specs.Questions.{has}
+use Rattle.items.specs.Item.{has}
 use Rattle.closure.specs.declared.found.Found.{Found}
 use Rattle.closure.specs.declared.found.Found.the-variants.{At, Nothing}
 use Rattle.closure.specs.Steps.{foundOf}
@@ -18,7 +18,7 @@ pub record Shows (P : Program) (inD inR : List ℕ) (s : Stand) : Type 0 where
 -- Rule i is refused for good: its premises are in D, and it is not eligible.
 pub record RefusedAt (P : Program) (s : Stand) (i : ℕ) : Type 0 where
   pub premises-in : all (s .derived) (rule P i .premises) ≡ true
-  pub not-eligible : eligible P everyRule s i ≡ false
+  pub not-eligible : eligible P (inForce P) s i ≡ false
 
 -- The marked rules are refused for good.
 abbrev pub Refuses : Program → Stand → (ℕ → Bool) → Type 0
@@ -31,7 +31,7 @@ RefusesBut P s (At r) skip = (i : ℕ) → skip i ≡ true → (i ≡ r .0 → �
 
 -- The answer is the first eligible rule of the order, and the marks are those of refused rules.
 pub record Finds (P : Program) (order : List ℕ) (s : Stand) (found : Found) (skip : ℕ → Bool) : Type 0 where
-  pub first : found ≡ foundOf (firstEligible P everyRule order s)
+  pub first : found ≡ foundOf (firstEligible P (inForce P) order s)
   pub refuses : RefusesBut P s found skip
 
 -- no number below n is in both

@@ -1,47 +1,47 @@
 // The first eligible rule of an order. Internal.
 ghost use mathlib.Core.Path.{_≡_};
 ghost use lib.ListN.{length};
-ghost use Rattle.theory.specs.Rule.{everyRule, plainRules};
+ghost use Rattle.theory.specs.Rule.{inForce, plainRules};
 ghost use Rattle.theory.specs.Run.{Stand};
-ghost use Rattle.reader.specs.Item.{maxFacts};
-ghost use Rattle.reader.specs.Questions.{programOf};
-ghost use Rattle.rules.specs.Questions.{has, namedIn};
-ghost use Rattle.closure.specs.Known.{Known};
+ghost use Rattle.items.specs.Item.{maxFacts, has};
+ghost use Rattle.tables.specs.Layout.{programIn, WellFormed};
+ghost use Rattle.questions.specs.Questions.{namedIn};
 ghost use Rattle.stage.specs.Refused.{Shows, Refuses, Finds, NamesOnly};
 use closure::found::Found;
-use closure::place::start_of;
-use reader::cursor::Cursor;
-use reader::cursor::Read;
-use reader::cursor::Row;
-use reader::item::Item;
-use reader::rules::MAX_FACTS;
-use rules::fact_set::in_set;
-use rules::index::MAX_RULES;
+use items::cursor::Cursor;
+use items::cursor::Read;
+use items::cursor::Row;
+use items::item::Item;
+use items::item::MAX_FACTS;
+use items::item::MAX_RULES;
+use tables::layout::TABLE_CELLS;
+use tables::own::constraint_at;
+use tables::own::constraint_span;
+use tables::rule::conclusion_in;
+use tables::rule::premises_in;
 
 // The first rule in the order that is eligible. A rule is tried once: skip marks those tried, since a rule that was refused with its premises
 // in D stays refused, and one that was found is applied.
 pub fn first_eligible(
-    file: &[u8],
+    tables: &[u16; TABLE_CELLS],
     order: &[u8],
-    starts: &[u16; MAX_RULES],
-    rules: usize,
     plain: &[u8; MAX_RULES],
     derived: &[u8; MAX_FACTS],
     rejected: &[u8; MAX_FACTS],
     skip: &mut [u8; MAX_RULES],
 ) -> Found
-    requires { ⌜ Known (now file) (now starts) rules ⌝ }
-    requires { ⌜ has (now plain) ≡ plainRules (programOf (now file)) everyRule ⌝ }
+    requires { ⌜ WellFormed (now tables) ⌝ }
+    requires { ⌜ has (now plain) ≡ plainRules (programIn (now tables)) (inForce (programIn (now tables))) ⌝ }
     requires { ⌜ length (now derived) ≡ maxFacts ⌝ }
-    requires { ⌜ NamesOnly (programOf (now file)) (namedIn (now order)) ⌝ }
-    ensures { λ r. ⌜ ((s : Stand) → Shows (programOf (now (file .entry))) (now (derived .entry)) (now (rejected .entry)) s → Refuses (programOf (now (file .entry))) s (has (now (skip .entry))) → Finds (programOf (now (file .entry))) (namedIn (now (order .entry))) s r (has (now (skip .exit)))) ⌝ }
+    requires { ⌜ NamesOnly (programIn (now tables)) (namedIn (now order)) ⌝ }
+    ensures { λ r. ⌜ ((s : Stand) → Shows (programIn (now (tables .entry))) (now (derived .entry)) (now (rejected .entry)) s → Refuses (programIn (now (tables .entry))) s (has (now (skip .entry))) → Finds (programIn (now (tables .entry))) (namedIn (now (order .entry))) s r (has (now (skip .exit)))) ⌝ }
 {
     let mut cursor = Cursor {
         at: 0,
         row: Row::Order,
     };
     let found = 'rules: loop {
-        let read = cursor.next(order);
+        let read = cursor.next_name(order);
         let Read::Found(item, next) = read else {
             break 'rules Found::Nothing;
         };
@@ -53,35 +53,25 @@ pub fn first_eligible(
         if skip[number] == 1 {
             continue 'rules;
         }
-        let at = start_of(starts, rule);
-        if in_set(derived, rules::rule::conclusion(file, at)) {
+        if conclusion_in(tables, rule, derived) {
             continue 'rules;
         }
-        if !rules::rule::premises_in(file, at, derived) {
+        if !premises_in(tables, rule, derived) {
             continue 'rules;
         }
         skip[number] = 1;
-        let closed = crate::trial::trial(file, starts, rules, plain, derived, rule);
+        let closed = crate::trial::trial(tables, plain, derived, rule);
         let trial = &closed;
         // The rule's own constraints, then R: both against the closure with its conclusion, which may hold more than D.
-        let mut own = rules::rule::own_items(file, at);
-        loop {
-            let read = own.next(file);
-            let Read::Found(item, next) = read else {
-                break;
-            };
-            own = next;
-            match item {
-                Item::Constraint(f) => {
-                    if in_set(trial, f) {
-                        continue 'rules;
-                    }
-                }
-                Item::Premise(_) => {}
-                _ => {
-                    break;
-                }
+        let own = constraint_span(tables, rule);
+        let end = own.end;
+        let mut place = own.from;
+        while place < end {
+            let fact = constraint_at(tables, place);
+            if trial[fact] == 1 {
+                continue 'rules;
             }
+            place += 1;
         }
         if crate::trial::apart(trial, rejected) {
             break 'rules Found::At(rule);

@@ -1,6 +1,7 @@
 pub mod Examples
 pub mod Bools
 pub mod Lists
+pub mod ListWalks
 pub mod Walk
 pub mod Derive
 pub mod Grounds

@@ -1,7 +1,8 @@
 -- Laws of the tests over lists.
 use Prim.Native.Nat.{ℕ, zero, suc, _+_, _-_, _≤_, _<_}
 use native.Mathlib.Omega.{arith}
-use mathlib.Core.Path.{_≡_, refl, sym, _∙_, ap}
+use native.Mathlib.Numerals.{add-one}
+use mathlib.Core.Path.{_≡_, refl, sym, _∙_, ap, ap₂}
 use mathlib.Core.Bool.{Bool, true, false, not, cond, _&&_, _||_}
 use mathlib.Core.List.{List, [], _∷_, _++_}
 use mathlib.Core.Logic.{_⊎_, inl, inr, ⊎-elim, _≢_}
@@ -108,6 +109,12 @@ any-append p (x ∷ xs) ys = go (p x) (any-append p xs ys)
 
 pub mem-append : (x : ℕ) (xs ys : List ℕ) → mem x (xs ++ ys) ≡ mem x xs || mem x ys
 mem-append x xs ys = any-append (eqb x) xs ys
+
+-- The same elements pass where the tests agree on each.
+pub keep-same : (p q : ℕ → Bool) (xs : List ℕ) → ((x : ℕ) → mem x xs ≡ true → p x ≡ q x) → keep p xs ≡ keep q xs
+keep-same p q [] h = refl
+keep-same p q (x ∷ xs) h =
+    ap₂ (λ (b : Bool) (l : List ℕ). cond b (x ∷ l) l) (h x (mem-here x xs)) (keep-same p q xs (λ y m. h y (mem-there y x xs m)))
 
 pub mem-keep : (p : ℕ → Bool) (xs : List ℕ) (x : ℕ) → mem x (keep p xs) ≡ mem x xs && p x
 mem-keep p xs x = both-ways _ _ (into xs) (back xs)
@@ -347,3 +354,17 @@ eqb-sym x y = both-ways _ _ (λ e. eq-eqb y x (sym (eqb-true x y e))) (λ e. eq-
 
 pub less-one : (n : ℕ) → suc n - 1 ≡ n
 less-one n = omega arith
+
+-- What is left of the numbers below n, from i on.
+pub range-all : (n : ℕ) → range 0 n ≡ range 0 (n - 0)
+range-all n = let all-left : n ≡ n - 0 = omega arith in ap (range 0) all-left
+
+pub range-cons : (n i : ℕ) → i < n → range i (n - i) ≡ i ∷ range (i + 1) (n - (i + 1))
+range-cons n i h =
+    let less : n - i ≡ suc (n - (i + 1)) = omega arith in
+    rw (less, add-one i)
+
+pub range-end : (n i : ℕ) → n ≤ i → range i (n - i) ≡ []
+range-end n i h =
+    let none : n - i ≡ 0 = omega arith in
+    rw none

@@ -17,7 +17,7 @@ use Rattle.theory.specs.Chaining.{Names}
 use Rattle.theory.proofs.Bools.{either, never, and-left, and-right, and-both, and-true, and-false, or-left, or-false, or-false-left, or-false-right, false-of, beq-true, beq-refl}
 use Rattle.theory.proofs.Lists.{all-elem, all-of, mem-cases, mem-here, mem-there, mem-keep, mem-downFrom, downFrom-mem, howMany-ext, howMany-split, howMany-keep, howMany-every, howMany-none, howMany-upTo}
 use Rattle.theory.proofs.Derive.{adjoin-has}
-use Rattle.theory.proofs.Stable.{Agree, constraint-from, least-mask, reduct-agrees, leastOf-least, leastOf-same, leastOf-agrees, stable-agree}
+use Rattle.theory.proofs.Stable.{Agree, constraint-below, least-mask, reduct-agrees, leastOf-least, leastOf-same, leastOf-agrees, stable-agree}
 
 -- each number of the list is below those before it
 abbrev pub Descending : List ℕ → Type 0
@@ -188,9 +188,7 @@ module _ (P : Program) (on : Mask) where
   pub constraint-guessed : Bounded P → (k : ℕ) → constraintFact P on k ≡ true → mem k (guessed P on) ≡ true
   unfolding guessed
   constraint-guessed b k h =
-      let (i, l, _, m) = constraint-from P on k h in
-      mem-keep (constraintFact P on) (downFrom (P .facts)) k
-      ∙ and-both (downFrom-mem (P .facts) k (ltb-true k (P .facts) (all-elem (λ f. ltb f (P .facts)) (rule P i .constraints) (b .constraints-below i l) k m))) h
+      mem-keep (constraintFact P on) (downFrom (P .facts)) k ∙ and-both (downFrom-mem (P .facts) k (constraint-below P on b k h)) h
 
   -- what a guess says of the guessed facts, its least set says too
   fits-agree : Bounded P → (G : FactSet) → fits P on G ≡ true → Agree P on (leastOf P on G) G

@@ -5,10 +5,10 @@ use mathlib.Core.Path.{_≡_, refl, sym, _∙_, ap, fun-ext, subst}
 use mathlib.Core.Bool.{Bool, true, false, not, _&&_, _||_, Bool·beq}
 use mathlib.Core.List.{List, [], _∷_}
 use mathlib.Core.Logic.{_⊎_, inl, inr, ⊎-elim, _↔_, by-cases}
-use borrow.Author.Tests.{eqb-true, not-false}
+use borrow.Author.Tests.{eqb-true, ltb-true, not-false}
 use native.Mathlib.Decide.{decLt}
 use lib.ListN.{length, take}
-use lib.Dec.{eqb}
+use lib.Dec.{eqb, ltb}
 use Rattle.theory.specs.Rule.{all, clear, mem, upTo, Program, Mask, FactSet, Sub, Same, nothing, count, rule, constraintFact, Bounded, Step, Closed, Least}
 use Rattle.theory.specs.Derive.{derive}
 use Rattle.theory.specs.Check.{leastOf, isStable}
@@ -54,6 +54,11 @@ unfolding constraintFact
 constraint-from P on k h =
     let t : (i : ℕ) × (mem i (upTo (count P)) ≡ true) × (on i && mem k (rule P i .constraints) ≡ true) = any-witness (λ j. on j && mem k (rule P j .constraints)) (upTo (count P)) h in
     (t .0, mem-upTo (count P) (t .0) (t .1), and-left _ _ (t .2), and-right (on (t .0)) _ (t .2))
+
+pub constraint-below : (P : Program) (on : Mask) → Bounded P → (k : ℕ) → constraintFact P on k ≡ true → k < P .facts
+constraint-below P on b k h =
+    let (i, l, _, m) = constraint-from P on k h in
+    ltb-true k (P .facts) (all-elem (λ f. ltb f (P .facts)) (rule P i .constraints) (b .constraints-below i l) k m)
 
 -- The facts of a row with one step more.
 pub facts-next : (row : List Step) (k g : ℕ) → k < length row → factsOf (take (suc k) row) g ≡ factsOf (take k row) g || eqb g (stepAt row k .fact)
@@ -192,3 +197,11 @@ module _ (P : Program) (on : Mask) where
   -- A fact outside a stable set has no proof that the set admits.
   pub outside-no-proof : (M : FactSet) (f : ℕ) → Stable P on M → M f ≡ false → (row : List Step) → Proof P on row f → Admits P M row → ⊥
   outside-no-proof M f s out row p a = never (proof-inside M row f (s .closed) p a) out
+
+-- The least set of a reduct depends on which of the program's own rules are in force.
+pub leastOf-mask : (P : Program) (on on′ : Mask) → ((i : ℕ) → i < count P → on i ≡ on′ i) → (G : FactSet) → leastOf P on G ≡ leastOf P on′ G
+unfolding reduct
+leastOf-mask P on on′ e G =
+    leastOf-same P on G (leastOf P on′ G)
+    (least-mask P (reduct P on′ G) (reduct P on G) nothing (leastOf P on′ G)
+    (λ i l. ap (λ (b : Bool). b && clear G (rule P i .constraints)) (sym (e i l))) (leastOf-least P on′ G))

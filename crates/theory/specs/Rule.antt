@@ -125,6 +125,10 @@ pub record Bounded (P : Program) : Type 0 where
   pub premises-below : (i : ℕ) → i < count P → all (λ f. ltb f (P .facts)) (rule P i .premises) ≡ true
   pub constraints-below : (i : ℕ) → i < count P → all (λ f. ltb f (P .facts)) (rule P i .constraints) ≡ true
 
+-- The rules of a program that are in force for every operation: all of them.
+abbrev pub inForce : Program → Mask
+inForce P i = true
+
 -- Programs that differ only in repeats, or in the order of the items, within their rules: rule by rule the same conclusion, the same premises
 -- and the same constraints.
 pub record Alike (P Q : Program) : Type 0 where

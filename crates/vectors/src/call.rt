@@ -2,7 +2,7 @@
 use crate::read::PLACES;
 use crate::read::number;
 use crate::read::row;
-use rules::answer::Answer;
+use questions::answer::Answer;
 
 // No buffer that a case lends is longer.
 const ROOM: usize = 16384;
@@ -19,10 +19,10 @@ const REPLY: usize = 18;
 // The number that a question by itself replies. No case expects the last one, of an operation that there is not.
 fn question(operation: u32, file: &[u8], row: &[u8], fact: u32) -> u32 {
     let answer = match operation {
-        7 => rules::order::ask_order(file, row),
-        8 => rules::order::ask_list(file, row),
-        9 => rules::fact_set::ask_set(file, row),
-        10 => rules::row::ask_row(file, fact, row),
+        7 => questions::order::ask_order(file, row),
+        8 => questions::order::ask_list(file, row),
+        9 => questions::fact_set::ask_set(file, row),
+        10 => questions::row::ask_row(file, fact, row),
         _ => return 65536,
     };
     match answer {

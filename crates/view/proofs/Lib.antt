@@ -1,1 +1,2 @@
 pub mod RangeItems
+pub mod RuleRanges

@@ -1,38 +1,33 @@
 -- What the view of a rule gives: the premises and constraints that stand in a range of the file, one after another.
-use Prim.Native.Nat.{ℕ, _+_}
+use Prim.Native.Nat.{ℕ, _+_, _*_}
 use mathlib.Core.Path.{_≡_}
 use mathlib.Core.Bool.{cond}
 use mathlib.Core.List.{List, [], _∷_}
+use lib.ListN.{length}
 use lib.Dec.{ltb}
-use Rattle.reader.specs.declared.item.Item.the-variants.{Facts, Opens, Premise, Constraint, Rules, Names, Step}
-use Rattle.reader.specs.Item.{itemWidth}
-use Rattle.reader.specs.Cursor.{Token, item, bad, itemsAt}
-use Rattle.rules.specs.RuleAt.{bodyAt, OwnItems}
-use Rattle.view.specs.declared.items.Own.{Own}
-use Rattle.view.specs.declared.items.Own.the-variants as own
-use Rattle.view.specs.declared.items.Taken.{Taken}
-use Rattle.view.specs.declared.items.Range.{Range}
+use Rattle.theory.specs.Rule.{rule}
+use Rattle.items.specs.declared.item.Item.the-variants.{Facts, Opens, Premise, Constraint, Rules, Names, Step}
+use Rattle.items.specs.Item.{itemWidth}
+use Rattle.items.specs.Cursor.{Token, item, bad, itemsAt, bodyAt}
+use Rattle.tables.specs.Layout.{placeIn, programIn}
+use Rattle.reader.specs.Questions.{premisesOf, constraintsOf}
+use Rattle.view.specs.declared.range.Own.{Own}
+use Rattle.view.specs.declared.range.Own.the-variants as own
+use Rattle.view.specs.declared.range.Taken.{Taken}
+use Rattle.view.specs.declared.range.Range.{Range}
 
--- The bytes of the premises and constraints that stand before an item of another kind.
-abbrev pub ownBytes : List Token → ℕ
-ownBytes [] = 0
-ownBytes (bad fault ∷ ts) = 0
-ownBytes (item (Premise f) ∷ ts) = itemWidth + ownBytes ts
-ownBytes (item (Constraint f) ∷ ts) = itemWidth + ownBytes ts
-ownBytes (item (Facts n) ∷ ts) = 0
-ownBytes (item (Opens f) ∷ ts) = 0
-ownBytes (item (Rules n) ∷ ts) = 0
-ownBytes (item (Names r) ∷ ts) = 0
-ownBytes (item (Step f r) ∷ ts) = 0
+-- The place where these premises and constraints end that stand one after another from a place on.
+abbrev pub endOf : ℕ → List ℕ → List ℕ → ℕ
+endOf at premises constraints = at + itemWidth * (length premises + length constraints)
 
--- The place where those that stand from a place on end.
+-- Where those end that the file has from a place on, before an item of another kind.
 unfoldable pub endAt : List ℕ → ℕ → ℕ
-endAt s at = at + ownBytes (itemsAt s (bodyAt at))
+endAt s at = endOf at (premisesOf (itemsAt s (bodyAt at))) (constraintsOf (itemsAt s (bodyAt at)))
 
--- The range has the premises and constraints of the rule that starts at p.
-pub record OwnRange (s : List ℕ) (p : ℕ) (r : Range) : Type 0 where
-  pub own : OwnItems s p (bodyAt (r .at))
-  pub ends : r .end ≡ endAt s (r .at)
+-- The range of a rule, by the tables.
+pub record OwnRange (T : List ℕ) (i : ℕ) (r : Range) : Type 0 where
+  pub begins : r .at ≡ placeIn T i
+  pub ends : r .end ≡ endOf (placeIn T i) (rule (programIn T) i .premises) (rule (programIn T) i .constraints)
 
 -- What the first of these items is to a rule.
 abbrev pub ownOf : List Token → Own
@@ -56,10 +51,9 @@ pastOwn (own.Premise f) at end = at + itemWidth
 pastOwn (own.Constraint f) at end = at + itemWidth
 pastOwn own.Ended at end = end
 
--- Where what is left of a range after its first item begins.
-abbrev pub restAt : List ℕ → ℕ → ℕ → ℕ
-restAt s at end = pastOwn (ownAt s at end) at end
+-- The item at the front of a range, and where what is left begins.
+abbrev pub takenOf : Own → ℕ → ℕ → Taken
+takenOf o at end = record { item = o; rest = pastOwn o at end }
 
--- The item, and where what is left begins.
 abbrev pub takenAt : List ℕ → ℕ → ℕ → Taken
-takenAt s at end = record { item = ownAt s at end; rest = restAt s at end }
+takenAt s at end = takenOf (ownAt s at end) at end

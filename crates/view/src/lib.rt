@@ -1,11 +1,10 @@
 // The view of a rule: the file as handed in, and the range of the rule's premises and constraints that are still to come. The borrow checker
-// covers no function over a struct that holds a slice, so each here is thin and proved by hand; the work is done in `items`.
-pub mod items;
+// covers no function over a struct that holds a slice, so each here is thin and proved by hand; the work is done in `range`.
+pub mod range;
 
 ghost use mathlib.Core.Path.{_≡_};
-ghost use Rattle.view.specs.View.{ownAt, restAt, takenAt};
-use items::Own;
-use items::Taken;
+ghost use Rattle.view.specs.View.{takenAt};
+use range::Taken;
 
 pub struct RuleView<'a> {
     pub file: &'a [u8],
@@ -20,34 +19,16 @@ pub fn view_of<'a>(file: &'a [u8], at: usize, end: usize) -> RuleView<'a>
     RuleView { file, at, end }
 }
 
-// Its next item.
-pub fn next_item<'a>(view: RuleView<'a>) -> Own
-    ensures { λ r. ⌜ r ≡ ownAt (now (view .entry .file)) (view .entry .at) (view .entry .end) ⌝ }
+// Its next item, and where what is left of it begins.
+pub fn next_item<'a>(view: RuleView<'a>) -> Taken
+    ensures { λ r. ⌜ r ≡ takenAt (now (view .entry .file)) (view .entry .at) (view .entry .end) ⌝ }
 {
-    items::item_in(view.file, view.at, view.end)
+    range::take_item(view.file, view.at, view.end)
 }
 
-// What is left of it after that item.
-pub fn rest_of<'a>(view: RuleView<'a>) -> RuleView<'a>
-    ensures { λ r. ⌜ (r .file ≡ view .entry .file) × (r .at ≡ restAt (now (view .entry .file)) (view .entry .at) (view .entry .end)) × (r .end ≡ view .entry .end) ⌝ }
-{
-    let at = items::past_item(view.file, view.at, view.end);
-    RuleView {
-        file: view.file,
-        at,
-        end: view.end,
-    }
-}
-
-// The next item of a range, and where what is left begins: for callers without a view. Whoever calls this needs no walk by hand.
+// The same for callers without a view: whoever calls this needs no walk by hand.
 pub fn own_item(file: &[u8], at: usize, end: usize) -> Taken
     ensures { λ r. ⌜ r ≡ takenAt (now (file .entry)) at end ⌝ }
 {
-    let view = view_of(file, at, end);
-    let item = next_item(view);
-    let rest = rest_of(view);
-    Taken {
-        item,
-        rest: rest.at,
-    }
+    next_item(view_of(file, at, end))
 }

@@ -111,6 +111,82 @@ fn all_above_lowest() -> Draft {
     draft
 }
 
+/// 512 rules of 29 premises and a constraint each, 32 KB. Every premise is a fact
+/// of a chain that is derived, so each rule is looked through to its end.
+fn dense() -> Draft {
+    let random = &mut Random::new(3, 512);
+    let mut draft = Draft::new(255);
+    let (constraint_facts, derived) = (16, 120);
+    draft.rule(constraint_facts, &[], &[]);
+    chain(&mut draft, &(constraint_facts..derived).collect::<Vec<_>>());
+    for fact in 0..constraint_facts {
+        draft.rule(fact, &[], &[fact ^ 1]);
+    }
+    while draft.rules.len() < 512 {
+        let premises: Vec<usize> =
+            (0..36).map(|_| random.within(constraint_facts, derived - 1)).collect();
+        let conclusion = random.within(derived, 254);
+        draft.rule(conclusion, &premises, &[random.below(constraint_facts)]);
+    }
+    draft
+}
+
+/// The test load of document 02, wish 5, from state 0.
+fn test_load(facts: usize, rules: usize) -> Draft {
+    let mut draft = Draft::new(facts);
+    let mut state: u32 = 0;
+    let mut drawn = || {
+        state = state.wrapping_add(2_654_435_769);
+        (state >> 16) as usize % facts
+    };
+    for rule in 0..rules {
+        let [conclusion, second, third] = [drawn(), drawn(), drawn()];
+        match rule % 3 {
+            0 => draft.rule(conclusion, &[], &[second, third]),
+            1 => draft.rule(conclusion, &[second, third], &[]),
+            _ => draft.rule(conclusion, &[second], &[third]),
+        }
+    }
+    draft
+}
+
+/// Plain rules of 240 premises that repeat one fact and want another that never
+/// comes, before a chain of 200 facts; exception rules that start the chain and
+/// are refused at its end.
+fn decoys() -> Draft {
+    let mut draft = Draft::new(255);
+    let (last, missing) = (200, 254);
+    for rule in 0..60 {
+        let mut premises = vec![0; 240];
+        premises[239] = missing;
+        draft.rule(last + 1 + rule % 50, &premises, &[]);
+    }
+    chain(&mut draft, &(0..=last).collect::<Vec<_>>());
+    draft.rules[60..].reverse();
+    while draft.rules.len() < 512 {
+        draft.rule(0, &[], &[last]);
+    }
+    draft
+}
+
+/// No stable set, 32 KB: the file above with all facts above the lowest, and rules
+/// of many premises in the place of most of its chains.
+fn wide_above_lowest() -> Draft {
+    let random = &mut Random::new(4, 512);
+    let mut draft = Draft::new(255);
+    draft.rule(0, &[], &[0]);
+    for fact in 1..16 {
+        draft.rule(fact, &[], &[0]);
+        draft.rule(16, &[], &[fact]);
+    }
+    while draft.rules.len() < 512 {
+        let conclusion = random.within(17, 254);
+        let premises: Vec<usize> = (0..30).map(|_| random.within(16, conclusion - 1)).collect();
+        draft.rule(conclusion, &premises, &[]);
+    }
+    draft
+}
+
 /// A file with the inputs and the buffers of all operations.
 struct Subject {
     file: Vec<u8>,
@@ -353,8 +429,11 @@ impl Table {
         for operation in OPERATIONS {
             let logs = &self.ratios[operation as usize];
             let mean = (logs.iter().sum::<f64>() / logs.len() as f64).exp();
+            let worst = logs.iter().copied().fold(f64::MIN, f64::max).exp();
             let name = format!("{operation:?}").to_lowercase();
-            self.line(&format!("{name:<8} geometric mean of archive/reference {mean:>8.2}"));
+            self.line(&format!(
+                "{name:<8} archive/reference: geometric mean {mean:>8.2}, worst {worst:>8.2}"
+            ));
         }
     }
 }
@@ -379,10 +458,20 @@ const FAMILIES: [Family; 8] = [
     ("exceptions", |size| exceptions(size, 16)),
 ];
 
-type WorstSearch = (&'static str, fn() -> Draft);
+type Single = (&'static str, fn() -> Draft);
 
-const WORST_SEARCHES: [WorstSearch; 2] =
-    [("pairs above odd loop", pairs_above_odd_loop), ("all above lowest", all_above_lowest)];
+/// Files of one size. On those with too many constraint facts the search is not timed.
+const SINGLES: [Single; 3] =
+    [("dense", dense), ("load, 64 facts", || test_load(64, 512)), ("decoys", decoys)];
+
+const WORST_SEARCHES: [Single; 3] = [
+    ("pairs above odd loop", pairs_above_odd_loop),
+    ("all above lowest", all_above_lowest),
+    ("wide above lowest", wide_above_lowest),
+];
+
+/// The most constraint facts that the search takes.
+const MOST_GUESSED: usize = 16;
 
 fn agreeing(name: &str, draft: &Draft) -> Result<Subject, String> {
     let subject = Subject::new(draft);
@@ -401,6 +490,17 @@ fn measure() -> Result<Table, String> {
                 let before = before[operation as usize].replace(now);
                 table.row(name, &subject, operation, TimesRow { now, before });
             }
+        }
+    }
+    for (name, file) in SINGLES {
+        let subject = agreeing(name, &file())?;
+        for operation in OPERATIONS {
+            let searches = matches!(operation, Operation::Search);
+            if searches && subject.constraint_facts > MOST_GUESSED {
+                continue;
+            }
+            let now = subject.times(operation);
+            table.row(name, &subject, operation, TimesRow { now, before: None });
         }
     }
     for (name, file) in WORST_SEARCHES {

@@ -4,7 +4,7 @@ use mathlib.Core.Path.{sym}
 use native.Mathlib.Omega.{arith}
 use lib.ListN.{length, length-replicate}
 use lib.Seq.{length-take-le}
-use Rattle.reader.specs.Questions.{maxBytes}
+use Rattle.items.specs.Item.{maxBytes}
 use borrow.Author.Needs.{needs}
 use Rattle.panel.proofs.main.Statement.{statement}
 use Rattle.panel.proofs.main.Tie as tie

@@ -1,26 +1,47 @@
--- `run`: a no changes no byte; where all questions got yes, the run on the accepted file.
+-- `run`: a no changes no byte; where all questions got yes, the run on the tables.
 use mathlib.Core.Path.{sym, _∙_}
 use borrow.Author.Needs.{needs}
+use denote.Ref.{now}
+use Rattle.tables.specs.Layout.{programIn}
+use Rattle.questions.proofs.OperationAsked.{Passed, scan-passed}
 use Rattle.run.proofs.Outcomes.{outcome-refused, outcome-written, run-answered}
-use Rattle.run.proofs.RunAsked.{run-yes}
-use Rattle.reader.proofs.FileAsked.{asked-no, asked-yes}
+use Rattle.run.proofs.RunAsked.{may-run, run-file-no, run-no, run-yes, run-there}
 use Rattle.run.proofs.run.Statement.{statement}
 use Rattle.run.proofs.run.Tie as tie
 
-ask-run-requires : tie.Need-ask-run-requires
-ask-run-requires c κs = search needs
+-- past the questions on the file
+passed : (c : tie.After-enum-told) → Passed (now (c .before .before .before .before .before .before .before .before .before .args .file)) (c .before .before .scan .last .1 .0)
+passed c = scan-passed _ _ _ (sym (c .before .before .scan .ensures .0) ∙ c .enum-told .given .1) (c .before .before .scan .ensures .1)
+
+scan-requires : tie.Need-scan-requires
+scan-requires c κs = search needs
 
 enum-known-r : tie.Need-enum-known-r
 enum-known-r c = search needs
 
-enum-known-counts : tie.Need-enum-known-counts
-enum-known-counts c = search needs
+enum-told : tie.Need-enum-told
+enum-told c = search needs
 
-run-accepted-requires : tie.Need-run-accepted-requires
-run-accepted-requires c κs = run-yes _ _ _ _ _ _ (sym (c .before .before .before .before .before .before .ask-run .ensures) ∙ c .before .before .before .before .counts .given .1)
+ask-tabled-requires : tie.Need-ask-tabled-requires
+ask-tabled-requires c κs = passed (c .before) .tabled .well-formed
+
+enum-known-r-2 : tie.Need-enum-known-r-2
+enum-known-r-2 c = search needs
+
+enum-told-2 : tie.Need-enum-told-2
+enum-told-2 c = search needs
+
+run-tabled-requires : tie.Need-run-tabled-requires
+run-tabled-requires c κs =
+    (passed (c .before .before .before .before .before .before .before .before) .tabled .well-formed, may-run (programIn (c .before .before .before .before .before .before .before .before .before .before .scan .last .1 .0)) _ _ _ _ (sym (c .before .before .before .before .enum-told2 .given .1) ∙ c .before .before .before .before .before .before .ask-tabled .ensures))
 
 returns : tie.Need-returns
-returns c = run-answered _ _ _ _ _ _ (outcome-refused _ _ _ _ _ _ (asked-no _ _ _ (sym (c .before .before .before .ask-run .ensures) ∙ c .before .r .given .1)))
+returns c =
+    run-answered _ _ _ _ _ _ (outcome-refused _ _ _ _ _ _ (run-file-no _ _ _ _ _ _ (sym (c .before .before .before .scan .ensures .0) ∙ c .before .r .given .1)))
+
+returns-2 : tie.Need-returns-2
+returns-2 c =
+    run-answered _ _ _ _ _ _ (outcome-refused _ _ _ _ _ _ (run-no _ _ _ _ _ (passed (c .before .before .before .before .before)) _ (sym (c .before .r2 .given .1) ∙ c .before .before .before .ask-tabled .ensures)))
 
 same-length : tie.Need-same-length
 same-length c = search needs
@@ -31,19 +52,26 @@ same-length-2 c = search needs
 same-length-3 : tie.Need-same-length-3
 same-length-3 c = search needs
 
-returns-2 : tie.Need-returns-2
-returns-2 c = run-answered _ _ _ _ _ _ (c .before .before .before .before .before .before .run-accepted .ensures ∙ outcome-written _ _ _ _ _ (asked-yes _ _ _ (sym (c .before .before .before .before .before .before .before .before .before .before .before .before .before .ask-run .ensures) ∙ c .before .before .before .before .before .before .before .before .before .before .before .counts .given .1) .0))
+returns-3 : tie.Need-returns-3
+returns-3 c =
+    run-answered _ _ _ _ _ _
+    (c .before .before .before .before .before .before .run-tabled .ensures ∙ run-there (passed (c .before .before .before .before .before .before .before .before .before .before .before .before .before .before .before) .tabled) _ _ _ _
+    ∙ outcome-written _ _ _ _ _ (run-yes _ _ _ _ _ (passed (c .before .before .before .before .before .before .before .before .before .before .before .before .before .before .before)) (sym (c .before .before .before .before .before .before .before .before .before .before .before .enum-told2 .given .1) ∙ c .before .before .before .before .before .before .before .before .before .before .before .before .before .ask-tabled .ensures)))
 
 pub run-spec : {M : Type 1} → statement M
 run-spec =
     tie.close
     (tie.spec
-    ask-run-requires
+    scan-requires
     enum-known-r
-    enum-known-counts
-    run-accepted-requires
+    enum-told
+    ask-tabled-requires
+    enum-known-r-2
+    enum-told-2
+    run-tabled-requires
     returns
+    returns-2
     same-length
     same-length-2
     same-length-3
-    returns-2)
+    returns-3)

@@ -1,49 +1,56 @@
 -- What is to come finds what the whole finds.
-use Prim.Native.Nat.{_-_}
+use Prim.Native.Nat.{_-_, _<_}
 use mathlib.Core.Path.{sym, _∙_}
 use mathlib.Core.Logic.{⊎-elim}
 use denote.Ref.{now}
 use borrow.Author.Needs.{needs}
 use borrow.Author.Tests.{not-true, not-false}
 use native.Mathlib.Omega.{arith}
-use Rattle.reader.specs.Questions.{programOf}
-use Rattle.closure.proofs.Ready.{Searching, none-searched, all-searched, one-found, one-passed, masked-out, unfounded, concluded, is-ready}
+use Rattle.theory.specs.Rule.{count}
+use Rattle.tables.specs.Layout.{programIn}
+use Rattle.tables.proofs.ProgramHeld.{in-table}
+use Rattle.closure.proofs.LowestReady.{Searching, none-searched, all-searched, one-found, masked-out, concluded, unfounded}
 use Rattle.closure.proofs.least.lowest_ready.Statement.{statement}
 use Rattle.closure.proofs.least.lowest_ready.Tie as tie
 
 abbrev Inv-loop : tie.InvT-loop
-Inv-loop file starts rules mask set i₀ i = Searching file mask set rules i
+Inv-loop tables mask set rules i₀ i = Searching (programIn tables) mask set i
 
 abbrev μ-loop : tie.MeasureT-loop
-μ-loop file starts rules mask set i₀ i = rules - i
+μ-loop tables mask set rules i₀ i = rules - i
+
+-- the rule looked at is one of the program
+inside : (c : tie.In-loop Inv-loop μ-loop) → c .before .loop .i < count (programIn (now (c .before .before .before .before .args .tables)))
+inside c = omega (arith, c .loop-test .taken, c .before .before .rules-of .ensures)
+
+rules-of-requires : tie.Need-rules-of-requires Inv-loop μ-loop
+rules-of-requires c κs = search needs
 
 loop-holds : tie.Need-loop-holds Inv-loop μ-loop
-loop-holds c = none-searched (c .before .before .pre) _ _
+loop-holds c = none-searched _ _ _
 
 element-copy-out-if1 : tie.Need-element-copy-out-if1 Inv-loop μ-loop
-element-copy-out-if1 c = omega arith
+element-copy-out-if1 c = in-table (c .before .before .before .before .pre .0) (inside c)
 
-cast-t13 : tie.Need-cast-t13 Inv-loop μ-loop
-cast-t13 c = omega arith
+cast-t11 : tie.Need-cast-t11 Inv-loop μ-loop
+cast-t11 c = omega (arith, in-table (c .before .before .before .before .before .before .pre .0) (inside (c .before .before)))
 
-start-of-requires : tie.Need-start-of-requires Inv-loop μ-loop
-start-of-requires c κs = omega arith
+conclusion-in-requires : tie.Need-conclusion-in-requires Inv-loop μ-loop
+conclusion-in-requires c κs =
+    let p = c .before .before .before .before .before .before .pre in
+    ((p .0, inside (c .before .before)), p .1)
 
 premises-in-requires : tie.Need-premises-in-requires Inv-loop μ-loop
-premises-in-requires c κs = search needs
-
-conclusion-requires : tie.Need-conclusion-requires Inv-loop μ-loop
-conclusion-requires c κs = search needs
-
-in-set-requires : tie.Need-in-set-requires Inv-loop μ-loop
-in-set-requires c κs = search needs
+premises-in-requires c κs =
+    let p = c .before .before .before .before .before .before .before .before .pre in
+    ((p .0, inside (c .before .before .before .before)), p .1)
 
 returns : tie.Need-returns Inv-loop μ-loop
 returns c =
-    let w = c .before .before .before .before .before .before .before .before .before .loop .inv in
-    let h = c .before .before .before .before .before .before .before .before .loop-test .taken in
-    one-found w h
-    (is-ready (c .before .before .before .before .before .before .before .before .before .before .before .before .pre) _ _ _ _ h (c .before .before .before .before .before .start-of .ensures) _ (c .before .before .conclusion .ensures) (c .before .before .before .before .before .before .if1 .taken) (sym (c .before .before .before .before .premises-in .ensures) ∙ c .before .before .before .if2 .taken) (sym (c .before .in-set .ensures) ∙ not-true _ (c .if3 .taken)))
+    one-found (c .before .before .before .before .before .before .before .loop .inv) (inside (c .before .before .before .before .before .before))
+    (c .before .before .before .before .if1 .taken)
+    (sym (c .before .before .before .conclusion-in .ensures) ∙ not-true _ (c .before .before .if2 .taken))
+    (sym (c .before .premises-in .ensures) ∙ c .if3 .taken)
 
 add-i : tie.Need-add-i Inv-loop μ-loop
 add-i c = omega arith
@@ -53,17 +60,15 @@ loop-less c = omega arith
 
 loop-again : tie.Need-loop-again Inv-loop μ-loop
 loop-again c =
-    let a = c .before .before .before .before .before .before .args in
-    let h = c .before .before .loop-test .taken in
-    let k = c .before .before .before .before .before .before .pre in
-    one-passed (c .before .before .before .loop .inv) h
-    (⊎-elim
-    (λ v. concluded k _ _ _ _ h (v .1 .ensures) _ (v .4 .ensures) (sym (v .5 .ensures) ∙ not-false _ (v .6 .left)))
-    (⊎-elim (λ v. unfounded k _ _ _ _ h (v .1 .ensures) (sym (v .2 .ensures) ∙ v .3 .left)) (λ v. masked-out (programOf (now (a .file))) _ (now (a .set)) _ (v .left)))
-    (c .if1 .came))
+    let w = c .before .before .before .loop .inv in
+    let h = inside (c .before .before) in
+    ⊎-elim
+    (λ v. unfounded w h (sym (v .3 .ensures) ∙ v .4 .left))
+    (⊎-elim (λ v. concluded w h (sym (v .1 .ensures) ∙ not-false _ (v .2 .left))) (λ v. masked-out w h (v .left)))
+    (c .if1 .came)
 
 returns-2 : tie.Need-returns-2 Inv-loop μ-loop
-returns-2 c = all-searched (c .before .loop .inv) (c .loop-test .left)
+returns-2 c = all-searched (c .before .loop .inv) (omega (arith, c .loop-test .left, c .before .before .rules-of .ensures))
 
 pub lowest-ready-spec : {M : Type 1} → statement M
 lowest-ready-spec =
@@ -71,13 +76,12 @@ lowest-ready-spec =
     (tie.spec
     Inv-loop
     μ-loop
+    rules-of-requires
     loop-holds
     element-copy-out-if1
-    cast-t13
-    start-of-requires
+    cast-t11
+    conclusion-in-requires
     premises-in-requires
-    conclusion-requires
-    in-set-requires
     returns
     add-i
     loop-less

@@ -6,7 +6,7 @@ use borrow.Author.Tests.{not-true, not-false}
 use lib.ListN.{getD, take, drop}
 use denote.Ref.{now}
 use Rattle.theory.specs.Rule.{all}
-use Rattle.reader.specs.Item.{maxFacts}
+use Rattle.items.specs.Item.{maxFacts}
 use Rattle.earliest.proofs.FactsListed.{Alive, one-passes, one-fails, all-pass, row-below}
 use Rattle.earliest.proofs.hunt.is_alive.Statement.{statement}
 use Rattle.earliest.proofs.hunt.is_alive.Tie as tie

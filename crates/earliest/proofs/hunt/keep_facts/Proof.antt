@@ -1,7 +1,7 @@
 -- `keep_facts`: the facts below f are kept.
 use Prim.Native.Nat.{_-_}
 use native.Mathlib.Omega.{arith}
-use Rattle.reader.specs.Item.{maxFacts}
+use Rattle.items.specs.Item.{maxFacts}
 use Rattle.earliest.proofs.FactsListed.{Keeping, none-kept, one-kept, all-kept}
 use Rattle.earliest.proofs.hunt.keep_facts.Statement.{statement}
 use Rattle.earliest.proofs.hunt.keep_facts.Tie as tie

@@ -7,8 +7,9 @@ use native.Mathlib.Omega.{arith}
 use borrow.Author.Tests.{not-true, not-false}
 use denote.Ref.{now}
 use Rattle.theory.specs.Rule.{range}
-use Rattle.rules.specs.Questions.{has}
-use Rattle.rules.proofs.ItemWalks.{Decides, whole-decides, not-tested, all-pass, one-fails, one-passes, range-all, range-cons, range-end}
+use Rattle.items.specs.Item.{has}
+use Rattle.theory.proofs.ListWalks.{Decides, whole-decides, not-tested, all-pass, one-fails, one-passes}
+use Rattle.theory.proofs.Lists.{range-all, range-cons, range-end}
 use Rattle.judge.proofs.stable.same_facts.Statement.{statement}
 use Rattle.judge.proofs.stable.same_facts.Tie as tie
 

@@ -5,11 +5,11 @@ use lib.Dec.{eqb}
 use denote.Ref.{now}
 use borrow.Author.Needs.{needs}
 use Rattle.theory.specs.Rule.{null}
-use Rattle.rules.specs.Questions.{each, rowOf}
-use Rattle.rules.specs.Orders.{placesMarked}
+use Rattle.questions.specs.Questions.{each, rowOf}
+use Rattle.questions.specs.Orders.{placesMarked}
 use Rattle.panel_text.specs.Text.{line, stepLine, lastLine}
 use Rattle.panel_text.specs.Left.{leftText}
-use Rattle.rules.proofs.BytesPut.{Putting, begun, nothing-put, next-fits, one-put}
+use Rattle.questions.proofs.BytesPut.{Putting, begun, nothing-put, next-fits, one-put}
 use Rattle.panel_text.proofs.Lengths.{none-written}
 use Rattle.panel_text.proofs.lines.put_left.Statement.{statement}
 use Rattle.panel_text.proofs.lines.put_left.Tie as tie

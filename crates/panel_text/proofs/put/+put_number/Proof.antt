@@ -1,6 +1,6 @@
 -- `put_number`: one digit, or the digits of the tenth and then the last.
 use Rattle.panel_text.proofs.Decimal.{one-digit, more-digits}
-use Rattle.rules.proofs.BytesPut.{begun, next-fits, one-put}
+use Rattle.questions.proofs.BytesPut.{begun, next-fits, one-put}
 use borrow.Author.Needs.{needs}
 use native.Mathlib.Omega.{arith}
 use Prim.Native.Nat.{ℕ, _<_}

@@ -1,6 +1,6 @@
 -- `put`: one store.
 use borrow.Author.Needs.{needs}
-use Rattle.rules.proofs.BytesPut.{one-stored}
+use Rattle.questions.proofs.BytesPut.{one-stored}
 use Rattle.panel_text.proofs.put.put.Statement.{statement}
 use Rattle.panel_text.proofs.put.put.Tie as tie
 

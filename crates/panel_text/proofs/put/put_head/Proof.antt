@@ -4,7 +4,7 @@ use mathlib.Core.List.{_∷_, _++_}
 use denote.Ref.{now}
 use borrow.Author.Needs.{needs}
 use Rattle.panel_text.specs.Text.{space, newline, field, line, headLine}
-use Rattle.rules.proofs.BytesPut.{Putting, begun, next-fits, one-put}
+use Rattle.questions.proofs.BytesPut.{Putting, begun, next-fits, one-put}
 use Rattle.panel_text.proofs.put.put_head.Statement.{statement}
 use Rattle.panel_text.proofs.put.put_head.Tie as tie
 

@@ -5,7 +5,7 @@ use mathlib.Core.Logic.{⊎-elim}
 use Prim.Native.Nat.{ℕ}
 use borrow.Author.Needs.{needs}
 use Rattle.panel_text.specs.Text.{newline, lastLine}
-use Rattle.rules.proofs.BytesPut.{begun, next-fits, one-put}
+use Rattle.questions.proofs.BytesPut.{begun, next-fits, one-put}
 use Rattle.panel_text.proofs.put.put_last.Statement.{statement}
 use Rattle.panel_text.proofs.put.put_last.Tie as tie
 

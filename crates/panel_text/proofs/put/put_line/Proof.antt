@@ -2,7 +2,7 @@
 use mathlib.Core.Path.{refl}
 use borrow.Author.Needs.{needs}
 use Rattle.panel_text.specs.Text.{newline, line}
-use Rattle.rules.proofs.BytesPut.{begun, next-fits, one-put}
+use Rattle.questions.proofs.BytesPut.{begun, next-fits, one-put}
 use Rattle.panel_text.proofs.put.put_line.Statement.{statement}
 use Rattle.panel_text.proofs.put.put_line.Tie as tie
 

@@ -2,7 +2,7 @@
 use mathlib.Core.Path.{refl}
 use borrow.Author.Needs.{needs}
 use Rattle.panel_text.specs.Text.{decimal, spaced}
-use Rattle.rules.proofs.BytesPut.{begun, next-fits, one-put}
+use Rattle.questions.proofs.BytesPut.{begun, next-fits, one-put}
 use Rattle.panel_text.proofs.put.put_spaced.Statement.{statement}
 use Rattle.panel_text.proofs.put.put_spaced.Tie as tie
 

@@ -4,8 +4,8 @@ use mathlib.Core.List.{_++_}
 use denote.Ref.{now}
 use borrow.Author.Needs.{needs}
 use Rattle.panel_text.specs.Text.{newline, spaced, stepLine}
-use Rattle.rules.specs.Questions.{stepOf}
-use Rattle.rules.proofs.BytesPut.{Putting, begun, next-fits, one-put}
+use Rattle.questions.specs.Questions.{stepOf}
+use Rattle.questions.proofs.BytesPut.{Putting, begun, next-fits, one-put}
 use Rattle.panel_text.proofs.put.put_step.Statement.{statement}
 use Rattle.panel_text.proofs.put.put_step.Tie as tie
 

@@ -13,15 +13,15 @@ use Rattle.panel_text.proofs.text.put_text.Statement.{statement}
 use Rattle.panel_text.proofs.text.put_text.Tie as tie
 
 -- past the questions on the file
-accepted-there : (c : tie.After-known-told2) → Accepted (now (c .before .before .before .before .before .before .args .file)) (c .before .counts .given .0 .0)
-accepted-there c = file-yes _ _ (sym (c .before .before .before .ask-file .ensures) ∙ c .before .counts .given .1)
+accepted-there : (c : tie.After-counts) → Accepted (now (c .before .before .before .before .before .before .args .file)) (c .counts .given .0 .0)
+accepted-there c = file-yes _ _ (sym (c .before .before .scan .ensures .0) ∙ c .counts .given .1)
 
 -- a refusal, with its number
-stopped : (c : tie.After-number) → panelText (now (c .before .before .before .before .before .before .before .before .args .file)) ≡ line 0x45 (c .number .result)
-stopped c = refused-text _ _ (file-no _ _ (sym (c .before .before .before .before .before .ask-file .ensures) ∙ c .before .before .before .r .given .1)) ∙ ap (line 0x45) (sym (c .number .ensures))
+stopped : (c : tie.After-number) → panelText (now (c .before .before .before .before .before .before .before .before .before .args .file)) ≡ line 0x45 (c .number .result)
+stopped c = refused-text _ _ (file-no _ _ (sym (c .before .before .before .before .before .scan .ensures .0) ∙ c .before .before .before .r .given .1)) ∙ ap (line 0x45) (sym (c .number .ensures))
 
-ask-file-requires : tie.Need-ask-file-requires
-ask-file-requires c κs = search needs
+scan-requires : tie.Need-scan-requires
+scan-requires c κs = search needs
 
 enum-known-r : tie.Need-enum-known-r
 enum-known-r c = search needs
@@ -33,13 +33,14 @@ cast-put-line : tie.Need-cast-put-line
 cast-put-line c = search needs
 
 put-line-requires : tie.Need-put-line-requires
-put-line-requires c κs = record { inside = omega (arith, c .before .before .before .before .before .before .before .before .pre, line-length 0x45 (c .number .result) (omega (arith, c .number .ok))) }
+put-line-requires c κs = record { inside = omega (arith, c .before .before .before .before .before .before .before .before .before .pre, line-length 0x45 (c .number .result) (omega (arith, c .number .ok))) }
 
 enum-known-counts : tie.Need-enum-known-counts
 enum-known-counts c = search needs
 
 put-run-requires : tie.Need-put-run-requires
-put-run-requires c κs = (accepted-there (c .before), c .before .before .before .before .before .before .before .pre)
+put-run-requires c κs =
+    let p = accepted-there (c .before .before .before) in ((p, c .before .before .before .before .before .scan .ensures .1 (p .accepted)), c .before .before .before .before .before .before .before .before .before .pre)
 
 same-length : tie.Need-same-length
 same-length c = search needs
@@ -52,14 +53,14 @@ same-length-2 c = search needs
 
 returns-2 : tie.Need-returns-2
 returns-2 c =
-    let p = accepted-there (c .before .before .before .before) in
-    (rw (accepted-text _ (p .accepted)) (c .before .before .put-run .ensures), omega (arith, c .before .before .put-run .ensures .behind, text-fits _ (λ j. c .before .before .before .before .before .before .before .before .before .shared-slice-known .given j .fits) (p .accepted) (ascending (programOf (now (c .before .before .before .before .before .before .before .before .before .before .args .file))))))
+    let p = accepted-there (c .before .before .before .before .before .before) in
+    (rw (accepted-text _ (p .accepted)) (c .before .before .put-run .ensures), omega (arith, c .before .before .put-run .ensures .behind, text-fits _ (λ j. c .before .before .before .before .before .before .before .before .before .before .before .shared-slice-known .given j .fits) (p .accepted) (ascending (programOf (now (c .before .before .before .before .before .before .before .before .before .before .before .before .args .file))))))
 
 pub put-text-spec : {M : Type 1} → statement M
 put-text-spec =
     tie.close
     (tie.spec
-    ask-file-requires
+    scan-requires
     enum-known-r
     number-requires
     cast-put-line

@@ -1,28 +1,31 @@
 -- `check_accepted`: the set, then the asked fact and the row, then the test.
 use borrow.Author.Needs.{needs}
-use mathlib.Core.Path.{_≡_, sym, _∙_}
+use mathlib.Core.Path.{_≡_, sym, ap, _∙_}
 use mathlib.Core.Bool.{true, false}
 use mathlib.Core.Option.{Option, none}
 use native.Mathlib.Omega.{arith}
 use denote.Ref.{now}
-use Rattle.reader.specs.declared.refusal.Refusal.{Refusal}
-use Rattle.rules.specs.Questions.{setNo, rowNo}
-use Rattle.reader.proofs.FileAsked.{few-facts}
-use Rattle.rules.proofs.NamesAsked.{said-yes, said-no}
+use Rattle.theory.specs.Rule.{Program}
+use Rattle.items.specs.declared.refusal.Refusal.{Refusal}
+use Rattle.tables.proofs.ProgramHeld.{facts-below}
+use Rattle.reader.specs.Questions.{programOf}
+use Rattle.questions.specs.Questions.{setNo, rowNo}
+use Rattle.questions.proofs.NamesAsked.{said-yes, said-no}
 use Rattle.proofcheck.proofs.CheckAsked.{asked-below, check-set-no, check-row-no, all-asked-yes}
 use Rattle.proofcheck.proofs.accepted.check_accepted.Statement.{statement}
 use Rattle.proofcheck.proofs.accepted.check_accepted.Tie as tie
-use Rattle.proofcheck.proofs.accepted.check_accepted.Reads as reads
-use Rattle.proofcheck.proofs.accepted.check_accepted.Lts as lts
-use Rattle.proofcheck.proofs.accepted.is_proof.Reads as is-proof-reads
-use Rattle.rules.proofs.fact_set.ask_set_of.Reads as ask-set-of-reads
-use Rattle.rules.proofs.row.ask_row_of.Reads as ask-row-of-reads
 
-set-yes : (c : tie.After-enum-told) → _≡_ {A = Option Refusal} (setNo (c .before .before .before .before .before .before .args .counts .facts) (now (c .before .before .before .before .before .before .args .set))) none
+counted : (c : tie.After-facts-of) → c .facts-of .result ≡ programOf (now (c .before .before .before .before .args .file)) .facts
+counted c = c .facts-of .ensures ∙ ap (λ (P : Program). P .facts) (c .before .before .before .before .pre .1 .program)
+
+set-yes : (c : tie.After-enum-told) → _≡_ {A = Option Refusal} (setNo (c .before .before .before .facts-of .result) (now (c .before .before .before .before .before .before .before .args .set))) none
 set-yes c = said-yes _ (sym (c .enum-told .given .1) ∙ c .before .before .ask-set-of .ensures)
 
-row-yes : (c : tie.After-enum-told2) → _≡_ {A = Option Refusal} (rowNo (c .before .before .before .before .before .before .before .before .before .args .counts .facts) (c .before .before .before .before .before .before .before .before .before .args .fact) (now (c .before .before .before .before .before .before .before .before .before .args .proof))) none
+row-yes : (c : tie.After-enum-told2) → _≡_ {A = Option Refusal} (rowNo (c .before .before .before .before .before .before .facts-of .result) (c .before .before .before .before .before .before .before .before .before .before .args .fact) (now (c .before .before .before .before .before .before .before .before .before .before .args .proof))) none
 row-yes c = said-yes _ (sym (c .enum-told2 .given .1) ∙ c .before .before .ask-row-of .ensures)
+
+facts-of-requires : tie.Need-facts-of-requires
+facts-of-requires c κs = search needs
 
 ask-set-of-requires : tie.Need-ask-set-of-requires
 ask-set-of-requires c κs = search needs
@@ -31,7 +34,7 @@ enum-known-of-set : tie.Need-enum-known-of-set
 enum-known-of-set c = search needs
 
 returns : tie.Need-returns
-returns c = check-set-no _ _ _ _ (c .before .before .before .before .before .before .before .pre .accepted) _ (c .before .before .before .before .before .before .before .pre .facts) _ (said-no _ _ (sym (c .before .of-set .given .1) ∙ c .before .before .before .ask-set-of .ensures))
+returns c = check-set-no _ _ _ _ (c .before .before .before .before .before .before .before .before .pre .0) _ (counted (c .before .before .before .before)) _ (said-no _ _ (sym (c .before .of-set .given .1) ∙ c .before .before .before .ask-set-of .ensures))
 
 enum-told : tie.Need-enum-told
 enum-told c = search needs
@@ -43,27 +46,28 @@ enum-known-of-row : tie.Need-enum-known-of-row
 enum-known-of-row c = search needs
 
 returns-2 : tie.Need-returns-2
-returns-2 c = check-row-no _ _ _ _ (c .before .before .before .before .before .before .before .before .before .before .pre .accepted) _ (c .before .before .before .before .before .before .before .before .before .before .pre .facts) (set-yes (c .before .before .before .before)) _ (said-no _ _ (sym (c .before .of-row .given .1) ∙ c .before .before .before .ask-row-of .ensures))
+returns-2 c = check-row-no _ _ _ _ (c .before .before .before .before .before .before .before .before .before .before .before .pre .0) _ (counted (c .before .before .before .before .before .before .before)) (set-yes (c .before .before .before .before)) _ (said-no _ _ (sym (c .before .of-row .given .1) ∙ c .before .before .before .ask-row-of .ensures))
 
 enum-told-2 : tie.Need-enum-told-2
 enum-told-2 c = search needs
 
-cast-t11 : tie.Need-cast-t11
-cast-t11 c = omega (arith, asked-below _ _ _ (row-yes c), few-facts (c .before .before .before .before .before .before .before .before .before .pre) (λ j. c .before .before .before .before .before .before .before .before .shared-slice-known .given j .fits))
+cast-t12 : tie.Need-cast-t12
+cast-t12 c = omega (arith, asked-below _ _ _ (row-yes c), c .before .before .before .before .before .before .facts-of .ensures, facts-below (c .before .before .before .before .before .before .before .before .before .before .pre .1 .well-formed))
 
 is-proof-requires : tie.Need-is-proof-requires
 is-proof-requires c κs = search needs
 
 returns-3 : tie.Need-returns-3
-returns-3 c = all-asked-yes _ _ _ _ (c .before .before .before .before .before .before .before .before .before .before .before .pre .accepted) _ (c .before .before .before .before .before .before .before .before .before .before .before .pre .facts) (set-yes (c .before .before .before .before .before)) (row-yes (c .before .before)) true (sym (c .if1 .taken) ∙ c .before .is-proof .ensures)
+returns-3 c = all-asked-yes _ _ _ _ (c .before .before .before .before .before .before .before .before .before .before .before .before .pre .0) _ (counted (c .before .before .before .before .before .before .before .before)) (set-yes (c .before .before .before .before .before)) (row-yes (c .before .before)) true (sym (c .if1 .taken) ∙ c .before .is-proof .ensures)
 
 returns-4 : tie.Need-returns-4
-returns-4 c = all-asked-yes _ _ _ _ (c .before .before .before .before .before .before .before .before .before .before .before .pre .accepted) _ (c .before .before .before .before .before .before .before .before .before .before .before .pre .facts) (set-yes (c .before .before .before .before .before)) (row-yes (c .before .before)) false (sym (c .if1 .left) ∙ c .before .is-proof .ensures)
+returns-4 c = all-asked-yes _ _ _ _ (c .before .before .before .before .before .before .before .before .before .before .before .before .pre .0) _ (counted (c .before .before .before .before .before .before .before .before)) (set-yes (c .before .before .before .before .before)) (row-yes (c .before .before)) false (sym (c .if1 .left) ∙ c .before .is-proof .ensures)
 
 pub check-accepted-spec : {M : Type 1} → statement M
 check-accepted-spec =
     tie.close
     (tie.spec
+    facts-of-requires
     ask-set-of-requires
     enum-known-of-set
     returns
@@ -72,7 +76,7 @@ check-accepted-spec =
     enum-known-of-row
     returns-2
     enum-told-2
-    cast-t11
+    cast-t12
     is-proof-requires
     returns-3
     returns-4)

@@ -1,37 +1,36 @@
 -- `steps_hold`: what is to come gives what the whole gives, and the facts so far are marked.
 use borrow.Author.Needs.{needs}
 use Prim.Native.Nat.{_<_, _-_}
-use mathlib.Core.Path.{_≡_, sym, _∙_}
+use mathlib.Core.Path.{_≡_, refl, sym, _∙_}
 use mathlib.Core.List.{_∷_}
 use native.Mathlib.Omega.{arith}
 use borrow.Author.Tests.{not-true, not-false}
 use denote.Ref.{now}
 use lib.ListN.{length, length-set}
-use Rattle.reader.specs.declared.cursor.Read.the-variants.{Found}
-use Rattle.reader.specs.Item.{maxFacts}
+use Rattle.items.specs.declared.cursor.Read.the-variants.{Found}
+use Rattle.items.specs.declared.cursor.Row.the-variants.{Steps}
+use Rattle.items.specs.Item.{maxFacts}
+use Rattle.items.specs.Cursor.{nextAt}
+use Rattle.items.proofs.Items.{found, closer}
+use Rattle.items.proofs.NoItemRead.{nothing-read}
+use Rattle.tables.proofs.MarksPainted.{has-set}
 use Rattle.reader.specs.Questions.{programOf}
-use Rattle.reader.specs.Cursor.{nextAt}
-use Rattle.reader.proofs.Items.{found, closer}
-use Rattle.rules.proofs.Sets.{has-set}
-use Rattle.rules.specs.Questions.{rowOf, stepOf}
-use Rattle.rules.proofs.Rows.{stepsFrom, no-step-left, steps-ended, other-item, step-read, fact-narrow}
+use Rattle.questions.specs.Questions.{stepsOf, rowOf, stepOf}
+use Rattle.questions.proofs.ItemWalks.{same-row}
+use Rattle.questions.proofs.Rows.{stepsFrom, other-item, step-read, fact-narrow}
 use Rattle.proofcheck.proofs.StepsHold.{Holding, none-held, all-hold, holding-along, one-fails, one-holds}
 use Rattle.proofcheck.proofs.steps.steps_hold.Statement.{statement}
 use Rattle.proofcheck.proofs.steps.steps_hold.Tie as tie
-use Rattle.proofcheck.proofs.steps.steps_hold.Reads as reads
-use Rattle.proofcheck.proofs.steps.steps_hold.Lts as lts
-use Rattle.proofcheck.proofs.steps.step_holds.Reads as step-holds-reads
-use Rattle.reader.proofs.cursor.Cursor.next.Reads as next-reads
 
 abbrev Inv-loop : tie.InvT-loop
-Inv-loop file starts rules proof facts₀ cursor₀ facts cursor = (length facts ≡ maxFacts) × Holding (programOf file) facts₀ facts (rowOf proof) (stepsFrom proof cursor)
+Inv-loop file tables proof facts₀ cursor₀ facts cursor = (length facts ≡ maxFacts) × (cursor .row ≡ Steps) × Holding (programOf file) facts₀ facts (rowOf proof) (stepsFrom proof cursor)
 
 abbrev μ-loop : tie.MeasureT-loop
-μ-loop file starts rules proof facts₀ cursor₀ facts cursor = length proof - cursor .at
+μ-loop file tables proof facts₀ cursor₀ facts cursor = length proof - cursor .at
 
 -- once an item is read
 item-read : (c : tie.After-known-told Inv-loop μ-loop) → nextAt (now (c .before .before .before .before .before .before .before .args .proof)) (c .before .before .before .before .loop .cursor) ≡ Found (c .before .item .given .0 .0) (c .before .item .given .0 .1 .0)
-item-read c = sym (c .before .before .before .next .ensures .0) ∙ c .before .item .given .1
+item-read c = sym (c .before .before .before .next-step .ensures) ∙ c .before .item .given .1
 
 -- once it is a step
 a-step : (c : tie.After-known-told2 Inv-loop μ-loop) → stepsFrom (now (c .before .before .before .before .before .before .before .before .before .before .args .proof)) (c .before .before .before .before .before .before .before .loop .cursor) ≡ stepOf (c .before .item2 .given .0 .0) (c .before .item2 .given .0 .1 .0) ∷ stepsFrom (now (c .before .before .before .before .before .before .before .before .before .before .args .proof)) (c .before .before .before .before .item .given .0 .1 .0)
@@ -41,18 +40,10 @@ a-fact : (c : tie.After-known-told2 Inv-loop μ-loop) → c .before .item2 .give
 a-fact c = fact-narrow _ _ _ _ (item-read (c .before .before .before)) _ _ (c .before .item2 .given .1) (λ j. c .before .before .before .before .before .before .before .before .shared-slice-known2 .given j .fits)
 
 loop-holds : tie.Need-loop-holds Inv-loop μ-loop
-loop-holds c = (c .before .before .pre .1, none-held _ _ _)
+loop-holds c = (c .before .before .pre .1, refl, none-held _ _ _)
 
-next-requires : tie.Need-next-requires Inv-loop μ-loop
-next-requires c κs = search needs
-
-enum-told : tie.Need-enum-told Inv-loop μ-loop
-enum-told c = search needs
-
-returns : tie.Need-returns Inv-loop μ-loop
-returns c =
-    let held = all-hold (c .before .before .before .loop .inv .1) (no-step-left _ _ _ _ (sym (c .before .before .next .ensures .0) ∙ c .enum-told .given .1)) in
-    (held .0, (held .1, c .before .before .before .loop .inv .0))
+next-step-requires : tie.Need-next-step-requires Inv-loop μ-loop
+next-step-requires c κs = c .loop .inv .1
 
 enum-known-item : tie.Need-enum-known-item Inv-loop μ-loop
 enum-known-item c = search needs
@@ -66,8 +57,8 @@ cast-number c = search needs
 step-holds-requires : tie.Need-step-holds-requires Inv-loop μ-loop
 step-holds-requires c κs = c .before .before .before .before .before .before .before .before .before .before .before .before .before .pre .0
 
-returns-2 : tie.Need-returns-2 Inv-loop μ-loop
-returns-2 c = (one-fails (c .before .before .before .before .before .before .before .before .before .before .before .before .loop .inv .1) _ _ (a-step (c .before .before .before .before .before)) (sym (c .before .step-holds .ensures) ∙ not-true _ (c .if1 .taken)), (tt, c .before .before .before .before .before .before .before .before .before .before .before .before .loop .inv .0))
+returns : tie.Need-returns Inv-loop μ-loop
+returns c = (one-fails (c .before .before .before .before .before .before .before .before .before .before .before .before .loop .inv .2) _ _ (a-step (c .before .before .before .before .before)) (sym (c .before .step-holds .ensures) ∙ not-true _ (c .if1 .taken)), (tt, c .before .before .before .before .before .before .before .before .before .before .before .before .loop .inv .0))
 
 element-write-facts : tie.Need-element-write-facts Inv-loop μ-loop
 element-write-facts c = a-fact (c .before .before .before .before .before)
@@ -78,22 +69,24 @@ loop-less c = closer (found _ _ _ _ (item-read (c .before .before .before .befor
 loop-again : tie.Need-loop-again Inv-loop μ-loop
 loop-again c = (
   length-set (c .before .before .before .before .before .before .before .before .before .before .before .before .loop .facts) _ 1 ∙ c .before .before .before .before .before .before .before .before .before .before .before .before .loop .inv .0,
-  one-holds (c .before .before .before .before .before .before .before .before .before .before .before .before .loop .inv .1) _ _ (a-step (c .before .before .before .before .before)) _ (sym (c .before .step-holds .ensures) ∙ not-false _ (c .if1 .left)) (has-set (c .before .before .before .before .before .before .before .before .before .before .before .before .loop .facts) _ (omega (arith, a-fact (c .before .before .before .before .before), c .before .before .before .before .before .before .before .before .before .before .before .before .loop .inv .0))),
+  same-row _ _ _ _ Steps (item-read (c .before .before .before .before .before .before .before .before)) tt (c .before .before .before .before .before .before .before .before .before .before .before .before .loop .inv .1),
+  one-holds (c .before .before .before .before .before .before .before .before .before .before .before .before .loop .inv .2) _ _ (a-step (c .before .before .before .before .before)) _ (sym (c .before .step-holds .ensures) ∙ not-false _ (c .if1 .left)) (has-set (c .before .before .before .before .before .before .before .before .before .before .before .before .loop .facts) _ (omega (arith, a-fact (c .before .before .before .before .before), c .before .before .before .before .before .before .before .before .before .before .before .before .loop .inv .0))),
 )
 
 loop-less-2 : tie.Need-loop-less-2 Inv-loop μ-loop
 loop-less-2 c = closer (found _ _ _ _ (item-read (c .before)))
 
 loop-again-2 : tie.Need-loop-again-2 Inv-loop μ-loop
-loop-again-2 c = (c .before .before .before .before .before .loop .inv .0, holding-along (c .before .before .before .before .before .loop .inv .1) _ (other-item _ _ _ _ (item-read (c .before)) (c .match2 .keys2)))
+loop-again-2 c = (
+  c .before .before .before .before .before .loop .inv .0,
+  same-row _ _ _ _ Steps (item-read (c .before)) tt (c .before .before .before .before .before .loop .inv .1),
+  holding-along (c .before .before .before .before .before .loop .inv .2) _ (other-item _ _ _ _ (item-read (c .before)) (c .match2 .keys2)),
+)
 
-enum-told-2 : tie.Need-enum-told-2 Inv-loop μ-loop
-enum-told-2 c = search needs
-
-returns-3 : tie.Need-returns-3 Inv-loop μ-loop
-returns-3 c =
-    let held = all-hold (c .before .before .before .loop .inv .1) (steps-ended _ _ _ (sym (c .before .before .next .ensures .0) ∙ c .enum-told2 .given .1)) in
-    (held .0, (held .1, c .before .before .before .loop .inv .0))
+returns-2 : tie.Need-returns-2 Inv-loop μ-loop
+returns-2 c =
+    let all-held = all-hold (c .before .before .loop .inv .2) (nothing-read stepsOf (λ fault. refl) _ _ _ (sym (c .before .next-step .ensures)) (c .match .keys2)) in
+    (all-held .0, (all-held .1, c .before .before .loop .inv .0))
 
 pub steps-hold-spec : {M : Type 1} → statement M
 steps-hold-spec =
@@ -102,18 +95,15 @@ steps-hold-spec =
     Inv-loop
     μ-loop
     loop-holds
-    next-requires
-    enum-told
-    returns
+    next-step-requires
     enum-known-item
     enum-known-item-2
     cast-number
     step-holds-requires
-    returns-2
+    returns
     element-write-facts
     loop-less
     loop-again
     loop-less-2
     loop-again-2
-    enum-told-2
-    returns-3)
+    returns-2)

@@ -1,39 +1,43 @@
 -- The rules of the chain from the slot are still to be told; each link leads to a lower slot.
 use Prim.Native.Nat.{_<_}
-use lib.ListN.{getD}
 use denote.Ref.{now}
 use native.Mathlib.Omega.{arith}
 use mathlib.Core.Logic.{⊎-elim}
-use Rattle.reader.specs.Questions.{maxRules, programOf}
-use Rattle.closure.proofs.Ready.{rules-known}
+use Rattle.items.specs.Item.{maxRules}
+use Rattle.tables.specs.Layout.{programIn}
+use Rattle.tables.proofs.ProgramHeld.{rules-below}
+use Rattle.index.specs.Cells.{ownerIn}
 use Rattle.propagation.specs.State.{Telling, Onward}
 use Rattle.propagation.proofs.LiteralsTold.{nothing-yet, RuleTold, at-slot, chain-ended, turn-on, turn-concluded}
 use Rattle.propagation.proofs.spread.tell.Statement.{statement}
 use Rattle.propagation.proofs.spread.tell.Tie as tie
 
 abbrev Inv-loop : tie.InvT-loop
-Inv-loop file starts links owners head marks₀ missing₀ stack₀ top top₀ slot₀ marks missing stack top' slot =
-    Telling (programOf file) links owners slot marks missing stack top' × Onward marks₀ top marks top'
+Inv-loop tables index head marks₀ missing₀ stack₀ top top₀ slot₀ marks missing stack top' slot =
+    Telling (programIn tables) index slot marks missing stack top' × Onward marks₀ top marks top'
 
 abbrev μ-loop : tie.MeasureT-loop
-μ-loop file starts links owners head marks₀ missing₀ stack₀ top top₀ slot₀ marks missing stack top' slot =
+μ-loop tables index head marks₀ missing₀ stack₀ top top₀ slot₀ marks missing stack top' slot =
     slot
 
 -- the rule at the slot
 rule-told : (c : tie.In-loop Inv-loop μ-loop) → RuleTold (c .before .loop .inv .0)
-rule-told c = at-slot (c .before .loop .inv .0) (rules-known (c .before .before .before .pre .0)) (c .loop-test .taken)
+rule-told c = at-slot (c .before .loop .inv .0) (rules-below (c .before .before .pre .0)) (c .loop-test .taken)
 
-in-table : (c : tie.In-loop Inv-loop μ-loop) → getD (now (c .before .before .before .args .owners)) (c .before .loop .slot) 0 < maxRules
-in-table c = omega (arith, rule-told c .rule-known, rules-known (c .before .before .before .pre .0))
+in-table : (c : tie.In-loop Inv-loop μ-loop) → ownerIn (now (c .before .before .args .index)) (c .before .loop .slot) < maxRules
+in-table c = omega (arith, rule-told c .rule-known, rules-below (c .before .before .pre .0))
 
 loop-holds : tie.Need-loop-holds Inv-loop μ-loop
-loop-holds c = (c .before .pre .1, nothing-yet _ _)
+loop-holds c = (c .pre .1, nothing-yet _ _)
+
+add-rule : tie.Need-add-rule Inv-loop μ-loop
+add-rule c = omega (arith, rule-told c .slot-inside)
 
 mul-rule : tie.Need-mul-rule Inv-loop μ-loop
 mul-rule c = omega (arith, rule-told c .slot-inside)
 
 element-copy-out-rule : tie.Need-element-copy-out-rule Inv-loop μ-loop
-element-copy-out-rule c = rule-told c .slot-inside
+element-copy-out-rule c = omega (arith, rule-told c .slot-inside)
 
 cast-rule : tie.Need-cast-rule Inv-loop μ-loop
 cast-rule c = omega (arith, in-table (c .before))
@@ -57,13 +61,16 @@ element-copy-out-if1 : tie.Need-element-copy-out-if1 Inv-loop μ-loop
 element-copy-out-if1 c = in-table (c .before .before)
 
 conclude-requires : tie.Need-conclude-requires Inv-loop μ-loop
-conclude-requires c κs = (c .before .before .before .before .before .before .before .before .before .pre .0, (rule-told (c .before .before .before .before .before .before) .rule-known, c .before .before .before .before .before .before .before .loop .inv .0 .spreading .on-stack))
+conclude-requires c κs = (c .before .before .before .before .before .before .before .before .pre .0, (rule-told (c .before .before .before .before .before .before) .rule-known, c .before .before .before .before .before .before .before .loop .inv .0 .spreading .on-stack))
+
+add-slot : tie.Need-add-slot Inv-loop μ-loop
+add-slot c = omega (arith, rule-told (c .before .before .before .before) .slot-inside)
 
 mul-slot : tie.Need-mul-slot Inv-loop μ-loop
 mul-slot c = omega (arith, rule-told (c .before .before .before .before) .slot-inside)
 
 element-copy-out-slot : tie.Need-element-copy-out-slot Inv-loop μ-loop
-element-copy-out-slot c = rule-told (c .before .before .before .before) .slot-inside
+element-copy-out-slot c = omega (arith, rule-told (c .before .before .before .before) .slot-inside)
 
 cast-slot : tie.Need-cast-slot Inv-loop μ-loop
 cast-slot c = omega (arith, rule-told (c .before .before .before .before .before) .link-lower, rule-told (c .before .before .before .before .before) .slot-inside)
@@ -90,6 +97,7 @@ tell-spec =
     Inv-loop
     μ-loop
     loop-holds
+    add-rule
     mul-rule
     element-copy-out-rule
     cast-rule
@@ -100,6 +108,7 @@ tell-spec =
     mul-if1
     element-copy-out-if1
     conclude-requires
+    add-slot
     mul-slot
     element-copy-out-slot
     cast-slot

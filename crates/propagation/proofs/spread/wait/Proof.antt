@@ -2,7 +2,7 @@
 use borrow.Author.Needs.{needs}
 use Prim.Native.Nat.{_<_}
 use native.Mathlib.Omega.{arith}
-use Rattle.literals.specs.Literal.{literals}
+use Rattle.index.specs.Literal.{literals}
 use Rattle.propagation.proofs.LiteralsStacked.{told-before, room-left, told-now}
 use Rattle.propagation.proofs.spread.wait.Statement.{statement}
 use Rattle.propagation.proofs.spread.wait.Tie as tie

@@ -1,51 +1,59 @@
 -- `rule_mark`: each way through the tests tells one of the marks.
-use mathlib.Core.Path.{ap, _≡_, sym, _∙_}
+use mathlib.Core.Path.{_≡_, sym, _∙_}
+use mathlib.Core.Bool.{true}
 use borrow.Author.Tests.{not-true, not-false}
 use borrow.Author.Needs.{needs}
 use denote.Ref.{now}
-use Rattle.reader.specs.declared.item.FactId.{FactId}
-use Rattle.rules.specs.Questions.{has}
-use Rattle.rules.specs.RuleAt.{ruleAt}
+use Rattle.theory.specs.Rule.{all, clear, exception, rule}
+use Rattle.items.specs.Item.{has}
+use Rattle.tables.specs.Layout.{programIn}
 use Rattle.run.proofs.MarksWritten.{a-plain, an-applied, a-premise-out, a-constraint-in, a-conclusion-in, set-aside}
 use Rattle.run.proofs.marks.rule_mark.Statement.{statement}
 use Rattle.run.proofs.marks.rule_mark.Tie as tie
 
--- whether the conclusion is in D
-tested : (c : tie.After-in-set) → c .in-set .result ≡ has (now (c .before .before .before .before .before .before .before .before .before .before .before .before .before .args .derived)) (ruleAt (now (c .before .before .before .before .before .before .before .before .before .before .before .before .before .args .file)) (c .before .before .before .before .before .before .before .before .before .before .before .before .before .args .at) .conclusion)
-tested c = c .in-set .ensures ∙ ap (λ (f : FactId). has (now (c .before .before .before .before .before .before .before .before .before .before .before .before .before .args .derived)) (f .0)) (c .before .conclusion .ensures)
+-- what is known past each test
+is-one : (c : tie.Else1) → exception (programIn (now (c .before .before .args .tables))) (c .before .before .args .rule .0) ≡ true
+is-one c = sym (c .before .is-exception .ensures) ∙ not-false _ (c .if1 .left)
+
+founded : (c : tie.Else3) → all (has (now (c .before .before .before .before .before .before .args .derived))) (rule (programIn (now (c .before .before .before .before .before .before .args .tables))) (c .before .before .before .before .before .before .args .rule .0) .premises) ≡ true
+founded c = sym (c .before .premises-in .ensures) ∙ not-false _ (c .if3 .left)
+
+spared : (c : tie.Else4) → clear (has (now (c .before .before .before .before .before .before .before .before .before .args .derived))) (rule (programIn (now (c .before .before .before .before .before .before .before .before .before .args .tables))) (c .before .before .before .before .before .before .before .before .before .args .rule .0) .constraints) ≡ true
+spared c = sym (c .before .constraints-clear .ensures) ∙ not-false _ (c .if4 .left)
 
 is-exception-requires : tie.Need-is-exception-requires
 is-exception-requires c κs = search needs
 
 returns : tie.Need-returns
-returns c = λ P s i h r a d. a-plain P s i h _ r _ a _ d (sym (c .before .is-exception .ensures) ∙ not-true _ (c .if1 .taken))
+returns c = λ s a d. a-plain (programIn (now (c .before .before .args .tables))) s _ (c .before .before .pre .0 .1) _ a _ d (sym (c .before .is-exception .ensures) ∙ not-true _ (c .if1 .taken))
 
 returns-2 : tie.Need-returns-2
-returns-2 c = λ P s i h r a d. an-applied P s i h _ r _ a _ d (sym (c .before .before .is-exception .ensures) ∙ not-false _ (c .before .if1 .left)) (c .if2 .taken)
+returns-2 c = λ s a d. an-applied (programIn (now (c .before .before .before .args .tables))) s _ (c .before .before .before .pre .0 .1) _ a _ d (is-one (c .before)) (c .if2 .taken)
 
 premises-in-requires : tie.Need-premises-in-requires
 premises-in-requires c κs = search needs
 
 returns-3 : tie.Need-returns-3
-returns-3 c = λ P s i h r a d. a-premise-out P s i h _ r _ a _ d (sym (c .before .before .before .before .before .is-exception .ensures) ∙ not-false _ (c .before .before .before .before .if1 .left)) (c .before .before .before .if2 .left) (sym (c .before .premises-in .ensures) ∙ not-true _ (c .if3 .taken))
+returns-3 c =
+    λ s a d. a-premise-out (programIn (now (c .before .before .before .before .before .before .args .tables))) s _ (c .before .before .before .before .before .before .pre .0 .1) _ a _ d (is-one (c .before .before .before .before)) (c .before .before .before .if2 .left) (sym (c .before .premises-in .ensures) ∙ not-true _ (c .if3 .taken))
 
 constraints-clear-requires : tie.Need-constraints-clear-requires
 constraints-clear-requires c κs = search needs
 
 returns-4 : tie.Need-returns-4
-returns-4 c = λ P s i h r a d. a-constraint-in P s i h _ r _ a _ d (sym (c .before .before .before .before .before .before .before .before .is-exception .ensures) ∙ not-false _ (c .before .before .before .before .before .before .before .if1 .left)) (c .before .before .before .before .before .before .if2 .left) (sym (c .before .before .before .before .premises-in .ensures) ∙ not-false _ (c .before .before .before .if3 .left)) (sym (c .before .constraints-clear .ensures) ∙ not-true _ (c .if4 .taken))
+returns-4 c =
+    λ s a d. a-constraint-in (programIn (now (c .before .before .before .before .before .before .before .before .before .args .tables))) s _ (c .before .before .before .before .before .before .before .before .before .pre .0 .1) _ a _ d (is-one (c .before .before .before .before .before .before .before)) (c .before .before .before .before .before .before .if2 .left) (founded (c .before .before .before)) (sym (c .before .constraints-clear .ensures) ∙ not-true _ (c .if4 .taken))
 
-conclusion-requires : tie.Need-conclusion-requires
-conclusion-requires c κs = search needs
-
-in-set-requires : tie.Need-in-set-requires
-in-set-requires c κs = search needs
+conclusion-in-requires : tie.Need-conclusion-in-requires
+conclusion-in-requires c κs = search needs
 
 returns-5 : tie.Need-returns-5
-returns-5 c = λ P s i h r a d. a-conclusion-in P s i h _ r _ a _ d (sym (c .before .before .before .before .before .before .before .before .before .before .before .before .is-exception .ensures) ∙ not-false _ (c .before .before .before .before .before .before .before .before .before .before .before .if1 .left)) (c .before .before .before .before .before .before .before .before .before .before .if2 .left) (sym (c .before .before .before .before .before .before .before .before .premises-in .ensures) ∙ not-false _ (c .before .before .before .before .before .before .before .if3 .left)) (sym (c .before .before .before .before .before .constraints-clear .ensures) ∙ not-false _ (c .before .before .before .before .if4 .left)) (sym (tested (c .before)) ∙ c .if5 .taken)
+returns-5 c =
+    λ s a d. a-conclusion-in (programIn (now (c .before .before .before .before .before .before .before .before .before .before .before .before .args .tables))) s _ (c .before .before .before .before .before .before .before .before .before .before .before .before .pre .0 .1) _ a _ d (is-one (c .before .before .before .before .before .before .before .before .before .before)) (c .before .before .before .before .before .before .before .before .before .if2 .left) (founded (c .before .before .before .before .before .before)) (spared (c .before .before .before)) (sym (c .before .conclusion-in .ensures) ∙ c .if5 .taken)
 
 returns-6 : tie.Need-returns-6
-returns-6 c = λ P s i h r a d. set-aside P s i h _ r _ a _ d (sym (c .before .before .before .before .before .before .before .before .before .before .before .before .is-exception .ensures) ∙ not-false _ (c .before .before .before .before .before .before .before .before .before .before .before .if1 .left)) (c .before .before .before .before .before .before .before .before .before .before .if2 .left) (sym (c .before .before .before .before .before .before .before .before .premises-in .ensures) ∙ not-false _ (c .before .before .before .before .before .before .before .if3 .left)) (sym (c .before .before .before .before .before .constraints-clear .ensures) ∙ not-false _ (c .before .before .before .before .if4 .left)) (sym (tested (c .before)) ∙ c .if5 .left)
+returns-6 c =
+    λ s a d. set-aside (programIn (now (c .before .before .before .before .before .before .before .before .before .before .before .before .args .tables))) s _ (c .before .before .before .before .before .before .before .before .before .before .before .before .pre .0 .1) _ a _ d (is-one (c .before .before .before .before .before .before .before .before .before .before)) (c .before .before .before .before .before .before .before .before .before .if2 .left) (founded (c .before .before .before .before .before .before)) (spared (c .before .before .before)) (sym (c .before .conclusion-in .ensures) ∙ c .if5 .left)
 
 pub rule-mark-spec : {M : Type 1} → statement M
 rule-mark-spec =
@@ -58,7 +66,6 @@ rule-mark-spec =
     returns-3
     constraints-clear-requires
     returns-4
-    conclusion-requires
-    in-set-requires
+    conclusion-in-requires
     returns-5
     returns-6)

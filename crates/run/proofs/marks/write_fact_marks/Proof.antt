@@ -3,7 +3,7 @@ use Prim.Native.Nat.{_-_}
 use mathlib.Core.Path.{_∙_}
 use mathlib.Core.Logic.{⊎-elim}
 use native.Mathlib.Omega.{arith}
-use Rattle.rules.specs.Questions.{has}
+use Rattle.items.specs.Item.{has}
 use Rattle.run.proofs.MarksWritten.{Marking, factMarkBy, none-written, one-written, all-written, a-derived, a-rejected, an-open, fact-marks}
 use Rattle.run.proofs.marks.write_fact_marks.Statement.{statement}
 use Rattle.run.proofs.marks.write_fact_marks.Tie as tie

@@ -1,13 +1,15 @@
 -- `run_to`: the order gets yes, so the run ends, and what it leaves is what the search leaves.
 use Prim.Native.Nat.{_≤_}
-use mathlib.Core.Path.{sym}
+use mathlib.Core.Path.{_≡_, sym}
 use lib.ListN.{length}
 use lib.Seq.{length-take-le}
 use denote.Ref.{now}
-use Rattle.theory.specs.Rule.{everyRule}
+use Rattle.theory.specs.Rule.{inForce}
 use Rattle.theory.specs.Stable.{orderFor}
+use Rattle.items.specs.Item.{has}
+use Rattle.items.specs.Write.{over}
 use Rattle.reader.specs.Questions.{programOf}
-use Rattle.rules.specs.Questions.{has, naming}
+use Rattle.questions.specs.Questions.{naming}
 use Rattle.search.proofs.SearchAsked.{AllYesses, all-yes}
 use Rattle.search.proofs.RunUnder.{front-inside, not-refused, found-there}
 use borrow.Author.Needs.{needs}
@@ -15,15 +17,19 @@ use Rattle.search.proofs.found.run_to.Statement.{statement}
 use Rattle.search.proofs.found.run_to.Tie as tie
 
 -- what all the yesses tell
-yesses : (c : tie.After-shared-slice-known) → AllYesses (now (c .before .args .file)) (length (now (c .before .args .fact-marks))) (length (now (c .before .args .rule-marks))) (length (now (c .before .args .steps))) (length (now (c .before .args .order)))
-yesses c = all-yes _ _ _ _ _ (c .before .pre .0)
+yesses : (c : tie.Start) → AllYesses (now (c .args .file)) (length (now (c .args .fact-marks))) (length (now (c .args .rule-marks))) (length (now (c .args .steps))) (length (now (c .args .order)))
+yesses c = all-yes _ _ _ _ _ (c .pre .0)
+
+-- the order is that of the file's program
+order-is : (c : tie.After-write-order) → (c .write-order .last .1 .1 .0 ≡ over (naming (orderFor (programOf (now (c .before .before .before .before .before .before .before .args .file))) (inForce (programOf (now (c .before .before .before .before .before .before .before .args .file)))) (has (now (c .before .before .before .before .before .before .before .args .set))))) (now (c .before .before .before .before .before .before .before .args .order))) × (c .write-order .result ≡ length (naming (orderFor (programOf (now (c .before .before .before .before .before .before .before .args .file))) (inForce (programOf (now (c .before .before .before .before .before .before .before .args .file)))) (has (now (c .before .before .before .before .before .before .before .args .set))))))
+order-is c = rw (c .before .before .before .before .before .before .before .pre .1 .program) at (c .write-order .ensures)
 
 -- the order lies inside its buffer
-inside : (c : tie.After-write-order) → c .write-order .result ≤ length (c .write-order .last .1 .1 .1 .0)
-inside c = front-inside (naming (orderFor (programOf (now (c .before .before .before .before .before .before .before .args .file))) everyRule (has (now (c .before .before .before .before .before .before .before .args .set))))) (now (c .before .before .before .before .before .before .before .args .order)) _ _ (c .write-order .ensures)
+inside : (c : tie.After-write-order) → c .write-order .result ≤ length (c .write-order .last .1 .1 .0)
+inside c = front-inside (naming (orderFor (programOf (now (c .before .before .before .before .before .before .before .args .file))) (inForce (programOf (now (c .before .before .before .before .before .before .before .args .file)))) (has (now (c .before .before .before .before .before .before .before .args .set))))) (now (c .before .before .before .before .before .before .before .args .order)) _ _ (order-is c)
 
 write-order-requires : tie.Need-write-order-requires
-write-order-requires c κs = (c .before .before .before .before .before .before .pre .1, yesses (c .before .before .before .before .before) .order-fits)
+write-order-requires c κs = (c .before .before .before .before .before .before .pre .1 .well-formed, rw (c .before .before .before .before .before .before .pre .1 .program) (yesses (c .before .before .before .before .before .before) .order-fits))
 
 slice-reshare-prefix-run : tie.Need-slice-reshare-prefix-run
 slice-reshare-prefix-run c = inside (c .before .before)
@@ -53,7 +59,7 @@ same-length-4 : tie.Need-same-length-4
 same-length-4 c = search needs
 
 returns : tie.Need-returns
-returns c = found-there _ _ _ _ _ (yesses (c .before .before .before .before .before .before .before .before .before .before .before .before .before .before .before .before .before .before .before .before .before .before)) _ _ _ (c .before .before .before .before .before .before .before .before .before .before .before .before .before .before .before .before .write-order .ensures) _ _ _ _ (c .before .before .before .before .before .before .before .before .before .run .ensures .0) _ _ (c .before .stages .given .1)
+returns c = found-there _ _ _ _ _ (yesses (c .before .before .before .before .before .before .before .before .before .before .before .before .before .before .before .before .before .before .before .before .before .before .before)) _ _ _ (order-is (c .before .before .before .before .before .before .before .before .before .before .before .before .before .before .before .before)) _ _ _ _ (c .before .before .before .before .before .before .before .before .before .run .ensures .0) _ _ (c .before .stages .given .1)
 
 same-length-5 : tie.Need-same-length-5
 same-length-5 c = search needs
@@ -68,7 +74,7 @@ same-length-8 : tie.Need-same-length-8
 same-length-8 c = search needs
 
 returns-2 : tie.Need-returns-2
-returns-2 c = absurd (not-refused _ _ _ _ _ (yesses (c .before .before .before .before .before .before .before .before .before .before .before .before .before .before .before .before .before .before .before .before .before .before)) _ _ _ (c .before .before .before .before .before .before .before .before .before .before .before .before .before .before .before .before .write-order .ensures) _ _ _ _ (c .before .before .before .before .before .before .before .before .before .run .ensures .0) _ (c .before .r .given .1))
+returns-2 c = absurd (not-refused _ _ _ _ _ (yesses (c .before .before .before .before .before .before .before .before .before .before .before .before .before .before .before .before .before .before .before .before .before .before .before)) _ _ _ (order-is (c .before .before .before .before .before .before .before .before .before .before .before .before .before .before .before .before)) _ _ _ _ (c .before .before .before .before .before .before .before .before .before .run .ensures .0) _ (c .before .r .given .1))
 
 pub run-to-spec : {M : Type 1} → statement M
 run-to-spec =

@@ -2,7 +2,7 @@
 use Prim.Native.Nat.{_-_}
 use mathlib.Core.Logic.{⊎-elim}
 use native.Mathlib.Omega.{arith}
-use Rattle.reader.specs.Item.{maxFacts}
+use Rattle.items.specs.Item.{maxFacts}
 use Rattle.stage.proofs.SetsApart.{Comparing, none-compared, all-compared, common, not-in-first, not-in-second}
 use Rattle.stage.proofs.trial.apart.Statement.{statement}
 use Rattle.stage.proofs.trial.apart.Tie as tie

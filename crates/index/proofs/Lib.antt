@@ -1,0 +1,7 @@
+pub mod ElementsCounted
+pub mod LiteralsCounted
+pub mod LiteralsBelow
+pub mod AskersCounted
+pub mod ChainsLinked
+pub mod PartLinked
+pub mod RulesLinked

@@ -1,0 +1,5 @@
+-- What only code and proofs use.
+pub mod Literal
+pub mod Cells
+pub mod Index
+pub mod Linked

@@ -1,0 +1,5 @@
+-- What is promised.
+pub mod Question
+pub mod Item
+pub mod Cursor
+pub mod Write

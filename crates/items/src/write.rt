@@ -1,0 +1,40 @@
+// Writes one item into a lent buffer. Internal: the caller has seen that it fits.
+ghost use mathlib.Core.Path.{_≡_};
+ghost use Prim.Native.Nat.{_+_, _<_, _≤_};
+ghost use lib.ListN.{length};
+ghost use Rattle.items.specs.Item.{maxFacts, nameWidth, stepWidth};
+ghost use Rattle.items.specs.Write.{ruleItem, stepItem, placed};
+use crate::item::FACT_BYTES;
+use crate::item::FactId;
+use crate::item::NAMES_KIND;
+use crate::item::RULE_BYTES;
+use crate::item::RuleId;
+use crate::item::STEP_KIND;
+
+// The bytes of an item of an order, and of a step.
+pub const NAME_WIDTH: usize = 1 + RULE_BYTES;
+
+pub const STEP_WIDTH: usize = 1 + FACT_BYTES + RULE_BYTES;
+
+// An item that names a rule.
+pub fn write_rule_item(out: &mut [u8], at: usize, rule: RuleId)
+    requires { ⌜ at + nameWidth ≤ length (now out) ⌝ }
+    ensures { λ _. ⌜ now (out .exit) ≡ placed (ruleItem (rule .0)) at (now (out .entry)) ⌝ }
+{
+    let number = rule.0;
+    out[at] = NAMES_KIND;
+    out[at + 1] = (number / 256) as u8;
+    out[at + 2] = (number % 256) as u8;
+}
+
+// A step.
+pub fn write_step_item(out: &mut [u8], at: usize, fact: FactId, rule: RuleId)
+    requires { ⌜ (fact .0 < maxFacts) × (at + stepWidth ≤ length (now out)) ⌝ }
+    ensures { λ _. ⌜ now (out .exit) ≡ placed (stepItem (fact .0) (rule .0)) at (now (out .entry)) ⌝ }
+{
+    let number = rule.0;
+    out[at] = STEP_KIND;
+    out[at + 1] = fact.0 as u8;
+    out[at + 2] = (number / 256) as u8;
+    out[at + 3] = (number % 256) as u8;
+}

@@ -1,3 +1,0 @@
--- What only code and proofs use.
-pub mod Literal
-pub mod Rows

@@ -1,0 +1,9 @@
+pub mod Sets
+pub mod ItemWalks
+pub mod NamesAsked
+pub mod OperationAsked
+pub mod Orders
+pub mod Rows
+pub mod BytesPut
+pub mod MarkedPut
+pub mod Examples

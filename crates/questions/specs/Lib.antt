@@ -1,0 +1,7 @@
+-- What is promised.
+pub mod Questions
+pub mod Answer
+-- What only code and proofs use.
+pub mod Orders
+pub mod Named
+pub mod Put

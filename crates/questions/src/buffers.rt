@@ -1,0 +1,29 @@
+// The questions on the buffers that the run and the search share. Internal.
+ghost use mathlib.Core.Path.{_≡_};
+ghost use Rattle.tables.specs.Layout.{programIn, WellFormed};
+ghost use Rattle.questions.specs.Questions.{buffersNo};
+ghost use Rattle.questions.specs.Answer.{answerOf};
+use crate::answer::Answer;
+use items::refusal::Refusal;
+use items::write::STEP_WIDTH;
+use tables::layout::TABLE_CELLS;
+use tables::layout::facts_of;
+use tables::layout::rules_of;
+
+// Questions 31 to 33, by the lengths of the buffers.
+pub fn ask_buffers(tables: &[u16; TABLE_CELLS], facts: usize, rules: usize, steps: usize) -> Answer
+    requires { ⌜ WellFormed (now tables) ⌝ }
+    ensures { λ r. ⌜ r ≡ answerOf (buffersNo (programIn (now (tables .entry))) facts rules steps) ⌝ }
+{
+    let count = facts_of(tables);
+    if facts < count {
+        return Answer::No(Refusal::FactMarksShort);
+    }
+    if rules < rules_of(tables) {
+        return Answer::No(Refusal::RuleMarksShort);
+    }
+    if steps < STEP_WIDTH * count {
+        return Answer::No(Refusal::StepsShort);
+    }
+    Answer::Yes
+}

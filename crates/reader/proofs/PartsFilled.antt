@@ -1,0 +1,117 @@
+-- One row of the tables while a scan fills it, the premises of all rules or their constraints: the parts of the rules before the last are whole, and
+-- what is read of the last goes on with what is ahead.
+use Prim.Native.Nat.{ℕ, zero, suc, _+_, _-_, _<_, _≤_}
+use mathlib.Core.Path.{_≡_, refl, sym, ap, ap₂, _∙_}
+use mathlib.Core.List.{List, [], _∷_, _++_, append-assoc}
+use mathlib.Core.Logic.{_⊎_, inl, inr, ⊎-elim}
+use native.Mathlib.Omega.{arith}
+use native.Mathlib.Nat.{add-zero}
+use borrow.Author.Tests.{ltb-true, ltb-false}
+use lib.Dec.{ltb}
+use Rattle.theory.proofs.Bools.{either}
+use Rattle.tables.specs.Layout.{listed, span}
+use Rattle.tables.proofs.PartsSpanned.{span-end}
+
+span-agree : (row row′ : ℕ → ℕ) (a b : ℕ) → ((j : ℕ) → j < b → row′ j ≡ row j) → span row′ a b ≡ span row a b
+span-agree row row′ a b h = go (b - a) a (λ j l u. h j (omega arith))
+  where
+    go : (m a : ℕ) → ((j : ℕ) → a ≤ j → j < a + m → row′ j ≡ row j) → listed row′ a m ≡ listed row a m
+    go zero a g = refl
+    go (suc m) a g = ap₂ (λ (x : ℕ) (xs : List ℕ). x ∷ xs) (g a (omega arith) (omega arith)) (go m (suc a) (λ j l u. g j (omega arith) (omega arith)))
+
+span-more : (row : ℕ → ℕ) (a b : ℕ) → a ≤ b → span row a (b + 1) ≡ span row a b ++ (row b ∷ [])
+span-more row a b h =
+    let more : b + 1 - a ≡ suc (b - a) = omega arith in
+    let end : a + (b - a) ≡ b = omega arith in
+    ap (listed row a) more ∙ go (b - a) a ∙ ap (λ (j : ℕ). span row a b ++ (row j ∷ [])) end
+  where
+    go : (m a : ℕ) → listed row a (suc m) ≡ listed row a m ++ (row (a + m) ∷ [])
+    go zero a = ap (λ (j : ℕ). row j ∷ []) (sym (add-zero a))
+    go (suc m) a =
+        let next : suc a + m ≡ a + suc m = omega arith in
+        ap (λ (xs : List ℕ). row a ∷ xs) (go m (suc a) ∙ ap (λ (j : ℕ). listed row (suc a) m ++ (row j ∷ [])) next)
+
+pub record Filled (part : ℕ → List ℕ) (start row : ℕ → ℕ) (n at : ℕ) (ahead : List ℕ) : Type 0 where
+  pub low : (i : ℕ) → i + 1 < n → start i ≤ start (i + 1)
+  pub high : (i : ℕ) → i + 1 < n → start (i + 1) ≤ at
+  pub done : (i : ℕ) → i + 1 < n → span row (start i) (start (i + 1)) ≡ part i
+  pub last-low : (i : ℕ) → i + 1 ≡ n → start i ≤ at
+  pub last : (i : ℕ) → i + 1 ≡ n → span row (start i) at ++ ahead ≡ part i
+
+pub none-filled : (part : ℕ → List ℕ) (start row : ℕ → ℕ) (ahead : List ℕ) → Filled part start row 0 0 ahead
+none-filled part start row ahead =
+    record {
+      low = λ i h. absurd (omega arith);
+      high = λ i h. absurd (omega arith);
+      done = λ i h. absurd (omega arith);
+      last-low = λ i h. absurd (omega arith);
+      last = λ i h. absurd (omega arith);
+    }
+
+module _ {part : ℕ → List ℕ} {start row : ℕ → ℕ} {n at : ℕ} {ahead : List ℕ} (w : Filled part start row n at ahead) where
+  -- a store elsewhere
+  pub kept : (start′ row′ : ℕ → ℕ) → ((i : ℕ) → i < n → start′ i ≡ start i) → ((j : ℕ) → j < at → row′ j ≡ row j) → Filled part start′ row′ n at ahead
+  kept start′ row′ starts rows =
+      record {
+        low = λ i h. rw (starts i (omega arith), starts (i + 1) h) (w .low i h);
+        high = λ i h. rw (starts (i + 1) h) (w .high i h);
+        done = λ i h.
+            rw (starts i (omega arith), starts (i + 1) h)
+            (span-agree row row′ (start i) (start (i + 1)) (λ j l. rows j (omega (arith, w .high i h))) ∙ w .done i h);
+        last-low = λ i h. rw (starts i (omega arith)) (w .last-low i h);
+        last = λ i h.
+            rw (starts i (omega arith))
+            (ap (λ (xs : List ℕ). xs ++ ahead) (span-agree row row′ (start i) at rows) ∙ w .last i h);
+      }
+
+  -- an item of another kind
+  pub same-ahead : (ahead′ : List ℕ) → ahead ≡ ahead′ → Filled part start row n at ahead′
+  same-ahead ahead′ e = rw e at w
+
+  -- an element of the last rule
+  pub one-read : (f : ℕ) (ahead′ : List ℕ) → ahead ≡ f ∷ ahead′ → row at ≡ f → Filled part start row n (at + 1) ahead′
+  one-read f ahead′ e stored =
+      record {
+        low = w .low;
+        high = λ i h. omega (arith, w .high i h);
+        done = w .done;
+        last-low = λ i h. omega (arith, w .last-low i h);
+        last = λ i h.
+            ap (λ (xs : List ℕ). xs ++ ahead′) (span-more row (start i) at (w .last-low i h))
+            ∙ append-assoc (span row (start i) at) (row at ∷ []) ahead′
+            ∙ ap (λ (x : ℕ). span row (start i) at ++ (x ∷ ahead′)) stored
+            ∙ ap (λ (xs : List ℕ). span row (start i) at ++ xs) (sym e)
+            ∙ w .last i h;
+      }
+
+  -- a rule is opened, or the last one ends
+  pub next-rule : (ahead′ : List ℕ) → ahead ≡ [] → start n ≡ at → part n ≡ ahead′ → Filled part start row (n + 1) at ahead′
+  next-rule ahead′ e begins own =
+      record {
+        low = λ i h. ⊎-elim (λ l. w .low i l) (λ q. ends i q) (earlier i h);
+        high = λ i h. ⊎-elim (λ l. w .high i l) (λ q. inside i q) (earlier i h);
+        done = λ i h. ⊎-elim (λ l. w .done i l) (λ q. whole i q) (earlier i h);
+        last-low = λ i h. let same : i ≡ n = omega arith in let here : start i ≡ at = ap start same ∙ begins in omega arith;
+        last = λ i h. newly i (omega arith);
+      }
+    where
+      newly : (i : ℕ) → i ≡ n → span row (start i) at ++ ahead′ ≡ part i
+      newly i q =
+          ap (λ (a : ℕ). span row a at ++ ahead′) (ap start q ∙ begins)
+          ∙ (ap (λ (xs : List ℕ). xs ++ ahead′) (span-end row at at (omega arith)) ∙ (sym own ∙ ap part (sym q)))
+
+      earlier : (i : ℕ) → i + 1 < n + 1 → (i + 1 < n) ⊎ (i + 1 ≡ n)
+      earlier i h = ⊎-elim (λ t. inl (ltb-true (i + 1) n t)) (λ t. let over : n ≤ i + 1 = ltb-false (i + 1) n t in inr (omega arith)) (either (ltb (i + 1) n))
+
+      inside : (i : ℕ) → i + 1 ≡ n → start (i + 1) ≤ at
+      inside i q = let here : start (i + 1) ≡ at = ap start q ∙ begins in omega arith
+
+      ends : (i : ℕ) → i + 1 ≡ n → start i ≤ start (i + 1)
+      ends i q = let here : start (i + 1) ≡ at = ap start q ∙ begins in omega (arith, w .last-low i q)
+
+      whole : (i : ℕ) → i + 1 ≡ n → span row (start i) (start (i + 1)) ≡ part i
+      whole i q = ap (span row (start i)) (ap start q ∙ begins) ∙ (unended (span row (start i) at) ∙ ap (λ (xs : List ℕ). span row (start i) at ++ xs) (sym e) ∙ w .last i q)
+        where
+          unended : (xs : List ℕ) → xs ≡ xs ++ []
+          unended [] = refl
+          unended (x ∷ xs) = ap (λ (ys : List ℕ). x ∷ ys) (unended xs)

@@ -1,0 +1,70 @@
+-- Counts over rules, by number and by list.
+use Prim.Native.Nat.{ℕ, zero, suc, _-_, _<_, _≤_}
+use mathlib.Core.Path.{_≡_, refl, ap, _∙_}
+use mathlib.Core.Bool.{Bool, false, cond, not, _&&_, _||_}
+use mathlib.Core.List.{List, [], _∷_}
+use native.Mathlib.Omega.{arith}
+use borrow.Author.Tests.{lt-ltb}
+use lib.ListN.{length, getD, replicate}
+use lib.Dec.{eqb}
+use Rattle.theory.specs.Rule.{mem, any, howMany, range, upTo, Rule, Program, count, rule, blank, null, exception, constraintFact, inForce}
+use Rattle.theory.proofs.Lists.{howMany-ext, howMany-le, length-range, mem-upTo}
+use Rattle.tables.specs.Marks.{paint}
+use Rattle.tables.proofs.MarksPainted.{painted}
+use Rattle.reader.specs.Questions.{exceptions, constraintFacts}
+
+-- k is a constraint of some of the rules
+abbrev pub constrained : List Rule → ℕ → Bool
+constrained [] k = false
+constrained (r ∷ rs) k = mem k (r .constraints) || constrained rs k
+
+-- how many of the rules have a constraint
+abbrev pub withConstraint : List Rule → ℕ
+withConstraint [] = 0
+withConstraint (r ∷ rs) = cond (not (null (r .constraints))) (suc (withConstraint rs)) (withConstraint rs)
+
+any-shift : (q : ℕ → Bool) (a n : ℕ) → any q (range (suc a) n) ≡ any (λ i. q (suc i)) (range a n)
+any-shift q a zero = refl
+any-shift q a (suc n) = ap (λ (b : Bool). q (suc a) || b) (any-shift q (suc a) n)
+
+howMany-shift : (q : ℕ → Bool) (a n : ℕ) → howMany q (range (suc a) n) ≡ howMany (λ i. q (suc i)) (range a n)
+howMany-shift q a zero = refl
+howMany-shift q a (suc n) = ap (λ (m : ℕ). cond (q (suc a)) (suc m) m) (howMany-shift q (suc a) n)
+
+some-rule : (k : ℕ) (rs : List Rule) → any (λ i. mem k (getD rs i blank .constraints)) (upTo (length rs)) ≡ constrained rs k
+some-rule k [] = refl
+some-rule k (r ∷ rs) =
+    ap (λ (b : Bool). mem k (r .constraints) || b)
+    (any-shift (λ i. mem k (getD (r ∷ rs) i blank .constraints)) 0 (length rs) ∙ some-rule k rs)
+
+pub constraint-fact : (P : Program) (k : ℕ) → constraintFact P (inForce P) k ≡ constrained (P .rules) k
+unfolding constraintFact
+constraint-fact P k = some-rule k (P .rules)
+
+counted-rules : (rs : List Rule) → howMany (λ i. not (null (getD rs i blank .constraints))) (upTo (length rs)) ≡ withConstraint rs
+counted-rules [] = refl
+counted-rules (r ∷ rs) =
+    ap (λ (m : ℕ). cond (not (null (r .constraints))) (suc m) m)
+    (howMany-shift (λ i. not (null (getD (r ∷ rs) i blank .constraints))) 0 (length rs) ∙ counted-rules rs)
+
+pub exceptions-of : (P : Program) → exceptions P ≡ withConstraint (P .rules)
+unfolding exceptions exception
+exceptions-of P =
+    howMany-ext (exception P) (λ i. not (null (rule P i .constraints))) (upTo (count P))
+    (λ i m. ap (λ (b : Bool). b && not (null (rule P i .constraints))) (lt-ltb i (count P) (mem-upTo (count P) i m)))
+    ∙ counted-rules (P .rules)
+
+-- No more exception rules than rules.
+pub exceptions-le : (P : Program) → exceptions P ≤ count P
+unfolding exceptions
+exceptions-le P = rw length-range at (howMany-le (exception P) (upTo (count P)))
+
+-- The count of the marks painted by the constraint facts.
+pub painted-count : (P : Program) (n : ℕ) → P .facts ≤ n → howMany (λ k. eqb (getD (paint (constraintFact P (inForce P)) (replicate n 0)) k 0) 1) (upTo (P .facts)) ≡ constraintFacts P
+unfolding constraintFacts
+painted-count P n h =
+    howMany-ext _ (constraintFact P (inForce P)) (upTo (P .facts))
+    (λ k m. painted n (constraintFact P (inForce P)) k (below k (mem-upTo (P .facts) k m)))
+  where
+    below : (k : ℕ) → k < P .facts → k < n
+    below k l = omega arith

@@ -1,0 +1,268 @@
+-- The tables while a scan fills them: the rules opened so far are stored, and of the last one what is read.
+use Prim.Native.Nat.{ℕ, suc, _+_, _-_, _*_, _<_, _≤_}
+use mathlib.Core.Path.{_≡_, refl, sym, ap, subst, _∙_}
+use mathlib.Core.List.{List, [], _∷_, map}
+use mathlib.Core.Logic.{_⊎_, inl, inr, ⊎-elim}
+use native.Mathlib.Omega.{arith}
+use native.Mathlib.Nat.{add-zero, zero-add}
+use borrow.Author.Tests.{ltb-true, ltb-false}
+use lib.ListN.{length, getD, set, drop, length-set}
+use lib.Seq.{getD-set-same, getD-set-other, getD-drop, drop-drop}
+use lib.Dec.{ltb}
+use Rattle.theory.specs.Rule.{Rule, range, upTo, blank, count, rule, Bounded}
+use Rattle.theory.proofs.Bools.{either}
+use Rattle.items.specs.declared.item.FactId.{FactId}
+use Rattle.items.specs.declared.item.Item.{Item}
+use Rattle.items.specs.declared.item.Item.the-variants.{Opens, Premise, Constraint, Rules}
+use Rattle.items.specs.declared.cursor.Cursor.{Cursor}
+use Rattle.items.specs.declared.cursor.Row.the-variants.{Body}
+use Rattle.items.specs.Item.{maxFacts, maxRules, maxBytes, itemWidth}
+use Rattle.items.specs.Cursor.{itemsAt, bodyAt}
+use Rattle.items.proofs.Items.{ReadAt}
+use Rattle.items.proofs.EachKind.{width-of-item}
+use Rattle.tables.specs.Layout.{maxOwn, conclusionsFrom, placesFrom, premiseStartsFrom, constraintStartsFrom, ownFrom, tableCells, lastCell, rulesIn, conclusionIn, placeIn, premiseStart, constraintStart, premiseAt, constraintAt, ruleIn, programIn}
+use Rattle.reader.specs.Questions.{premisesOf, constraintsOf, ruleOf, rulesOf}
+use Rattle.reader.specs.Scanned.{OwnAt}
+use Rattle.reader.specs.BodyScanned.{programFrom, BodyTabled}
+use Rattle.reader.specs.Stores.{withRule, withCounts}
+use Rattle.reader.proofs.PartsFilled.{Filled, none-filled, kept, same-ahead, one-read, next-rule}
+use Rattle.reader.proofs.CellsStored.{RuleStored, rule-stored, CountsStored, counts-stored}
+
+-- The rule numbered i of those from a cursor on.
+abbrev ruleFrom : List ℕ → Cursor → ℕ → Rule
+ruleFrom s c i = getD (rulesOf (itemsAt s c)) i blank
+
+pub record Storing (s : List ℕ) (c₀ c : Cursor) (T : List ℕ) (n filled barred : ℕ) : Type 0 where
+  -- the rules to come
+  pub passed : drop n (rulesOf (itemsAt s c₀)) ≡ rulesOf (itemsAt s c)
+  pub total : length (rulesOf (itemsAt s c₀)) ≡ n + length (rulesOf (itemsAt s c))
+  pub few : n ≤ maxRules
+  pub size : length T ≡ tableCells
+  pub conclusions : (i : ℕ) → i < n → conclusionIn T i ≡ ruleFrom s c₀ i .conclusion
+  pub places : (i : ℕ) → i < n → OwnAt s (placeIn T i) (ruleFrom s c₀ i)
+  pub premises : Filled (λ i. ruleFrom s c₀ i .premises) (premiseStart T) (premiseAt T) n filled (premisesOf (itemsAt s c))
+  pub constraints : Filled (λ i. ruleFrom s c₀ i .constraints) (constraintStart T) (constraintAt T) n barred (constraintsOf (itemsAt s c))
+  -- each premise and each constraint has an item of its own
+  pub spent : itemWidth * (filled + barred) ≤ c .at
+
+pub none-stored : (s : List ℕ) (c : Cursor) (T : List ℕ) → length T ≡ tableCells → Storing s c c T 0 0 0
+none-stored s c T size =
+    record {
+      passed = refl;
+      total = omega arith;
+      few = omega arith;
+      size = size;
+      conclusions = λ i h. absurd (omega arith);
+      places = λ i h. absurd (omega arith);
+      premises = none-filled _ _ _ _;
+      constraints = none-filled _ _ _ _;
+      spent = omega arith;
+    }
+
+last-or-before : (i n : ℕ) → i < n + 1 → (i < n) ⊎ (i ≡ n)
+last-or-before i n h = ⊎-elim (λ t. inl (ltb-true i n t)) (λ t. let over : n ≤ i = ltb-false i n t in inr (omega arith)) (either (ltb i n))
+
+-- the first of the rules to come, and the others
+to-come : (rs : List Rule) (n : ℕ) (r : Rule) (rest : List Rule) → drop n rs ≡ r ∷ rest → (getD rs n blank ≡ r) × (drop (n + 1) rs ≡ rest)
+to-come rs n r rest e =
+    (ap (λ (i : ℕ). getD rs i blank) (sym (add-zero n)) ∙ (sym (getD-drop n rs 0 blank) ∙ ap (λ (l : List Rule). getD l 0 blank) e), sym (drop-drop 1 n rs) ∙ ap (drop 1) e)
+
+module _ {s : List ℕ} {c₀ c : Cursor} {T : List ℕ} {n filled barred : ℕ} (w : Storing s c₀ c T n filled barred) where
+  -- There is room for what is read.
+  pub fits : {i : Item} {d : Cursor} → ReadAt s c i d → length s ≤ maxBytes → (d .at ≤ maxBytes) × (filled ≤ maxOwn) × (barred ≤ maxOwn)
+  fits r short = (omega (arith, r .inside), omega (arith, w .spent, r .forward, r .inside), omega (arith, w .spent, r .forward, r .inside))
+
+  pub fits-one : {i : Item} {d : Cursor} → ReadAt s c i d → d .at ≡ c .at + itemWidth → length s ≤ maxBytes → filled + barred + 1 < maxOwn
+  fits-one r wide short = omega (arith, w .spent, r .inside)
+
+  -- a rule
+  module _ {f : FactId} {d : Cursor} (r : ReadAt s c (Opens f) d) (body : d .row ≡ Body) (room : n < maxRules) (short : length s ≤ maxBytes) where
+    opened-rule : getD (rulesOf (itemsAt s c₀)) n blank ≡ ruleOf f (itemsAt s d)
+    opened-rule = to-come (rulesOf (itemsAt s c₀)) n _ _ (w .passed ∙ ap rulesOf (r .items)) .0
+
+    pub rule-kept : Storing s c₀ d (withRule T n (f .0) (d .at) filled barred) (n + 1) filled barred
+    rule-kept = go (rule-stored T (w .size) n (f .0) (d .at) filled barred room)
+      where
+        go : {T′ : List ℕ} → RuleStored T T′ n (f .0) (d .at) filled barred → Storing s c₀ d T′ (n + 1) filled barred
+        go {T′} t =
+            record {
+              passed = to-come (rulesOf (itemsAt s c₀)) n _ _ (w .passed ∙ ap rulesOf (r .items)) .1;
+              total = w .total ∙ ap (λ ts. n + length (rulesOf ts)) (r .items) ∙ omega arith;
+              few = omega arith;
+              size = t .size;
+              conclusions = λ i h. ⊎-elim (λ l. before-conclusion i l ∙ w .conclusions i l) (λ q. rw q (t .conclusion ∙ sym (ap (λ (x : Rule). x .conclusion) opened-rule))) (last-or-before i n h);
+              places = λ i h. ⊎-elim (λ l. rw (before-place i l) (w .places i l)) (λ q. at-last i q) (last-or-before i n h);
+              premises =
+                  next-rule (kept (w .premises) (premiseStart T′) (premiseAt T′) before-premise row-premise) (premisesOf (itemsAt s d)) (ap premisesOf (r .items)) (t .premise)
+                  (ap (λ (x : Rule). x .premises) opened-rule);
+              constraints =
+                  next-rule (kept (w .constraints) (constraintStart T′) (constraintAt T′) before-constraint row-constraint) (constraintsOf (itemsAt s d)) (ap constraintsOf (r .items)) (t .constraint)
+                  (ap (λ (x : Rule). x .constraints) opened-rule);
+              spent = omega (arith, w .spent, r .forward);
+            }
+          where
+            before-conclusion : (i : ℕ) → i < n → conclusionIn T′ i ≡ conclusionIn T i
+            before-conclusion i l = t .kept (conclusionsFrom + i) (λ e. omega arith) (λ e. omega arith) (λ e. omega arith) (λ e. omega arith)
+
+            before-place : (i : ℕ) → i < n → placeIn T′ i ≡ placeIn T i
+            before-place i l = t .kept (placesFrom + i) (λ e. omega arith) (λ e. omega arith) (λ e. omega arith) (λ e. omega arith)
+
+            before-premise : (i : ℕ) → i < n → premiseStart T′ i ≡ premiseStart T i
+            before-premise i l = t .kept (premiseStartsFrom + i) (λ e. omega arith) (λ e. omega arith) (λ e. omega arith) (λ e. omega arith)
+
+            before-constraint : (i : ℕ) → i < n → constraintStart T′ i ≡ constraintStart T i
+            before-constraint i l = t .kept (constraintStartsFrom + i) (λ e. omega arith) (λ e. omega arith) (λ e. omega arith) (λ e. omega arith)
+
+            row-premise : (j : ℕ) → j < filled → premiseAt T′ j ≡ premiseAt T j
+            row-premise j l = t .kept (ownFrom + j) (λ e. omega arith) (λ e. omega arith) (λ e. omega arith) (λ e. omega arith)
+
+            barred-fit : barred ≤ maxOwn
+            barred-fit = omega (arith, w .spent, r .forward, r .inside)
+
+            row-constraint : (j : ℕ) → j < barred → constraintAt T′ j ≡ constraintAt T j
+            row-constraint j l = let b : barred ≤ maxOwn = barred-fit in t .kept (lastCell - j) (λ e. omega arith) (λ e. omega arith) (λ e. omega arith) (λ e. omega arith)
+
+            here : bodyAt (d .at) ≡ d
+            here = λ j. record { at = d .at; row = sym body j }
+
+            own-here : OwnAt s (d .at) (ruleFrom s c₀ n)
+            own-here =
+                record {
+                  premises = ap (λ (x : Cursor). premisesOf (itemsAt s x)) here ∙ sym (ap (λ (x : Rule). x .premises) opened-rule);
+                  constraints = ap (λ (x : Cursor). constraintsOf (itemsAt s x)) here ∙ sym (ap (λ (x : Rule). x .constraints) opened-rule);
+                }
+
+            at-last : (i : ℕ) → i ≡ n → OwnAt s (placeIn T′ i) (ruleFrom s c₀ i)
+            at-last i q = subst (λ (j : ℕ). OwnAt s (placeIn T′ j) (ruleFrom s c₀ j)) (sym q) (subst (λ (p : ℕ). OwnAt s p (ruleFrom s c₀ n)) (sym (t .place)) own-here)
+
+  -- a premise
+  module _ {f : FactId} {d : Cursor} (r : ReadAt s c (Premise f) d) (short : length s ≤ maxBytes) where
+    pub premise-kept : Storing s c₀ d (set T (ownFrom + filled) (f .0)) n (filled + 1) barred
+    premise-kept =
+        record {
+          passed = w .passed ∙ ap rulesOf (r .items);
+          total = w .total ∙ ap (λ ts. n + length (rulesOf ts)) (r .items);
+          few = w .few;
+          size = length-set T (ownFrom + filled) (f .0) ∙ w .size;
+          conclusions = λ i h. elsewhere (conclusionsFrom + i) (λ e. omega (arith, w .few)) ∙ w .conclusions i h;
+          places = λ i h. rw (elsewhere (placesFrom + i) (λ e. omega (arith, w .few))) (w .places i h);
+          premises =
+              one-read (kept (w .premises) (premiseStart T′) (premiseAt T′) (λ i h. elsewhere (premiseStartsFrom + i) (λ e. omega (arith, w .few))) (λ j h. elsewhere (ownFrom + j) (λ e. omega arith))) (f .0) (premisesOf (itemsAt s d))
+              (ap premisesOf (r .items)) (getD-set-same T (ownFrom + filled) (f .0) 0 (omega (arith, w .size, room)));
+          constraints =
+              same-ahead (kept (w .constraints) (constraintStart T′) (constraintAt T′) (λ i h. elsewhere (constraintStartsFrom + i) (λ e. omega (arith, w .few))) (λ j h. elsewhere (lastCell - j) (λ e. omega (arith, room))))
+              (constraintsOf (itemsAt s d)) (ap constraintsOf (r .items));
+          spent = omega (arith, w .spent, width-of-item r);
+        }
+      where
+        T′ : List ℕ
+        T′ = set T (ownFrom + filled) (f .0)
+
+        room : filled + barred + 1 < maxOwn
+        room = fits-one r (width-of-item r) short
+
+        elsewhere : (k : ℕ) → (k ≡ ownFrom + filled → ⊥) → getD T′ k 0 ≡ getD T k 0
+        elsewhere k h = getD-set-other T (ownFrom + filled) k (f .0) 0 h
+
+  -- a constraint
+  module _ {f : FactId} {d : Cursor} (r : ReadAt s c (Constraint f) d) (short : length s ≤ maxBytes) where
+    pub constraint-kept : Storing s c₀ d (set T (lastCell - barred) (f .0)) n filled (barred + 1)
+    constraint-kept =
+        record {
+          passed = w .passed ∙ ap rulesOf (r .items);
+          total = w .total ∙ ap (λ ts. n + length (rulesOf ts)) (r .items);
+          few = w .few;
+          size = length-set T (lastCell - barred) (f .0) ∙ w .size;
+          conclusions = λ i h. elsewhere (conclusionsFrom + i) (λ e. omega (arith, w .few, room)) ∙ w .conclusions i h;
+          places = λ i h. rw (elsewhere (placesFrom + i) (λ e. omega (arith, w .few, room))) (w .places i h);
+          premises =
+              same-ahead (kept (w .premises) (premiseStart T′) (premiseAt T′) (λ i h. elsewhere (premiseStartsFrom + i) (λ e. omega (arith, w .few, room))) (λ j h. elsewhere (ownFrom + j) (λ e. omega (arith, room))))
+              (premisesOf (itemsAt s d)) (ap premisesOf (r .items));
+          constraints =
+              one-read (kept (w .constraints) (constraintStart T′) (constraintAt T′) (λ i h. elsewhere (constraintStartsFrom + i) (λ e. omega (arith, w .few, room))) (λ j h. elsewhere (lastCell - j) (λ e. omega (arith, room)))) (f .0) (constraintsOf (itemsAt s d))
+              (ap constraintsOf (r .items)) (getD-set-same T (lastCell - barred) (f .0) 0 (omega (arith, w .size, room)));
+          spent = omega (arith, w .spent, width-of-item r);
+        }
+      where
+        T′ : List ℕ
+        T′ = set T (lastCell - barred) (f .0)
+
+        room : filled + barred + 1 < maxOwn
+        room = fits-one r (width-of-item r) short
+
+        elsewhere : (k : ℕ) → (k ≡ lastCell - barred → ⊥) → getD T′ k 0 ≡ getD T k 0
+        elsewhere k h = getD-set-other T (lastCell - barred) k (f .0) 0 h
+
+-- Rules that are the same one by one.
+same-rules : (g : ℕ → Rule) (a : ℕ) (rs : List Rule) → ((i : ℕ) → i < length rs → g (a + i) ≡ getD rs i blank) → map g (range a (length rs)) ≡ rs
+same-rules g a [] h = refl
+same-rules g a (r ∷ rs) h = rw (← first, same-rules g (suc a) rs later)
+  where
+    first : g a ≡ r
+    first = ap g (sym (add-zero a)) ∙ h 0 (omega arith)
+
+    later : (i : ℕ) → i < length rs → g (suc a + i) ≡ getD rs i blank
+    later i l = let next : suc a + i ≡ a + suc i = omega arith in ap g next ∙ h (suc i) (omega arith)
+
+-- The count of rules ends the body: the tables hold the program.
+module _ {s : List ℕ} {c₀ c : Cursor} {T : List ℕ} {n filled barred : ℕ} (w : Storing s c₀ c T n filled barred) {k : ℕ} {d : Cursor} (r : ReadAt s c (Rules k) d) (ends : itemsAt s d ≡ []) (short : length s ≤ maxBytes) where
+  pub all-read : length (rulesOf (itemsAt s c₀)) ≡ n
+  all-read = w .total ∙ (ap (λ ts. n + length (rulesOf ts)) (r .items) ∙ (ap (λ ts. n + length (rulesOf ts)) ends ∙ add-zero n))
+
+  module _ {facts : ℕ} {T′ : List ℕ} (t : CountsStored T T′ facts n filled barred) where
+    premises-whole : Filled (λ i. ruleFrom s c₀ i .premises) (premiseStart T′) (premiseAt T′) (n + 1) filled (ruleFrom s c₀ n .premises)
+    premises-whole =
+        next-rule
+        (kept (w .premises) (premiseStart T′) (premiseAt T′) (λ i l. t .kept (premiseStartsFrom + i) (omega arith) (λ e. omega arith) (λ e. omega (arith, w .few))) (λ j l. t .kept (ownFrom + j) (omega arith) (λ e. omega (arith, w .few)) (λ e. omega (arith, w .few))))
+        _ (ap premisesOf (r .items)) (t .premise) refl
+
+    all-fit : filled + barred < maxOwn
+    all-fit = omega (arith, w .spent, r .forward, r .inside)
+
+    constraints-whole : Filled (λ i. ruleFrom s c₀ i .constraints) (constraintStart T′) (constraintAt T′) (n + 1) barred (ruleFrom s c₀ n .constraints)
+    constraints-whole =
+        next-rule
+        (kept (w .constraints) (constraintStart T′) (constraintAt T′) (λ i l. t .kept (constraintStartsFrom + i) (omega arith) (λ e. omega (arith, w .few)) (λ e. omega arith)) (λ j l. t .kept (lastCell - j) (omega (arith, all-fit)) (λ e. omega (arith, w .few, all-fit)) (λ e. omega (arith, w .few, all-fit))))
+        _ (ap constraintsOf (r .items)) (t .constraint) refl
+
+    rule-there : (i : ℕ) → i < n → ruleIn T′ i ≡ ruleFrom s c₀ i
+    unfolding ruleIn
+    rule-there i h = λ j. record { conclusion = same-conclusion j; premises = premises-whole .done i (omega arith) j; constraints = constraints-whole .done i (omega arith) j }
+      where
+        same-conclusion : conclusionIn T′ i ≡ ruleFrom s c₀ i .conclusion
+        same-conclusion = t .kept (conclusionsFrom + i) (omega arith) (λ e. omega (arith, w .few)) (λ e. omega (arith, w .few)) ∙ w .conclusions i h
+
+    program-there : programIn T′ ≡ programFrom facts s c₀
+    unfolding programIn
+    program-there = λ j. record { facts = t .facts j; rules = rules-there j }
+      where
+        rules-there : map (ruleIn T′) (upTo (rulesIn T′)) ≡ rulesOf (itemsAt s c₀)
+        rules-there =
+            ap (λ (m : ℕ). map (ruleIn T′) (upTo m)) (t .rules ∙ sym all-read)
+            ∙ same-rules (ruleIn T′) 0 (rulesOf (itemsAt s c₀)) (λ i h. ap (ruleIn T′) (zero-add i) ∙ rule-there i (rw all-read at h))
+
+    tabled : facts < maxFacts → Bounded (programFrom facts s c₀) → BodyTabled facts s c₀ T′
+    tabled few bounded =
+        record {
+          program = program-there;
+          well-formed =
+              record {
+                facts-few = rw (t .facts) few;
+                rules-few = rw (t .rules) (w .few);
+                premise-spans = record { low = λ i h. premises-whole .low i (below i h); high = λ i h. omega (arith, premises-whole .high i (below i h), all-fit) };
+                constraint-spans = record { low = λ i h. constraints-whole .low i (below i h); high = λ i h. omega (arith, constraints-whole .high i (below i h), all-fit) };
+                own-few = rw (t .rules, t .premise, t .constraint) all-fit;
+                in-bounds = rw program-there bounded;
+              };
+          placed = λ i h.
+              rw (t .kept (placesFrom + i) (omega arith) (λ e. omega (arith, w .few, in-range i h)) (λ e. omega (arith, w .few, in-range i h))) (w .places i (in-range i h));
+        }
+      where
+        below : (i : ℕ) → i < rulesIn T′ → i + 1 < n + 1
+        below i h = omega (arith, t .rules)
+
+        in-range : (i : ℕ) → i < count (programFrom facts s c₀) → i < n
+        in-range i h = rw all-read at h
+
+  pub all-stored : {facts : ℕ} → facts < maxFacts → Bounded (programFrom facts s c₀) → BodyTabled facts s c₀ (withCounts T facts n filled barred)
+  all-stored {facts} few bounded = tabled (counts-stored T (w .size) facts n filled barred (w .few)) few bounded

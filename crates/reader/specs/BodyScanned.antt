@@ -1,0 +1,36 @@
+-- Internal: what the scan of the items after the first answers, and what it leaves in the tables.
+use Prim.Native.Nat.{ℕ, _<_}
+use mathlib.Core.Path.{_≡_}
+use mathlib.Core.List.{List}
+use mathlib.Core.Option.{Option, none}
+use lib.ListN.{replicate}
+use Rattle.theory.specs.Rule.{Program, count, rule}
+use Rattle.items.specs.declared.refusal.Refusal.{Refusal}
+use Rattle.items.specs.declared.cursor.Cursor.{Cursor}
+use Rattle.items.specs.Item.{maxFacts}
+use Rattle.items.specs.Question.{firstNo}
+use Rattle.items.specs.Cursor.{itemsAt}
+use Rattle.tables.specs.Layout.{placeIn, programIn, WellFormed}
+use Rattle.reader.specs.Questions.{rulesOf, fresh, bodyQuestions}
+use Rattle.reader.specs.Scanned.{OwnAt}
+
+-- The program of n facts, and the first no to questions 3 to 10, where the items after the first start at c.
+abbrev pub programFrom : ℕ → List ℕ → Cursor → Program
+programFrom n s c = record { facts = n; rules = rulesOf (itemsAt s c) }
+
+abbrev pub bodyNo : ℕ → List ℕ → Cursor → Option Refusal
+bodyNo n s c = firstNo (bodyQuestions (fresh n) (itemsAt s c))
+
+-- The tables hold that program, and where each rule's own items stand.
+pub record BodyTabled (n : ℕ) (s : List ℕ) (c : Cursor) (T : List ℕ) : Type 0 where
+  pub program : programIn T ≡ programFrom n s c
+  pub well-formed : WellFormed T
+  pub placed : (i : ℕ) → i < count (programFrom n s c) → OwnAt s (placeIn T i) (rule (programFrom n s c) i)
+
+-- They do where each question gets yes.
+abbrev pub BodyScanned : ℕ → List ℕ → Cursor → List ℕ → Type 0
+BodyScanned n s c T = _≡_ {A = Option Refusal} (bodyNo n s c) none → BodyTabled n s c T
+
+-- No fact is marked yet.
+pub record Unmarked (marks : List ℕ) : Type 0 where
+  pub zeros : marks ≡ replicate maxFacts 0

@@ -1,8 +1,0 @@
--- What is promised.
-pub mod Questions
-pub mod Answer
--- What only code and proofs use.
-pub mod Orders
-pub mod RuleAt
-pub mod Named
-pub mod Put

@@ -1,0 +1,29 @@
+-- The facts to guess, as marked.
+use Prim.Native.Nat.{ℕ, _≤_, _<_}
+use native.Mathlib.Omega.{arith}
+use mathlib.Core.Path.{_≡_, ap₂, _∙_}
+use mathlib.Core.List.{List}
+use lib.ListN.{replicate}
+use Rattle.theory.specs.Rule.{keep, howMany, upTo, downFrom, Program, inForce, constraintFact}
+use Rattle.theory.specs.Search.{guessed}
+use Rattle.theory.proofs.Lists.{mem-downFrom, keep-same}
+use Rattle.items.specs.Item.{maxFacts, has}
+use Rattle.reader.specs.Questions.{constraintFacts}
+use Rattle.reader.proofs.RulesCounted.{painted-count}
+use Rattle.tables.specs.Marks.{paint}
+use Rattle.tables.proofs.MarksPainted.{painted}
+
+-- The constraint facts, as marked.
+module _ (P : Program) (h : P .facts ≤ maxFacts) (marks : List ℕ) (m : marks ≡ paint (constraintFact P (inForce P)) (replicate maxFacts 0)) (n : ℕ) (f : n ≡ P .facts) where
+  pub guesses-counted : howMany (has marks) (upTo n) ≡ constraintFacts P
+  unfolding has
+  guesses-counted = ap₂ (λ (l : List ℕ) (k : ℕ). howMany (has l) (upTo k)) m f ∙ painted-count P maxFacts h
+
+  pub guesses-listed : keep (has marks) (downFrom n) ≡ guessed P (inForce P)
+  unfolding has guessed
+  guesses-listed =
+      ap₂ (λ (l : List ℕ) (k : ℕ). keep (has l) (downFrom k)) m f
+      ∙ keep-same _ (constraintFact P (inForce P)) (downFrom (P .facts)) (λ k d. painted maxFacts (constraintFact P (inForce P)) k (below (mem-downFrom (P .facts) k d)))
+    where
+      below : {k : ℕ} → k < P .facts → k < maxFacts
+      below l = omega arith

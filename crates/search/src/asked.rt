@@ -1,0 +1,46 @@
+// The questions of a search on an accepted file, but for the last. Internal.
+ghost use mathlib.Core.Path.{_≡_};
+ghost use mathlib.Core.List.{_++_};
+ghost use Rattle.theory.specs.Rule.{Program};
+ghost use Rattle.items.specs.Question.{firstNo};
+ghost use Rattle.tables.specs.Layout.{programIn, WellFormed};
+ghost use Rattle.reader.specs.Asked.{countsOf};
+ghost use Rattle.questions.specs.Answer.{answerOf};
+ghost use Rattle.questions.specs.Questions.{limitsNo, bufferQuestions, limitQuestions};
+use earliest::guessed::MAX_GUESSED;
+use items::refusal::Refusal;
+use items::write::NAME_WIDTH;
+use questions::answer::Answer;
+use reader::answer::FileCounts;
+use tables::layout::TABLE_CELLS;
+
+// Questions 34 and 40, by the counts of the file and the length of the order's buffer.
+fn ask_limits(counts: FileCounts, order: usize) -> Answer
+    ensures { λ r. ⌜ ((P : Program) → counts ≡ countsOf P → r ≡ answerOf (limitsNo P order)) ⌝ }
+{
+    if order < NAME_WIDTH * (counts.exceptions as usize) {
+        return Answer::No(Refusal::OrderShort);
+    }
+    if MAX_GUESSED < counts.constraints as usize {
+        return Answer::No(Refusal::TooManyConstraints);
+    }
+    Answer::Yes
+}
+
+// The questions of the buffers, by their lengths, then of the constraint facts.
+pub fn ask_search(
+    tables: &[u16; TABLE_CELLS],
+    counts: FileCounts,
+    facts: usize,
+    rules: usize,
+    steps: usize,
+    order: usize,
+) -> Answer
+    requires { ⌜ WellFormed (now tables) × (counts ≡ countsOf (programIn (now tables))) ⌝ }
+    ensures { λ r. ⌜ r ≡ answerOf (firstNo (bufferQuestions (programIn (now (tables .entry))) facts rules steps ++ limitQuestions (programIn (now (tables .entry))) order)) ⌝ }
+{
+    match questions::buffers::ask_buffers(tables, facts, rules, steps) {
+        Answer::No(r) => Answer::No(r),
+        Answer::Yes => ask_limits(counts, order),
+    }
+}

@@ -1,0 +1,4 @@
+pub mod MarksPainted
+pub mod ProgramHeld
+pub mod PartsSpanned
+pub mod RulesMarked

@@ -1,0 +1,3 @@
+-- What only code and proofs use.
+pub mod Layout
+pub mod Marks
