@@ -1,2 +1,2 @@
 pub mod LowestReady
-pub mod StepsDerived
+pub mod RulesFired

@@ -1,17 +1,22 @@
-// Deriving over lent bytes. Internal.
-ghost use Prim.Native.Nat.{_≤_};
+// Deriving over lent marks. Internal.
+ghost use Prim.Native.Nat.{_+_, _≤_};
 ghost use mathlib.Core.Path.{_≡_};
-ghost use lib.ListN.{length};
-ghost use Rattle.theory.specs.Derive.{lowest, fired, derive as derived, steps as stepsOf};
-ghost use Rattle.items.specs.Item.{has};
+ghost use mathlib.Core.Bool.{false};
+ghost use lib.ListN.{length, take};
+ghost use Rattle.theory.specs.Derive.{lowest, fired as firedFrom, meets, derive as derived};
+ghost use Rattle.items.specs.Item.{narrow, maxFacts, has};
 ghost use Rattle.items.specs.Write.{placed};
 ghost use Rattle.tables.specs.Layout.{programIn, WellFormed};
-ghost use Rattle.tables.specs.Marks.{paint};
-ghost use Rattle.closure.specs.Steps.{stepBytes, foundOf};
+ghost use Rattle.marking.specs.Marks.{barredIn, paint};
+ghost use Rattle.closure.specs.Steps.{foundOf, derivationOf};
 ghost use Rattle.closure.specs.Room.{Room};
+use crate::derivation::Derivation;
 use crate::found::Found;
+use items::item::MAX_FACTS;
 use items::item::MAX_RULES;
 use items::item::RuleId;
+use marking::marks::BARRED;
+use marking::marks::IN;
 use tables::layout::TABLE_CELLS;
 use tables::layout::rules_of;
 use tables::rule::conclusion_in;
@@ -40,35 +45,38 @@ pub fn lowest_ready(tables: &[u16; TABLE_CELLS], mask: &[u8; MAX_RULES], set: &[
     Found::Nothing
 }
 
-// Derives from the set by the rules of the mask: marks each fact derived in the set, writes its step at the place given and on from there,
-// and answers the number of steps.
+// Derives from the set of the marks by the rules of the mask, up to the first fact that is barred: marks each fact derived, and enters the rules
+// fired in their order, from a place on.
 pub fn derive(
     tables: &[u16; TABLE_CELLS],
     mask: &[u8; MAX_RULES],
-    set: &mut [u8],
-    steps: &mut [u8],
+    marks: &mut [u8; MAX_FACTS],
+    fired: &mut [u16; MAX_FACTS],
     at: usize,
-) -> usize
+) -> Derivation
     requires { ⌜ WellFormed (now tables) ⌝ }
-    requires { ⌜ Room (programIn (now tables)) (now set) (now steps) at ⌝ }
-    ensures { λ r. ⌜ r ≡ length (fired (programIn (now (tables .entry))) (has (now (mask .entry))) (has (now (set .entry)))) ⌝ }
-    ensures { λ _. ⌜ now (set .exit) ≡ paint (derived (programIn (now (tables .entry))) (has (now (mask .entry))) (has (now (set .entry)))) (now (set .entry)) ⌝ }
-    ensures { λ _. ⌜ now (steps .exit) ≡ placed (stepBytes (stepsOf (programIn (now (tables .entry))) (has (now (mask .entry))) (has (now (set .entry))))) at (now (steps .entry)) ⌝ }
+    requires { ⌜ Room (programIn (now tables)) (now marks) at ⌝ }
+    requires { ⌜ length (now fired) ≡ maxFacts narrow ⌝ }
+    ensures { λ r. ⌜ r ≡ derivationOf (meets (programIn (now (tables .entry))) (has (now (mask .entry))) (barredIn (now (marks .entry))) (has (now (marks .entry)))) (at + length (firedFrom (programIn (now (tables .entry))) (has (now (mask .entry))) (has (now (marks .entry))))) ⌝ }
+    ensures { λ _. ⌜ (meets (programIn (now (tables .entry))) (has (now (mask .entry))) (barredIn (now (marks .entry))) (has (now (marks .entry))) ≡ false → (now (marks .exit) ≡ paint (derived (programIn (now (tables .entry))) (has (now (mask .entry))) (has (now (marks .entry)))) (now (marks .entry))) × (now (fired .exit) ≡ placed (firedFrom (programIn (now (tables .entry))) (has (now (mask .entry))) (has (now (marks .entry)))) at (now (fired .entry)))) ⌝ }
+    ensures { λ _. ⌜ take at (now (fired .exit)) ≡ take at (now (fired .entry)) ⌝ }
+    ensures { λ _. ⌜ length (now (fired .exit)) ≡ maxFacts narrow ⌝ }
 {
-    let mut n: usize = 0;
     let mut to = at;
     loop {
-        match lowest_ready(tables, mask, set) {
+        match lowest_ready(tables, mask, marks) {
             Found::Nothing => {
-                return n;
+                return Derivation::Closed(to);
             }
             Found::At(rule) => {
                 let fact = tables::rule::conclusion(tables, rule);
                 let f = fact.0 as usize;
-                set[f] = 1;
-                items::write::write_step_item(steps, to, fact, rule);
-                to += items::write::STEP_WIDTH;
-                n += 1;
+                if marks[f] == BARRED {
+                    return Derivation::Barred;
+                }
+                marks[f] = IN;
+                fired[to] = rule.0;
+                to += 1;
             }
         }
     }

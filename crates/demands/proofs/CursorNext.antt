@@ -6,13 +6,12 @@ use mathlib.Core.List.{List}
 use mathlib.Core.Option.{Option, none, some}
 use lib.ListN.{drop}
 use Rattle.items.specs.declared.refusal.Refusal.{Refusal}
-use Rattle.items.specs.declared.cursor.Row.the-variants.{Order, Steps}
-use Rattle.items.specs.declared.cursor.Cursor.{Cursor}
-use Rattle.items.specs.declared.cursor.Read.the-variants.{Ended, Refused}
+use Rattle.cursors.specs.declared.cursor.Cursor.{Cursor}
+use Rattle.cursors.specs.declared.cursor.Read.the-variants.{Ended, Refused}
 use Rattle.items.specs.Question.{firstNo, noNumber}
-use Rattle.items.specs.Cursor.{Token, item, bad, front, past, placeQuestions, stayed, readOf, nextAt}
-use Rattle.items.proofs.ReadNumbers.{read-numbers}
-use Rattle.items.proofs.CursorWays.{no-byte}
+use Rattle.cursors.specs.Cursor.{Token, item, bad, front, past, placeQuestions, stayed, readOf, nextAt}
+use Rattle.cursors.proofs.ReadNumbers.{read-numbers}
+use Rattle.cursors.proofs.CursorWays.{no-byte}
 use Rattle.demands.specs.Calls.{RefusesExactly, nextCall, Stays}
 use Rattle.demands.proofs.RefusesExactly.{refuses-exactly}
 use Rattle.demands.proofs.OwnNumbers.{place-own}

@@ -1,5 +1,4 @@
 -- The three demands.
-use mathlib.Core.Path.{_≡_}
 use Rattle.judge.proofs.Meaning.{judged-means}
 use Rattle.proofcheck.proofs.Meaning.{checked-means}
 use Rattle.search.proofs.SearchMeaning.{searched-means}

@@ -20,17 +20,17 @@ use Rattle.theory.proofs.Rows.{run-proof, run-admits}
 use Rattle.theory.proofs.Stable.{stable-within, outside-no-proof}
 use Rattle.theory.proofs.Check.{test-of-proof}
 use Rattle.items.specs.declared.refusal.Refusal.{Refusal}
-use Rattle.items.specs.Cursor.{itemsAt, stepsStart}
+use Rattle.cursors.specs.Cursor.{itemsAt, stepsStart}
 use Rattle.reader.specs.Questions.{programOf, fileQuestions, fileNo}
 use Rattle.reader.proofs.Accepted.{accepted-file, bounded}
 use Rattle.items.proofs.FirstNo.{all-yes}
-use Rattle.items.specs.Item.{has}
+use Rattle.items.specs.Item.{narrow, has}
 use Rattle.questions.specs.Questions.{whole, orderQuestions, setQuestions, rowQuestions, rowOf, bufferQuestions, runQuestions, buffersNo, runNo, checkQuestions, checkNo, naming}
 use Rattle.questions.proofs.Orders.{naming-names}
 use Rattle.closure.specs.Steps.{stepBytes}
 use Rattle.run.specs.Outcome.{RunOutcome, runOf, runWritten, runOutcome}
 use Rattle.run.specs.Outcome as running
-use Rattle.run.proofs.StepsWritten.{steps-read, steps-whole}
+use Rattle.run.proofs.ReadSteps.{steps-read, steps-whole}
 use Rattle.proofcheck.specs.declared.answer.Checked.{Checked}
 use Rattle.proofcheck.specs.declared.answer.Checked.the-variants as checking
 use Rattle.proofcheck.specs.Checked.{checked}
@@ -77,7 +77,7 @@ module _ (file : List ℕ) (accepted : _≡_ {A = Option Refusal} (fileNo file) 
   set-is = set-back (P .facts) M within
 
   -- The rows up to each fact's own step, wherever they are written.
-  module _ (rows : ℕ → List ℕ) (rows-are : (f : ℕ) → rows f ≡ stepBytes (rowTo f (s .trace))) where
+  module _ (rows : ℕ → List ℕ) (rows-are : (f : ℕ) → rows f ≡ stepBytes narrow (rowTo f (s .trace))) where
     pub rows-read : (f : ℕ) → rowOf (rows f) ≡ rowTo f (s .trace)
     rows-read f = ap rowOf (rows-are f) ∙ steps-read (rowTo f (s .trace))
 
@@ -103,12 +103,12 @@ module _ (file : List ℕ) (accepted : _≡_ {A = Option Refusal} (fileNo file) 
     rows-prove = record { proves = proves; admitted = λ f _. admits f; says-yes = yes-said }
 
   -- The run under the order.
-  module _ (facts rules steps : List ℕ) (fit : _≡_ {A = Option Refusal} (buffersNo P (length facts) (length rules) (length steps)) none) where
+  module _ (facts rules steps : List ℕ) (fit : _≡_ {A = Option Refusal} (buffersNo narrow P (length facts) (length rules) (length steps)) none) where
     may-run : _≡_ {A = Option Refusal} (runNo file (naming row) (length facts) (length rules) (length steps)) none
     unfolding runQuestions
     may-run =
-        all-yes (fileQuestions file) (orderQuestions (exception P) (count P) (naming row) ++ bufferQuestions P (length facts) (length rules) (length steps)) accepted
-        (all-yes (orderQuestions (exception P) (count P) (naming row)) (bufferQuestions P (length facts) (length rules) (length steps)) (search-order-yes P M) fit)
+        all-yes (fileQuestions file) (orderQuestions (exception P) (count P) (naming row) ++ bufferQuestions narrow P (length facts) (length rules) (length steps)) accepted
+        (all-yes (orderQuestions (exception P) (count P) (naming row)) (bufferQuestions narrow P (length facts) (length rules) (length steps)) (search-order-yes P M) fit)
 
     pub ran-under : runOf file (naming row) ≡ s
     ran-under = ap (run P (inForce P)) (naming-names row)
@@ -121,10 +121,10 @@ module _ (file : List ℕ) (accepted : _≡_ {A = Option Refusal} (fileNo file) 
         run-written file (naming row) facts rules steps may-run
         ∙ ap (λ (t : Stand). runWritten P t facts rules steps) ran-under
 
-    row-there : (f : ℕ) → rowUpTo f o ≡ stepBytes (rowTo f (s .trace))
+    row-there : (f : ℕ) → rowUpTo f o ≡ stepBytes narrow (rowTo f (s .trace))
     row-there f =
         row-is file (naming row) facts rules steps may-run f
-        ∙ ap (λ (t : Stand). stepBytes (rowTo f (t .trace))) ran-under
+        ∙ ap (λ (t : Stand). stepBytes narrow (rowTo f (t .trace))) ran-under
 
     ends : EndsAt file M o
     unfolding runWritten

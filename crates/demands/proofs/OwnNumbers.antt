@@ -6,11 +6,12 @@ use mathlib.Core.List.{List, [], _∷_, _++_}
 use Rattle.theory.specs.Rule.{mem, Program, nothing, adjoin, count, exception}
 use Rattle.theory.proofs.Bools.{or-right}
 use Rattle.theory.proofs.Lists.{mem-append, mem-left}
-use Rattle.items.specs.declared.cursor.Row.{Row}
-use Rattle.items.specs.declared.cursor.Row.the-variants.{Opening, Body, Order, Steps}
+use Rattle.cursors.specs.declared.cursor.Row.{Row}
+use Rattle.cursors.specs.declared.cursor.Row.the-variants.{Opening, Body, Order, Steps}
 use Rattle.items.specs.Question as refusal
 use Rattle.items.specs.Question.{Question}
-use Rattle.items.specs.Cursor.{Token, placeQuestions}
+use Rattle.cursors.specs.Cursor.{Token, placeQuestions}
+use Rattle.items.specs.Item.{narrow}
 use Rattle.reader.specs.Questions.{programOf, fileQuestions}
 use Rattle.questions.specs.Questions.{namedIn, namesQuestions, listQuestions, orderQuestions, setQuestions, rowQuestions, bufferQuestions, runQuestions, judgeQuestions, checkQuestions, limitQuestions, earlyQuestions, searchQuestions}
 use Rattle.reader.proofs.FileRefusals.{each-append, each-file}
@@ -67,7 +68,7 @@ pub row-own : (n fact : ℕ) (row : List ℕ) → Own rowNumbers (rowQuestions n
 unfolding rowQuestions
 row-own n fact row = (refl, (refl, tt))
 
-pub buffers-own : (P : Program) (facts rules steps : ℕ) → Own bufferNumbers (bufferQuestions P facts rules steps)
+pub buffers-own : (P : Program) (facts rules steps : ℕ) → Own bufferNumbers (bufferQuestions narrow P facts rules steps)
 unfolding bufferQuestions
 buffers-own P facts rules steps = (refl, (refl, (refl, tt)))
 
@@ -103,5 +104,5 @@ search-own file facts rules steps order =
     let P = programOf file in
     own-both (fileNumbers ++ (bufferNumbers ++ limitNumbers)) (41 ∷ []) (earlyQuestions file facts rules steps order) _
     (after-file (bufferNumbers ++ limitNumbers) file _
-    (own-both bufferNumbers limitNumbers (bufferQuestions P facts rules steps) _ (buffers-own P facts rules steps) (limits-own P order)))
+    (own-both bufferNumbers limitNumbers (bufferQuestions narrow P facts rules steps) _ (buffers-own P facts rules steps) (limits-own P order)))
     (refl, tt)

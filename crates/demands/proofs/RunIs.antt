@@ -19,7 +19,7 @@ use Rattle.theory.proofs.Rows.{run-proof, run-admits}
 use Rattle.theory.proofs.Chaining.{applicable-eligible, run-chains, chaining-derived, chaining-rejected, chaining-disjoint, chaining-applied, chaining-taken}
 use Rattle.theory.proofs.Marks.{aside-inconsistent}
 use Rattle.items.specs.declared.refusal.Refusal.{Refusal}
-use Rattle.items.specs.Item.{stepWidth}
+use Rattle.items.specs.Item.{narrow, stepWidth}
 use Rattle.reader.specs.Questions.{programOf, fileQuestions, fileNo}
 use Rattle.reader.proofs.Accepted.{accepted-file, bounded}
 use Rattle.items.proofs.FirstNo.{both-yes}
@@ -29,9 +29,9 @@ use Rattle.closure.specs.Steps.{stepBytes}
 use Rattle.run.specs.Outcome.{RunOutcome, runOf, runWritten, runOutcome}
 use Rattle.run.specs.Outcome as run
 use Rattle.demands.specs.Results.{derivedSet, rejectedSet, plainSet, appliedSet, asideSet, stepRow, RunIs, takenSteps, rowUpTo}
-use Rattle.run.proofs.StepsWritten.{step-bytes-length, steps-read}
+use Rattle.results.proofs.StepsWritten.{step-bytes-length}
 use Rattle.run.proofs.ReadMarks.{length-marks, mark-at, marks-front, read-derived, read-rejected, read-plain, read-applied, read-aside, over-kept}
-use Rattle.run.proofs.ReadSteps.{steps-front, row-front}
+use Rattle.run.proofs.ReadSteps.{steps-front, row-front, steps-read}
 use Rattle.demands.proofs.Outcomes.{run-written, run-answered}
 
 -- a mark that is none of the others
@@ -54,11 +54,11 @@ module _ (file order facts rules steps : List ℕ) (passed : _≡_ {A = Option R
   abbrev o : RunOutcome
   o = runOutcome file order facts rules steps
 
-  pub yeses : (_≡_ {A = Option Refusal} (fileNo file) none) × ((_≡_ {A = Option Refusal} (orderNo (exception P) (count P) order) none) × (_≡_ {A = Option Refusal} (buffersNo P (length facts) (length rules) (length steps)) none))
+  pub yeses : (_≡_ {A = Option Refusal} (fileNo file) none) × ((_≡_ {A = Option Refusal} (orderNo (exception P) (count P) order) none) × (_≡_ {A = Option Refusal} (buffersNo narrow P (length facts) (length rules) (length steps)) none))
   unfolding runQuestions
   yeses =
       let t = both-yes (fileQuestions file) _ passed in
-      (t .0, both-yes (orderQuestions (exception P) (count P) order) (bufferQuestions P (length facts) (length rules) (length steps)) (t .1))
+      (t .0, both-yes (orderQuestions (exception P) (count P) order) (bufferQuestions narrow P (length facts) (length rules) (length steps)) (t .1))
 
   pub in-bounds : Bounded P
   in-bounds = bounded (accepted-file file (yeses .0))
@@ -118,7 +118,7 @@ module _ (file order facts rules steps : List ℕ) (passed : _≡_ {A = Option R
   unfolding runWritten
   step-count = ap (λ (x : RunOutcome). run.steps (x .answer)) o-is
 
-  pub steps-are : stepRow o ≡ stepBytes (s .trace)
+  pub steps-are : stepRow o ≡ stepBytes narrow (s .trace)
   unfolding runWritten
   steps-are = ap stepRow o-is ∙ steps-front (s .trace) steps
 
@@ -126,15 +126,15 @@ module _ (file order facts rules steps : List ℕ) (passed : _≡_ {A = Option R
   trace-is = ap rowOf steps-are ∙ steps-read (s .trace)
 
   -- the bytes up to a fact's own step
-  pub row-is : (f : ℕ) → rowUpTo f o ≡ stepBytes (rowTo f (s .trace))
+  pub row-is : (f : ℕ) → rowUpTo f o ≡ stepBytes narrow (rowTo f (s .trace))
   unfolding runWritten
   row-is f =
-      ap (λ (row : List Step). take (stepWidth * length (rowTo f row)) (o .steps)) trace-is
-      ∙ (ap (λ (x : RunOutcome). take (stepWidth * length (rowTo f (s .trace))) (x .steps)) o-is ∙ row-front f (s .trace) steps)
+      ap (λ (row : List Step). take (stepWidth narrow * length (rowTo f row)) (o .steps)) trace-is
+      ∙ (ap (λ (x : RunOutcome). take (stepWidth narrow * length (rowTo f (s .trace))) (x .steps)) o-is ∙ row-front f (s .trace) steps)
 
-  steps-stay : drop (stepWidth * run.steps (o .answer)) (o .steps) ≡ drop (stepWidth * run.steps (o .answer)) steps
+  steps-stay : drop (stepWidth narrow * run.steps (o .answer)) (o .steps) ≡ drop (stepWidth narrow * run.steps (o .answer)) steps
   unfolding runWritten
-  steps-stay = rw o-is (over-kept (stepBytes (s .trace)) steps (stepWidth * length (s .trace)) (step-bytes-length (s .trace)))
+  steps-stay = rw o-is (over-kept (stepBytes narrow (s .trace)) steps (stepWidth narrow * length (s .trace)) (step-bytes-length (s .trace)))
 
   facts-stay : drop (P .facts) (o .fact-marks) ≡ drop (P .facts) facts
   unfolding runWritten

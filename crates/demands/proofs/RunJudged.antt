@@ -21,7 +21,7 @@ use Rattle.run.specs.Outcome as run
 use Rattle.demands.specs.Results.{derivedSet, asideSet, listed, setOf, RunIs, JudgedStable}
 use Rattle.run.proofs.ReadMarks.{marked-past}
 use Rattle.judge.specs.declared.answer.Judged.the-variants as judgement
-use Rattle.judge.specs.Judged.{unlisted, judged}
+use Rattle.judge.specs.Judged.{unlisted}
 use Rattle.judge.proofs.JudgeAnswers.{judge-judged}
 use Rattle.demands.proofs.SetsReadBack.{listed-back, listed-yes, set-back, set-yes}
 use Rattle.demands.proofs.Outcomes.{run-answered}

@@ -16,7 +16,7 @@ use Rattle.reader.specs.declared.answer.Accept.the-variants.{Accepted}
 use Rattle.items.specs.declared.refusal.Refusal.{Refusal}
 use Rattle.items.specs.declared.refusal.Refusal.the-variants.{FactMarksShort, RuleMarksShort, StepsShort, OrderShort, TooManyConstraints, NoStableSet}
 use Rattle.items.specs.Question.{Question, ask, firstNo}
-use Rattle.items.specs.Item.{stepWidth, nameWidth, has, maxGuessed}
+use Rattle.items.specs.Item.{narrow, stepWidth, nameWidth, has, maxGuessed}
 use Rattle.reader.specs.Questions.{programOf, fileQuestions, fileNo, exceptions, constraintFacts}
 use Rattle.reader.specs.Accept.{acceptOf}
 use Rattle.reader.proofs.FileAsked.{accepted-answer}
@@ -35,7 +35,7 @@ use Rattle.proofcheck.specs.declared.answer.Checked.the-variants as checking
 use Rattle.proofcheck.specs.Checked.{checked}
 use Rattle.search.specs.declared.answer.Searched.the-variants as searched
 use Rattle.search.specs.Outcome.{SearchOutcome, searchWritten, refusedWith, takenSet, searchOutcome}
-use Rattle.panel_text.specs.Text.{headLine, stepLine, line, lastLine, rejectedFacts, asideRules, runText, ascending, panelText, shown}
+use Rattle.panel_lines.specs.Text.{headLine, stepLine, line, lastLine, rejectedFacts, asideRules, runText, ascending, panelText, shown}
 use Rattle.retention.specs.Reply.{fileOf, verdictOfJudged, verdictOfChecked, runReply, searchReply}
 use Rattle.demands.specs.Results.{SameReplies}
 
@@ -62,12 +62,12 @@ module _ (s t : List ℕ) (yes-s : _≡_ {A = Option Refusal} (fileNo s) none) (
   same-row : (fact : ℕ) (row : List ℕ) → rowQuestions (P .facts) fact row ≡ rowQuestions (Q .facts) fact row
   same-row fact row i = rowQuestions (a .same-facts i) fact row
 
-  same-buffers : (facts rules steps : ℕ) → bufferQuestions P facts rules steps ≡ bufferQuestions Q facts rules steps
+  same-buffers : (facts rules steps : ℕ) → bufferQuestions narrow P facts rules steps ≡ bufferQuestions narrow Q facts rules steps
   unfolding bufferQuestions
   same-buffers facts rules steps i =
       ask FactMarksShort (leb (a .same-facts i) facts)
       ∷ ask RuleMarksShort (leb (a .same-count i) rules)
-      ∷ ask StepsShort (leb (stepWidth * a .same-facts i) steps)
+      ∷ ask StepsShort (leb (stepWidth narrow * a .same-facts i) steps)
       ∷ []
 
   same-exceptions : exceptions P ≡ exceptions Q
@@ -115,7 +115,7 @@ module _ (s t : List ℕ) (yes-s : _≡_ {A = Option Refusal} (fileNo s) none) (
   run-asked : (order : List ℕ) (facts rules steps : ℕ) → runNo s order facts rules steps ≡ runNo t order facts rules steps
   unfolding runQuestions
   run-asked order facts rules steps =
-      behind (orderQuestions (exception P) (count P) order ++ bufferQuestions P facts rules steps) (orderQuestions (exception Q) (count Q) order ++ bufferQuestions Q facts rules steps)
+      behind (orderQuestions (exception P) (count P) order ++ bufferQuestions narrow P facts rules steps) (orderQuestions (exception Q) (count Q) order ++ bufferQuestions narrow Q facts rules steps)
       (λ i. firstNo (same-order order i ++ same-buffers facts rules steps i))
 
   same-run : (order facts rules steps : List ℕ) → runOutcome s order facts rules steps ≡ runOutcome t order facts rules steps
@@ -126,7 +126,7 @@ module _ (s t : List ℕ) (yes-s : _≡_ {A = Option Refusal} (fileNo s) none) (
           answer = ran.Done (stageCount (end i)) (stepCount (end i));
           fact-marks = over (alike-factMarks a (end i) i) facts;
           rule-marks = over (alike-ruleMarks a (inForce P) (end i) i) rules;
-          steps = over (stepBytes (end i .trace)) steps;
+          steps = over (stepBytes narrow (end i .trace)) steps;
         }
         | some r ↦ record { answer = ran.Refused r; fact-marks = facts; rule-marks = rules; steps = steps }
       ]
@@ -174,7 +174,7 @@ module _ (s t : List ℕ) (yes-s : _≡_ {A = Option Refusal} (fileNo s) none) (
 
   later : Program → ℕ → ℕ → ℕ → ℕ → List Question
   later R facts rules steps order =
-      (bufferQuestions R facts rules steps ++ limitQuestions R order) ++ (stableQuestion R ∷ [])
+      (bufferQuestions narrow R facts rules steps ++ limitQuestions R order) ++ (stableQuestion R ∷ [])
 
   same-later : (facts rules steps order : ℕ) → later P facts rules steps order ≡ later Q facts rules steps order
   unfolding later
@@ -184,9 +184,9 @@ module _ (s t : List ℕ) (yes-s : _≡_ {A = Option Refusal} (fileNo s) none) (
   search-asked : (facts rules steps order : ℕ) → searchNo s facts rules steps order ≡ searchNo t facts rules steps order
   unfolding searchQuestions earlyQuestions later
   search-asked facts rules steps order =
-      ap firstNo (append-assoc (fileQuestions s) (bufferQuestions P facts rules steps ++ limitQuestions P order) (stableQuestion P ∷ []))
+      ap firstNo (append-assoc (fileQuestions s) (bufferQuestions narrow P facts rules steps ++ limitQuestions P order) (stableQuestion P ∷ []))
       ∙ (behind (later P facts rules steps order) (later Q facts rules steps order) (ap firstNo (same-later facts rules steps order))
-      ∙ sym (ap firstNo (append-assoc (fileQuestions t) (bufferQuestions Q facts rules steps ++ limitQuestions Q order) (stableQuestion Q ∷ []))))
+      ∙ sym (ap firstNo (append-assoc (fileQuestions t) (bufferQuestions narrow Q facts rules steps ++ limitQuestions Q order) (stableQuestion Q ∷ []))))
 
   -- the order for the set that is taken, and the run under it
   same-written : orderFor P (inForce P) (takenSet P) ≡ orderFor Q (inForce Q) (takenSet Q)
@@ -203,7 +203,7 @@ module _ (s t : List ℕ) (yes-s : _≡_ {A = Option Refusal} (fileNo s) none) (
           answer = searched.Found (stageCount (same-end i)) (stepCount (same-end i));
           fact-marks = over (alike-factMarks a (same-end i) i) facts;
           rule-marks = over (alike-ruleMarks a (inForce P) (same-end i) i) rules;
-          steps = over (stepBytes (same-end i .trace)) steps;
+          steps = over (stepBytes narrow (same-end i .trace)) steps;
           order = over (naming (same-written i)) order;
         }
         | some r ↦ refusedWith r facts rules steps order

@@ -17,7 +17,7 @@ use Rattle.theory.proofs.Order.{order-none-aside}
 use Rattle.theory.proofs.Counts.{run-stages}
 use Rattle.items.specs.declared.refusal.Refusal.{Refusal}
 use Rattle.items.specs.declared.refusal.Refusal.the-variants.{NoStableSet}
-use Rattle.items.specs.Item.{nameWidth, stepWidth, marked}
+use Rattle.items.specs.Item.{narrow, nameWidth, stepWidth, marked}
 use Rattle.reader.specs.Questions.{programOf, fileQuestions, fileNo, exceptions}
 use Rattle.reader.proofs.Accepted.{accepted-file, bounded, all-asked}
 use Rattle.items.proofs.FirstNo.{both-yes}
@@ -27,9 +27,9 @@ use Rattle.closure.specs.Steps.{stepBytes}
 use Rattle.run.specs.Outcome.{RunOutcome, runWritten, runOutcome}
 use Rattle.run.specs.Outcome as running
 use Rattle.demands.specs.Results.{stepRow, foundSet, writtenOrder, writtenSteps, writtenProof, SameResult, SearchIs}
-use Rattle.run.proofs.StepsWritten.{step-bytes-length, steps-read}
+use Rattle.results.proofs.StepsWritten.{step-bytes-length}
 use Rattle.run.proofs.ReadMarks.{length-marks, marks-front, read-derived, read-aside, over-kept}
-use Rattle.run.proofs.ReadSteps.{steps-front, row-front}
+use Rattle.run.proofs.ReadSteps.{steps-front, row-front, steps-read}
 use Rattle.search.specs.Outcome.{SearchOutcome, searchWritten, foundAt, takenSet, searchOutcome}
 use Rattle.search.specs.Outcome as searching
 use Rattle.orders.proofs.OrderGroups.{order-width}
@@ -61,12 +61,12 @@ module _ (file facts rules steps order : List ℕ) (passed : _≡_ {A = Option R
   abbrev o : SearchOutcome
   o = searchOutcome file facts rules steps order
 
-  yeses : (_≡_ {A = Option Refusal} (fileNo file) none) × ((_≡_ {A = Option Refusal} (buffersNo P (length facts) (length rules) (length steps)) none) × (someStable P ≡ true))
+  yeses : (_≡_ {A = Option Refusal} (fileNo file) none) × ((_≡_ {A = Option Refusal} (buffersNo narrow P (length facts) (length rules) (length steps)) none) × (someStable P ≡ true))
   unfolding searchQuestions earlyQuestions
   yeses =
       let t = both-yes (earlyQuestions file (length facts) (length rules) (length steps) (length order)) (stableQuestion P ∷ []) passed in
-      let f = both-yes (fileQuestions file) (bufferQuestions P (length facts) (length rules) (length steps) ++ limitQuestions P (length order)) (t .0) in
-      let b = both-yes (bufferQuestions P (length facts) (length rules) (length steps)) (limitQuestions P (length order)) (f .1) in
+      let f = both-yes (fileQuestions file) (bufferQuestions narrow P (length facts) (length rules) (length steps) ++ limitQuestions P (length order)) (t .0) in
+      let b = both-yes (bufferQuestions narrow P (length facts) (length rules) (length steps)) (limitQuestions P (length order)) (f .1) in
       (f .0, (b .0, all-asked NoStableSet (someStable P) none (t .1) .0))
 
   in-bounds : Bounded P
@@ -89,21 +89,21 @@ module _ (file facts rules steps order : List ℕ) (passed : _≡_ {A = Option R
       ap (writtenOrder file) o-is
       ∙ take-at (naming row) (drop (length (naming row)) order) (nameWidth * exceptions P) (order-width P M)
 
-  steps-are : writtenSteps o ≡ stepBytes (s .trace)
+  steps-are : writtenSteps o ≡ stepBytes narrow (s .trace)
   unfolding searchWritten
   steps-are = ap writtenSteps o-is ∙ steps-front (s .trace) steps
 
   trace-is : rowOf (writtenSteps o) ≡ s .trace
   trace-is = ap rowOf steps-are ∙ steps-read (s .trace)
 
-  row-is : (f : ℕ) → writtenProof f o ≡ stepBytes (rowTo f (s .trace))
+  row-is : (f : ℕ) → writtenProof f o ≡ stepBytes narrow (rowTo f (s .trace))
   unfolding searchWritten
   row-is f =
-      ap (λ (taken : List Step). take (stepWidth * length (rowTo f taken)) (o .steps)) trace-is
-      ∙ (ap (λ (x : SearchOutcome). take (stepWidth * length (rowTo f (s .trace))) (x .steps)) o-is ∙ row-front f (s .trace) steps)
+      ap (λ (taken : List Step). take (stepWidth narrow * length (rowTo f taken)) (o .steps)) trace-is
+      ∙ (ap (λ (x : SearchOutcome). take (stepWidth narrow * length (rowTo f (s .trace))) (x .steps)) o-is ∙ row-front f (s .trace) steps)
 
   -- The run under the order that was written.
-  module _ (facts′ rules′ steps′ : List ℕ) (fit : _≡_ {A = Option Refusal} (buffersNo P (length facts′) (length rules′) (length steps′)) none) where
+  module _ (facts′ rules′ steps′ : List ℕ) (fit : _≡_ {A = Option Refusal} (buffersNo narrow P (length facts′) (length rules′) (length steps′)) none) where
     ran-so : runOutcome file (writtenOrder file o) facts′ rules′ steps′ ≡ runWritten P s facts′ rules′ steps′
     ran-so =
         ap (λ (bytes : List ℕ). runOutcome file bytes facts′ rules′ steps′) bytes-are
@@ -140,7 +140,7 @@ module _ (file facts rules steps order : List ℕ) (passed : _≡_ {A = Option R
         rows-prove = rw set-is (rows-prove file (yeses .0) M (earliest .stable) (λ g. writtenProof g o) row-is);
         fact-marks-kept = ap (λ (x : SearchOutcome). drop (P .facts) (x .fact-marks)) o-is ∙ over-kept (factMarks P s) facts (P .facts) (length-marks (factMark P s) (P .facts));
         rule-marks-kept = ap (λ (x : SearchOutcome). drop (count P) (x .rule-marks)) o-is ∙ over-kept (ruleMarks P (inForce P) s) rules (count P) (length-marks (ruleMark P (inForce P) s) (count P));
-        steps-kept = rw o-is (over-kept (stepBytes (s .trace)) steps (stepWidth * length (s .trace)) (step-bytes-length (s .trace)));
+        steps-kept = rw o-is (over-kept (stepBytes narrow (s .trace)) steps (stepWidth narrow * length (s .trace)) (step-bytes-length (s .trace)));
         order-kept = ap (λ (x : SearchOutcome). drop (nameWidth * exceptions P) (x .order)) o-is ∙ over-kept (naming row) order (nameWidth * exceptions P) (order-width P M);
       }
 

@@ -16,7 +16,7 @@ use Rattle.theory.proofs.Bools.{never}
 use Rattle.items.specs.declared.refusal.Refusal.{Refusal}
 use Rattle.items.specs.declared.refusal.Refusal.the-variants.{TooManyConstraints, NoStableSet}
 use Rattle.items.specs.Question.{firstNo}
-use Rattle.items.specs.Item.{nameWidth, stepWidth}
+use Rattle.items.specs.Item.{narrow, nameWidth, stepWidth}
 use Rattle.reader.specs.Questions.{programOf, fileQuestions, fileNo, exceptions, constraintFacts}
 use Rattle.items.proofs.FirstNo.{first-no, first-yes}
 use Rattle.questions.specs.Questions.{bufferQuestions, buffersNo, guessedQuestion, someStable, stableQuestion, limitQuestions, earlyQuestions, searchQuestions, earlyNo, searchNo}
@@ -42,17 +42,17 @@ module _ (file facts rules steps order : List ℕ) where
   refused-number r e = ap (λ (x : SearchOutcome). searching.number (x .answer)) (search-refused file facts rules steps order r e)
 
   module _ (accepted : _≡_ {A = Option Refusal} (fileNo file) none) (large : LargeEnough file facts rules steps order) where
-    buffers-fit : _≡_ {A = Option Refusal} (buffersNo P (length facts) (length rules) (length steps)) none
+    buffers-fit : _≡_ {A = Option Refusal} (buffersNo narrow P (length facts) (length rules) (length steps)) none
     unfolding bufferQuestions
     buffers-fit =
-        rw (le-leb (P .facts) (length facts) (large .fact-marks), le-leb (count P) (length rules) (large .rule-marks), le-leb (stepWidth * P .facts) (length steps) (large .step-items))
+        rw (le-leb (P .facts) (length facts) (large .fact-marks), le-leb (count P) (length rules) (large .rule-marks), le-leb (stepWidth narrow * P .facts) (length steps) (large .step-items))
 
     -- what is left to ask
     guessed-left : earlyNo file (length facts) (length rules) (length steps) (length order) ≡ firstNo (guessedQuestion P ∷ [])
     unfolding earlyQuestions limitQuestions
     guessed-left =
-        first-yes (fileQuestions file) (bufferQuestions P (length facts) (length rules) (length steps) ++ limitQuestions P (length order)) accepted
-        ∙ (first-yes (bufferQuestions P (length facts) (length rules) (length steps)) (limitQuestions P (length order)) buffers-fit
+        first-yes (fileQuestions file) (bufferQuestions narrow P (length facts) (length rules) (length steps) ++ limitQuestions P (length order)) accepted
+        ∙ (first-yes (bufferQuestions narrow P (length facts) (length rules) (length steps)) (limitQuestions P (length order)) buffers-fit
         ∙ rw (le-leb (nameWidth * exceptions P) (length order) (large .rule-items)))
 
     too-many : leb (constraintFacts P) 16 ≡ false → searching.number (o .answer) ≡ 40

@@ -11,7 +11,7 @@ use Rattle.theory.specs.Stable.{Stable, reduct, Earliest, anySet, orderFor}
 use Rattle.theory.specs.Search.{guessed, fits, search}
 use Rattle.theory.specs.Run.{rejected, spares, eligible, run, setAside, factMark, ruleMark}
 use Rattle.items.specs.Item.{bodyLength, itemOf, has, marked}
-use Rattle.items.specs.Cursor.{front, itemsAt}
+use Rattle.cursors.specs.Cursor.{front, itemsAt}
 use Rattle.reader.specs.Questions.{programOf, fileQuestions, exceptions, constraintFacts}
 use Rattle.questions.specs.Questions.{listQuestions, orderQuestions, setQuestions, rowQuestions, bufferQuestions, runQuestions, judgeQuestions, checkQuestions, someStable, limitQuestions, earlyQuestions, searchQuestions, naming}
 use Rattle.questions.proofs.Orders.{naming-names}

@@ -11,11 +11,11 @@ use Rattle.theory.specs.Rule.{all, mem}
 use Rattle.items.specs.Question.{Question, firstNo}
 use lib.ListN.{length, drop}
 use Rattle.items.specs.declared.refusal.Refusal.{Refusal}
-use Rattle.items.specs.declared.cursor.Row.{Row}
-use Rattle.items.specs.declared.cursor.Row.the-variants.{Opening, Body, Order, Steps}
-use Rattle.items.specs.declared.cursor.Cursor.{Cursor}
-use Rattle.items.specs.declared.cursor.Read.the-variants.{Ended, Refused}
-use Rattle.items.specs.Cursor.{front, placeQuestions, nextAt}
+use Rattle.cursors.specs.declared.cursor.Row.{Row}
+use Rattle.cursors.specs.declared.cursor.Row.the-variants.{Opening, Body, Order, Steps}
+use Rattle.cursors.specs.declared.cursor.Cursor.{Cursor}
+use Rattle.cursors.specs.declared.cursor.Read.the-variants.{Ended, Refused}
+use Rattle.cursors.specs.Cursor.{front, placeQuestions, nextAt}
 use Rattle.reader.specs.Questions.{fileQuestions}
 use Rattle.reader.specs.Accept.{acceptOf}
 use Rattle.questions.specs.Questions.{askListQuestions, askOrderQuestions, askSetQuestions, askRowQuestions, runQuestions, judgeQuestions, checkQuestions, searchQuestions}
@@ -24,12 +24,12 @@ use Rattle.run.specs.Outcome.{runOutcome}
 use Rattle.judge.specs.Judged.{judged}
 use Rattle.proofcheck.specs.Checked.{checked}
 use Rattle.search.specs.Outcome.{searchOutcome}
-use Rattle.panel_text.specs.Text.{panelText, shown}
+use Rattle.panel_lines.specs.Text.{panelText, shown}
 use Rattle.retention.specs.declared.reply.FileReply.{FileReply}
 use Rattle.retention.specs.declared.reply.Verdict.{Verdict}
 use Rattle.retention.specs.Reply.{fileOf, verdictOfJudged, verdictOfChecked, RunReply, runReply, SearchReply, searchReply}
 use Rattle.items.specs.Question as refusal
-use Rattle.items.specs.Cursor as read
+use Rattle.cursors.specs.Cursor as read
 use Rattle.reader.specs.Accept as accepted
 use Rattle.questions.specs.Answer as answer
 use Rattle.run.specs.Outcome as ran

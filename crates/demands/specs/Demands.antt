@@ -8,7 +8,7 @@ use mathlib.Core.Logic.{_↔_}
 use mathlib.Core.Option.{none, some}
 use Rattle.theory.specs.Rule.{mem, FactSet, inForce, Alike}
 use Rattle.theory.specs.Stable.{Stable, Proof, Admits, orderFor}
-use Rattle.items.specs.declared.cursor.Cursor.{Cursor}
+use Rattle.cursors.specs.declared.cursor.Cursor.{Cursor}
 use Rattle.reader.specs.Questions.{programOf, fileQuestions, fileNo}
 use Rattle.items.specs.Item.{has}
 use Rattle.questions.specs.Questions.{namedIn, rowOf, naming}
@@ -20,7 +20,7 @@ use Rattle.proofcheck.specs.Checked.{checked}
 use Rattle.proofcheck.specs.Checked as checking
 use Rattle.search.specs.Outcome.{searchOutcome}
 use Rattle.search.specs.Outcome as searching
-use Rattle.panel_text.specs.Text.{panelText, line}
+use Rattle.panel_lines.specs.Text.{panelText, line}
 use Rattle.demands.specs.Calls.{firstNumber, RefusesExactly, Stays, acceptCall, nextCall, askListCall, askOrderCall, askSetCall, askRowCall, runCall, judgeCall, checkCall, searchCall, renderCall, retentionAcceptCall, retentionRunCall, retentionJudgeCall, retentionCheckCall, retentionSearchCall, retentionPanelCall}
 use Rattle.demands.specs.Results.{RunIs, JudgedStable, LeadsTo, SearchIs, LargeEnough, Searchable, Searches, FortyExactly, SameReplies}
 

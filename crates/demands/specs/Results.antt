@@ -4,7 +4,7 @@ use Prim.Native.Nat.{ℕ, _*_, _<_, _≤_}
 use mathlib.Core.Bool.{Bool, cond, true, false, not}
 use mathlib.Core.List.{List, map}
 use Rattle.theory.specs.Rule.{keep, upTo, howMany, FactSet, count, inForce, plain, exception, Step}
-use Rattle.items.specs.Item.{marked, stepWidth, nameWidth}
+use Rattle.items.specs.Item.{narrow, stepWidth, nameWidth, marked}
 use Rattle.questions.specs.Questions.{naming, namedIn, orderNo, rowOf, buffersNo, askListQuestions, askOrderQuestions, askSetQuestions, askRowQuestions}
 use lib.ListN.{take, length, getD, drop}
 use Rattle.reader.specs.Questions.{programOf, fileNo, exceptions, constraintFacts}
@@ -22,7 +22,7 @@ use Rattle.search.specs.Outcome.{SearchOutcome, searchOutcome}
 use Rattle.items.specs.Question.{firstNo}
 use Rattle.reader.specs.Accept.{acceptOf}
 use Rattle.questions.specs.Answer.{answerOf}
-use Rattle.panel_text.specs.Text.{panelText, shown}
+use Rattle.panel_lines.specs.Text.{panelText, shown}
 use Rattle.retention.specs.Reply.{fileOf, verdictOfJudged, verdictOfChecked, runReply, searchReply}
 use Rattle.run.specs.Outcome as run
 use Rattle.judge.specs.declared.answer.Judged.the-variants as judgement
@@ -56,7 +56,7 @@ asideSet file o = marked (count (programOf file)) 2 (o .rule-marks)
 
 -- the bytes of the steps that it wrote, as many as it counts
 abbrev pub stepRow : RunOutcome → List ℕ
-stepRow o = take (stepWidth * run.steps (o .answer)) (o .steps)
+stepRow o = take (stepWidth narrow * run.steps (o .answer)) (o .steps)
 
 -- What a run is that gives a result (demand 2): the forward chaining of document 000 along the order given, read off the bytes that it leaves.
 
@@ -109,7 +109,7 @@ pub record RunIs (file order facts rules steps : List ℕ) (o : RunOutcome) : Ty
   -- Past what is written each buffer keeps its contents.
   pub fact-marks-kept : drop (programOf file .facts) (o .fact-marks) ≡ drop (programOf file .facts) facts
   pub rule-marks-kept : drop (count (programOf file)) (o .rule-marks) ≡ drop (count (programOf file)) rules
-  pub steps-kept : drop (stepWidth * run.steps (o .answer)) (o .steps) ≡ drop (stepWidth * run.steps (o .answer)) steps
+  pub steps-kept : drop (stepWidth narrow * run.steps (o .answer)) (o .steps) ≡ drop (stepWidth narrow * run.steps (o .answer)) steps
 
 -- Handed the rules with mark 2 as a list and the facts with mark 1 as a set, the judge says stable.
 abbrev pub JudgedStable : List ℕ → RunOutcome → Type 0
@@ -132,7 +132,7 @@ pub record RowsProve (file : List ℕ) (M : FactSet) (row : ℕ → List ℕ) : 
 
 -- The bytes of the steps that a run wrote from the first up to the fact's own.
 abbrev pub rowUpTo : ℕ → RunOutcome → List ℕ
-rowUpTo f o = take (stepWidth * length (stepsUpTo f o)) (o .steps)
+rowUpTo f o = take (stepWidth narrow * length (stepsUpTo f o)) (o .steps)
 
 -- A run gives a result, ends at M, sets nothing aside, and its steps prove the facts of M.
 pub record EndsAt (file : List ℕ) (M : FactSet) (o : RunOutcome) : Type 0 where
@@ -150,7 +150,7 @@ pub record LeadsTo (file order : List ℕ) (M : FactSet) : Type 0 where
   pub whole-items : length order ≡ nameWidth * exceptions (programOf file)
   pub order-right : orderNo (exception (programOf file)) (count (programOf file)) order ≡ none
   -- In any buffers that suffice for it, the run under the order ends at M.
-  pub run-ends : (facts rules steps : List ℕ) → buffersNo (programOf file) (length facts) (length rules) (length steps) ≡ none → EndsAt file M (runOutcome file order facts rules steps)
+  pub run-ends : (facts rules steps : List ℕ) → buffersNo narrow (programOf file) (length facts) (length rules) (length steps) ≡ none → EndsAt file M (runOutcome file order facts rules steps)
   -- No fact outside has any proof that M admits, and whatever row is handed to the check, it does not say yes.
   pub outside-unproved : (f : ℕ) → M f ≡ false → (row : List Step) → Proof (programOf file) (inForce (programOf file)) row f → Admits (programOf file) M row → ⊥
   pub outside-unchecked : (f : ℕ) → M f ≡ false → (row : List ℕ) → check.verdict (checked file (setBytes file M) f row) ≡ 0
@@ -165,11 +165,11 @@ writtenOrder file o = take (nameWidth * exceptions (programOf file)) (o .order)
 
 -- the steps that it wrote: as many as it counts
 abbrev pub writtenSteps : SearchOutcome → List ℕ
-writtenSteps o = take (stepWidth * search.steps (o .answer)) (o .steps)
+writtenSteps o = take (stepWidth narrow * search.steps (o .answer)) (o .steps)
 
 -- the steps from the first up to the fact's own, the proof that it gives for the fact
 abbrev pub writtenProof : ℕ → SearchOutcome → List ℕ
-writtenProof f o = take (stepWidth * length (rowTo f (rowOf (writtenSteps o)))) (o .steps)
+writtenProof f o = take (stepWidth narrow * length (rowTo f (rowOf (writtenSteps o)))) (o .steps)
 
 -- What a search is that gives a result (demand 3).
 
@@ -190,7 +190,7 @@ pub record SearchIs (file facts rules steps order : List ℕ) (o : SearchOutcome
   -- .. ascending, the exception rules with premises in the set and no constraint in it, then the others ascending.
   pub order-is : namedIn (writtenOrder file o) ≡ orderFor (programOf file) (inForce (programOf file)) (foundSet file o)
   -- The run under that order gives the same marks, steps and counts, in any buffers that suffice for it; ..
-  pub same-result : (facts′ rules′ steps′ : List ℕ) → buffersNo (programOf file) (length facts′) (length rules′) (length steps′) ≡ none → SameResult file o (runOutcome file (writtenOrder file o) facts′ rules′ steps′)
+  pub same-result : (facts′ rules′ steps′ : List ℕ) → buffersNo narrow (programOf file) (length facts′) (length rules′) (length steps′) ≡ none → SameResult file o (runOutcome file (writtenOrder file o) facts′ rules′ steps′)
   -- .. in the buffers that the search was lent, byte for byte.
   pub same-fact-marks : runOutcome file (writtenOrder file o) facts rules steps .fact-marks ≡ o .fact-marks
   pub same-rule-marks : runOutcome file (writtenOrder file o) facts rules steps .rule-marks ≡ o .rule-marks
@@ -204,7 +204,7 @@ pub record SearchIs (file facts rules steps order : List ℕ) (o : SearchOutcome
   -- Past what is written each buffer keeps its contents.
   pub fact-marks-kept : drop (programOf file .facts) (o .fact-marks) ≡ drop (programOf file .facts) facts
   pub rule-marks-kept : drop (count (programOf file)) (o .rule-marks) ≡ drop (count (programOf file)) rules
-  pub steps-kept : drop (stepWidth * search.steps (o .answer)) (o .steps) ≡ drop (stepWidth * search.steps (o .answer)) steps
+  pub steps-kept : drop (stepWidth narrow * search.steps (o .answer)) (o .steps) ≡ drop (stepWidth narrow * search.steps (o .answer)) steps
   pub order-kept : drop (nameWidth * exceptions (programOf file)) (o .order) ≡ drop (nameWidth * exceptions (programOf file)) order
 
 -- What the search answers (demand 3), by what it is handed.
@@ -213,7 +213,7 @@ pub record SearchIs (file facts rules steps order : List ℕ) (o : SearchOutcome
 pub record LargeEnough (file facts rules steps order : List ℕ) : Type 0 where
   pub fact-marks : programOf file .facts ≤ length facts
   pub rule-marks : count (programOf file) ≤ length rules
-  pub step-items : stepWidth * programOf file .facts ≤ length steps
+  pub step-items : stepWidth narrow * programOf file .facts ≤ length steps
   pub rule-items : nameWidth * exceptions (programOf file) ≤ length order
 
 -- An accepted file with at most 16 constraint facts and large enough buffers.

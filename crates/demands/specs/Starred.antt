@@ -7,7 +7,7 @@ use lib.ListN.{replicate}
 use Rattle.theory.specs.Rule.{mem, Mask, FactSet, inForce, count}
 use Rattle.theory.specs.Stable.{Stable, Proof, Admits, Earliest, anySet}
 use Rattle.items.specs.declared.refusal.Refusal.the-variants.{NoStableSet}
-use Rattle.items.specs.Item.{nameWidth, stepWidth, has}
+use Rattle.items.specs.Item.{narrow, nameWidth, stepWidth, has}
 use Rattle.reader.specs.Questions.{programOf, exceptions}
 use Rattle.questions.specs.Questions.{rowOf, naming}
 use Rattle.run.specs.declared.answer.Ran.the-variants.{Done}
@@ -34,7 +34,7 @@ abbrev pub ruleRoom : List ℕ → List ℕ
 ruleRoom file = nines (count (programOf file))
 
 abbrev pub stepRoom : List ℕ → List ℕ
-stepRoom file = nines (stepWidth * programOf file .facts)
+stepRoom file = nines (stepWidth narrow * programOf file .facts)
 
 abbrev pub orderRoom : List ℕ → List ℕ
 orderRoom file = nines (nameWidth * exceptions (programOf file))

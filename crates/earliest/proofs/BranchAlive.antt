@@ -19,8 +19,8 @@ use Rattle.theory.proofs.Lists.{all-ext, all-of, all-append, mem-here}
 use Rattle.theory.proofs.Run.{NoRepeat}
 use Rattle.theory.proofs.Stable.{leastOf-agrees, leastOf-mask}
 use Rattle.theory.proofs.Search.{constraint-guessed}
-use Rattle.items.specs.Item.{maxFacts, has}
-use Rattle.tables.proofs.MarksPainted.{unmarked}
+use Rattle.items.specs.Item.{narrow, maxFacts, has}
+use Rattle.marking.proofs.MarksPainted.{unmarked}
 use Rattle.index.specs.Literal.{outside, literals}
 use Rattle.index.specs.Cells.{onIn}
 use Rattle.propagation.specs.State.{Settled, HeldToo, notHeldOut}
@@ -41,9 +41,9 @@ in-joins a true true q = never refl (q refl)
 in-joins true false true q = refl
 in-joins false false true q = refl
 
-module _ (P : Program) (b : Bounded P) (few : P .facts ≤ maxFacts) where
+module _ (P : Program) (b : Bounded P) (few : P .facts ≤ maxFacts narrow) where
   -- The marks show the least set of the reduct by a set that agrees with the facts held out.
-  settled-set : (R marks missing : List ℕ) (G : FactSet) → ((i : ℕ) → i < count P → onIn R i ≡ inForce P i) → Settled P (onIn R) marks missing → ((k : ℕ) → mem k (guessed P (inForce P)) ≡ true → notHeldOut (has marks) k ≡ G k) → (f : ℕ) → f < maxFacts → has marks f ≡ leastOf P (inForce P) G f
+  settled-set : (R marks missing : List ℕ) (G : FactSet) → ((i : ℕ) → i < count P → onIn R i ≡ inForce P i) → Settled P (onIn R) marks missing → ((k : ℕ) → mem k (guessed P (inForce P)) ≡ true → notHeldOut (has marks) k ≡ G k) → (f : ℕ) → f < maxFacts narrow → has marks f ≡ leastOf P (inForce P) G f
   settled-set R marks missing G on s a f h =
       settled-least P (onIn R) marks missing s f h
       ∙ ap (λ (S : FactSet). S f) (leastOf-mask P (onIn R) (inForce P) on (notHeldOut (has marks)))
@@ -60,7 +60,7 @@ module _ (P : Program) (b : Bounded P) (few : P .facts ≤ maxFacts) where
         (or-cases (mem k (take n row)) (mem k (drop n row)) (sym (in-parts row n k) ∙ ap (mem k) is ∙ m))
 
     -- With all the others held out too, the marks show the most that can be derived.
-    most-of : (R low high missing : List ℕ) → ((i : ℕ) → i < count P → onIn R i ≡ inForce P i) → Settled P (onIn R) high missing → HeldToo low (drop n (take (length row) row)) high → (f : ℕ) → f < maxFacts → has high f ≡ leastOf P (inForce P) (heldIn row n low) f
+    most-of : (R low high missing : List ℕ) → ((i : ℕ) → i < count P → onIn R i ≡ inForce P i) → Settled P (onIn R) high missing → HeldToo low (drop n (take (length row) row)) high → (f : ℕ) → f < maxFacts narrow → has high f ≡ leastOf P (inForce P) (heldIn row n low) f
     most-of R low high missing on s held = settled-set R high missing (heldIn row n low) on s agree
       where
         also : (k : ℕ) → has high (outside k) ≡ has low (outside k) || mem k (drop n row)
@@ -74,7 +74,7 @@ module _ (P : Program) (b : Bounded P) (few : P .facts ≤ maxFacts) where
 
   module _ {R row : List ℕ} {n : ℕ} {low missing high : List ℕ} (w : Branch P R row n low missing high) where
     -- what is derived whatever the others turn out to be
-    low-set : (f : ℕ) → f < maxFacts → has low f ≡ leastOf P (inForce P) (undecided (drop n row) (heldIn row n low)) f
+    low-set : (f : ℕ) → f < maxFacts narrow → has low f ≡ leastOf P (inForce P) (undecided (drop n row) (heldIn row n low)) f
     low-set = settled-set R low missing (undecided (drop n row) (heldIn row n low)) (w .in-force) (w .settled) agree
       where
         agree : (k : ℕ) → mem k (guessed P (inForce P)) ≡ true → notHeldOut (has low) k ≡ undecided (drop n row) (heldIn row n low) k
@@ -99,7 +99,7 @@ module _ (P : Program) (b : Bounded P) (few : P .facts ≤ maxFacts) where
         ∙ sym (all-append Test (take n row) (drop n row))
         ∙ ap (all Test) (take-append-drop n row ∙ w .guesses)
       where
-        guessed-in : (k : ℕ) → mem k row ≡ true → k < maxFacts
+        guessed-in : (k : ℕ) → mem k row ≡ true → k < maxFacts narrow
         guessed-in k m =
             let l : k < P .facts = guessed-below P k (ap (mem k) (sym (w .guesses)) ∙ m) in
             omega (arith, few)
@@ -107,7 +107,7 @@ module _ (P : Program) (b : Bounded P) (few : P .facts ≤ maxFacts) where
         one : (k : ℕ) → mem k (take n row) ≡ true → Alive k ≡ Test k
         one k t = go (has low (outside k)) refl
           where
-            below : k < maxFacts
+            below : k < maxFacts narrow
             below = guessed-in k (in-parts row n k ∙ rw t refl)
 
             go : (h : Bool) → has low (outside k) ≡ h → Alive k ≡ Test k

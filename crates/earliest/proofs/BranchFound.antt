@@ -15,8 +15,8 @@ use Rattle.theory.specs.Bounds.{alive, huntAlive}
 use Rattle.theory.proofs.Bools.{either, never}
 use Rattle.theory.proofs.Stable.{leastOf-least, least-within}
 use Rattle.theory.proofs.Bounds.{hunt-alive}
-use Rattle.items.specs.Item.{maxFacts, has}
-use Rattle.tables.proofs.MarksPainted.{past-end}
+use Rattle.items.specs.Item.{narrow, maxFacts, has}
+use Rattle.marking.proofs.MarksPainted.{past-end}
 use Rattle.earliest.specs.Branch.{Shown, Kept}
 
 module _ (P : Program) where
@@ -63,14 +63,14 @@ module _ (P : Program) where
       go (some G) s = s
 
   -- The bytes kept show the set that the marks show.
-  pub kept-set : Bounded P → P .facts ≤ maxFacts → (marks bytes : List ℕ) (G : FactSet) → Kept marks bytes → ((f : ℕ) → f < maxFacts → has marks f ≡ leastOf P (inForce P) G f) → has bytes ≡ leastOf P (inForce P) G
-  kept-set b few marks bytes G k s = fun-ext (λ f. ⊎-elim (inside f) (past f) (either (ltb f maxFacts)))
+  pub kept-set : Bounded P → P .facts ≤ maxFacts narrow → (marks bytes : List ℕ) (G : FactSet) → Kept marks bytes → ((f : ℕ) → f < maxFacts narrow → has marks f ≡ leastOf P (inForce P) G f) → has bytes ≡ leastOf P (inForce P) G
+  kept-set b few marks bytes G k s = fun-ext (λ f. ⊎-elim (inside f) (past f) (either (ltb f (maxFacts narrow))))
     where
-      inside : (f : ℕ) → ltb f maxFacts ≡ true → has bytes f ≡ leastOf P (inForce P) G f
-      inside f t = k .facts f (ltb-true f maxFacts t) ∙ s f (ltb-true f maxFacts t)
+      inside : (f : ℕ) → ltb f (maxFacts narrow) ≡ true → has bytes f ≡ leastOf P (inForce P) G f
+      inside f t = k .facts f (ltb-true f (maxFacts narrow) t) ∙ s f (ltb-true f (maxFacts narrow) t)
 
-      past : (f : ℕ) → ltb f maxFacts ≡ false → has bytes f ≡ leastOf P (inForce P) G f
+      past : (f : ℕ) → ltb f (maxFacts narrow) ≡ false → has bytes f ≡ leastOf P (inForce P) G f
       past f t =
-          let l : maxFacts ≤ f = ltb-false f maxFacts t in
+          let l : maxFacts narrow ≤ f = ltb-false f (maxFacts narrow) t in
           past-end bytes f (omega (arith, k .places))
           ∙ sym (least-within P (inForce P) G (leastOf P (inForce P) G) b (leastOf-least P (inForce P) G) f (omega (arith, few)))

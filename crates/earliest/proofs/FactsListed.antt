@@ -11,7 +11,7 @@ use borrow.Author.Tests.{eqb-true, eqb-false, ne-eqb, ltb-true}
 use lib.Dec.{eqb, ltb}
 use lib.ListN.{length, getD, set, take, drop, length-set, drop-of-length-le}
 use lib.Seq.{take-suc-set, getD-set-same, getD-set-other, drop-cons, getD-take, length-take-le}
-use Rattle.items.specs.Item.{maxGuessed, maxFacts, has}
+use Rattle.items.specs.Item.{narrow, maxFacts, maxGuessed, has}
 use Rattle.theory.specs.Rule.{all, keep, howMany, range, downFrom, upTo}
 use Rattle.theory.proofs.Bools.{either}
 use Rattle.theory.proofs.Lists.{howMany-append, less-one, all-elem, getD-mem}
@@ -119,8 +119,8 @@ module _ (low high : List ℕ) (k : ℕ) where
   unfolding has
   held-in n = rw (ne-eqb (getD low (outside k) 0) 1 n) refl
 
-pub row-below : (row : List ℕ) (n : ℕ) → all (λ k. ltb k maxFacts) row ≡ true → n < length row → getD row n 0 < maxFacts
-row-below row n a h = ltb-true (getD row n 0) maxFacts (all-elem (λ k. ltb k maxFacts) row a (getD row n 0) (getD-mem row n h))
+pub row-below : (row : List ℕ) (n : ℕ) → all (λ k. ltb k (maxFacts narrow)) row ≡ true → n < length row → getD row n 0 < maxFacts narrow
+row-below row n a h = ltb-true (getD row n 0) (maxFacts narrow) (all-elem (λ k. ltb k (maxFacts narrow)) row a (getD row n 0) (getD-mem row n h))
 
 -- A test of the first elements of a row: what is still to come gives what the whole gives.
 module _ (T : ℕ → Bool) (row : List ℕ) (m n : ℕ) (l : m ≤ length row) (rest : all T (take m row) ≡ all T (drop n (take m row))) where
@@ -145,17 +145,17 @@ module _ (T : ℕ → Bool) (row : List ℕ) (m n : ℕ) (l : m ≤ length row) 
 
 -- The facts below f are kept.
 pub record Keeping (marks found : List ℕ) (f : ℕ) : Type 0 where
-  pub places : length found ≡ maxFacts
+  pub places : length found ≡ maxFacts narrow
   pub kept : (g : ℕ) → g < f → has found g ≡ has marks g
 
 module _ (marks found : List ℕ) where
-  pub none-kept : length found ≡ maxFacts → Keeping marks found 0
+  pub none-kept : length found ≡ maxFacts narrow → Keeping marks found 0
   none-kept l = record { places = l; kept = λ g h. absurd (omega arith) }
 
-  pub all-kept : (f : ℕ) → maxFacts ≤ f → Keeping marks found f → Kept marks found
+  pub all-kept : (f : ℕ) → maxFacts narrow ≤ f → Keeping marks found f → Kept marks found
   all-kept f h w = record { places = w .places; facts = λ g l. w .kept g (omega arith) }
 
-  pub one-kept : (f : ℕ) → f < maxFacts → Keeping marks found f → Keeping marks (set found f (getD marks f 0)) (f + 1)
+  pub one-kept : (f : ℕ) → f < maxFacts narrow → Keeping marks found f → Keeping marks (set found f (getD marks f 0)) (f + 1)
   unfolding has
   one-kept f h w = record { places = length-set found f (getD marks f 0) ∙ w .places; kept = at-place }
     where

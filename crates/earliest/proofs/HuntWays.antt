@@ -11,10 +11,10 @@ use Rattle.theory.specs.Rule.{all, FactSet, Bounded, inForce, nothing}
 use Rattle.theory.specs.Search.{guessed, search}
 use Rattle.theory.specs.Bounds.{alive}
 use Rattle.theory.proofs.Lists.{all-of}
-use Rattle.items.specs.Item.{maxFacts, maxRules}
+use Rattle.items.specs.Item.{narrow, maxFacts, maxRules}
 use Rattle.tables.specs.Layout.{programIn}
 use Rattle.tables.proofs.ProgramHeld.{facts-below}
-use Rattle.tables.proofs.MarksPainted.{unmarked}
+use Rattle.marking.proofs.MarksPainted.{unmarked}
 use Rattle.index.specs.Literal.{literals}
 use Rattle.index.specs.Cells.{onIn}
 use Rattle.index.specs.Index.{LeftOut}
@@ -29,13 +29,13 @@ module _ {T R : List ℕ} (r : Ready T R) where
   facts-bounded : Bounded (programIn T)
   facts-bounded = r .well-formed .in-bounds
 
-  few : programIn T .facts ≤ maxFacts
+  few : programIn T .facts ≤ maxFacts narrow
   few = omega (arith, facts-below (r .well-formed))
 
-  pub row-facts : (row : List ℕ) → row ≡ guessed (programIn T) (inForce (programIn T)) → all (λ k. ltb k maxFacts) row ≡ true
+  pub row-facts : (row : List ℕ) → row ≡ guessed (programIn T) (inForce (programIn T)) → all (λ k. ltb k (maxFacts narrow)) row ≡ true
   row-facts row e =
-      all-of (λ k. ltb k maxFacts) row
-      (λ k m. lt-ltb k maxFacts (let l : k < programIn T .facts = guessed-below (programIn T) k (rw e at m) in omega (arith, few)))
+      all-of (λ k. ltb k (maxFacts narrow)) row
+      (λ k m. lt-ltb k (maxFacts narrow) (let l : k < programIn T .facts = guessed-below (programIn T) k (rw e at m) in omega (arith, few)))
 
   module _ {row : List ℕ} {n : ℕ} {low missing high : List ℕ} (w : Branch (programIn T) R row n low missing high) where
     is : all (Alive low high) (take n row) ≡ alive (programIn T) (inForce (programIn T)) (drop n row) (heldIn row n low)

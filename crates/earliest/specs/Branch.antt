@@ -8,7 +8,7 @@ use lib.ListN.{length, take, drop}
 use Rattle.theory.specs.Rule.{mem, Program, FactSet, inForce, count}
 use Rattle.theory.specs.Check.{leastOf}
 use Rattle.theory.specs.Search.{guessed}
-use Rattle.items.specs.Item.{maxFacts, has}
+use Rattle.items.specs.Item.{narrow, maxFacts, has}
 use Rattle.index.specs.Literal.{outside}
 use Rattle.index.specs.Cells.{onIn}
 use Rattle.propagation.specs.State.{Settled}
@@ -26,7 +26,7 @@ pub record Branch (P : Program) (R row : List ℕ) (decided : ℕ) (low missing 
   pub in-force : (i : ℕ) → i < count P → onIn R i ≡ inForce P i
   pub settled : Settled P (onIn R) low missing
   pub undecided-free : (k : ℕ) → mem k (drop decided row) ≡ true → has low (outside k) ≡ false
-  pub most : (f : ℕ) → f < maxFacts → has high f ≡ leastOf P (inForce P) (heldIn row decided low) f
+  pub most : (f : ℕ) → f < maxFacts narrow → has high f ≡ leastOf P (inForce P) (heldIn row decided low) f
 
 -- Whether a set was found, and then the bytes show it.
 abbrev pub Shown : Option FactSet → Bool → List ℕ → Type 0
@@ -35,5 +35,5 @@ Shown (some M) r bytes = (r ≡ true) × (has bytes ≡ M)
 
 -- the facts that the marks show, in bytes for the facts alone
 pub record Kept (marks bytes : List ℕ) : Type 0 where
-  pub places : length bytes ≡ maxFacts
-  pub facts : (f : ℕ) → f < maxFacts → has bytes f ≡ has marks f
+  pub places : length bytes ≡ maxFacts narrow
+  pub facts : (f : ℕ) → f < maxFacts narrow → has bytes f ≡ has marks f

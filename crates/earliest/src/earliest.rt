@@ -3,7 +3,7 @@ ghost use mathlib.Core.Path.{_≡_};
 ghost use lib.ListN.{length};
 ghost use Rattle.theory.specs.Rule.{inForce};
 ghost use Rattle.theory.specs.Search.{guessed, search};
-ghost use Rattle.items.specs.Item.{maxFacts};
+ghost use Rattle.items.specs.Item.{narrow, maxFacts};
 ghost use Rattle.tables.specs.Layout.{programIn, WellFormed};
 ghost use Rattle.earliest.specs.Branch.{Shown};
 use crate::hunt::hunt;
@@ -18,7 +18,7 @@ use tables::layout::TABLE_CELLS;
 
 // Whether a program has a stable set, and the earliest one. The row has its constraint facts from the highest-numbered down.
 pub fn earliest(tables: &[u16; TABLE_CELLS], row: &[u16], found: &mut [u8; MAX_FACTS]) -> bool
-    requires { ⌜ WellFormed (now tables) × (now row ≡ guessed (programIn (now tables)) (inForce (programIn (now tables)))) × (length (now found) ≡ maxFacts) ⌝ }
+    requires { ⌜ WellFormed (now tables) × (now row ≡ guessed (programIn (now tables)) (inForce (programIn (now tables)))) × (length (now found) ≡ maxFacts narrow) ⌝ }
     ensures { λ r. ⌜ Shown (search (programIn (now (tables .entry))) (inForce (programIn (now (tables .entry))))) r (now (found .exit)) ⌝ }
 {
     let off = [0u8; MAX_RULES];

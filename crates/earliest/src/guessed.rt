@@ -2,7 +2,7 @@
 ghost use Prim.Native.Nat.{_≤_};
 ghost use mathlib.Core.Path.{_≡_};
 ghost use lib.ListN.{length, take};
-ghost use Rattle.items.specs.Item.{maxGuessed, maxFacts, has};
+ghost use Rattle.items.specs.Item.{narrow, maxFacts, maxGuessed, has};
 ghost use Rattle.theory.specs.Rule.{howMany, keep, upTo, downFrom};
 use items::item::MAX_FACTS;
 
@@ -11,7 +11,7 @@ pub const MAX_GUESSED: usize = 16;
 
 // Lists the marked facts below a number, from the highest down. Answers how many there are.
 pub fn list_down(marks: &[u8; MAX_FACTS], facts: usize, row: &mut [u16; MAX_GUESSED]) -> usize
-    requires { ⌜ (facts ≤ maxFacts) × (howMany (has (now marks)) (upTo facts) ≤ maxGuessed) × (length (now row) ≡ maxGuessed) ⌝ }
+    requires { ⌜ (facts ≤ maxFacts narrow) × (howMany (has (now marks)) (upTo facts) ≤ maxGuessed) × (length (now row) ≡ maxGuessed) ⌝ }
     ensures { λ r. ⌜ (r ≤ maxGuessed) × (take r (now (row .exit)) ≡ keep (has (now (marks .entry))) (downFrom facts)) ⌝ }
 {
     let mut n: usize = 0;

@@ -8,7 +8,7 @@ ghost use lib.ListN.{length, take, drop};
 ghost use Rattle.theory.specs.Rule.{all, inForce};
 ghost use Rattle.theory.specs.Check.{leastOf};
 ghost use Rattle.theory.specs.Bounds.{huntAlive};
-ghost use Rattle.items.specs.Item.{maxFacts, has};
+ghost use Rattle.items.specs.Item.{narrow, maxFacts, has};
 ghost use Rattle.tables.specs.Layout.{programIn};
 ghost use Rattle.index.specs.Literal.{outside};
 ghost use Rattle.propagation.specs.State.{Ready};
@@ -22,7 +22,7 @@ use tables::layout::TABLE_CELLS;
 
 // A fact held out is not derived already, or a fact held in can still be derived.
 fn stands(low: &[u8; LITERALS], high: &[u8; LITERALS], fact: usize) -> bool
-    requires { ⌜ fact < maxFacts ⌝ }
+    requires { ⌜ fact < maxFacts narrow ⌝ }
     ensures { λ r. ⌜ r ≡ cond (has (now (low .entry)) (outside fact)) (not (has (now (low .entry)) fact)) (has (now (high .entry)) fact) ⌝ }
 {
     if low[MAX_FACTS + fact] == 1 {
@@ -34,7 +34,7 @@ fn stands(low: &[u8; LITERALS], high: &[u8; LITERALS], fact: usize) -> bool
 
 // Does each fact that is decided stand as it was decided?
 fn is_alive(row: &[u16], decided: usize, low: &[u8; LITERALS], high: &[u8; LITERALS]) -> bool
-    requires { ⌜ (decided ≤ length (now row)) × (all (λ k. ltb k maxFacts) (now row) ≡ true) ⌝ }
+    requires { ⌜ (decided ≤ length (now row)) × (all (λ k. ltb k (maxFacts narrow)) (now row) ≡ true) ⌝ }
     ensures { λ r. ⌜ r ≡ all (λ k. cond (has (now (low .entry)) (outside k)) (not (has (now (low .entry)) k)) (has (now (high .entry)) k)) (take decided (now (row .entry))) ⌝ }
 {
     let mut n: usize = 0;
@@ -49,7 +49,7 @@ fn is_alive(row: &[u16], decided: usize, low: &[u8; LITERALS], high: &[u8; LITER
 
 // Hands the facts marked over to the caller.
 fn keep_facts(marks: &[u8; LITERALS], found: &mut [u8; MAX_FACTS])
-    requires { ⌜ length (now found) ≡ maxFacts ⌝ }
+    requires { ⌜ length (now found) ≡ maxFacts narrow ⌝ }
     ensures { λ _. ⌜ Kept (now (marks .entry)) (now (found .exit)) ⌝ }
 {
     let mut f: usize = 0;
@@ -74,9 +74,9 @@ pub fn hunt(
 ) -> bool
     requires { ⌜ Ready (now tables) (now index) ⌝ }
     requires { ⌜ Branch (programIn (now tables)) (now index) (now row) decided (now low) (now missing) (now high) ⌝ }
-    requires { ⌜ length (now found) ≡ maxFacts ⌝ }
+    requires { ⌜ length (now found) ≡ maxFacts narrow ⌝ }
     ensures { λ r. ⌜ Shown (Option·map (leastOf (programIn (now (tables .entry))) (inForce (programIn (now (tables .entry))))) (huntAlive (programIn (now (tables .entry))) (inForce (programIn (now (tables .entry)))) (drop decided (now (row .entry))) (heldIn (now (row .entry)) decided (now (low .entry))))) r (now (found .exit)) ⌝ }
-    ensures { λ _. ⌜ length (now (found .exit)) ≡ maxFacts ⌝ }
+    ensures { λ _. ⌜ length (now (found .exit)) ≡ maxFacts narrow ⌝ }
 {
     if !is_alive(row, decided, low, high) {
         return false;
@@ -92,8 +92,9 @@ pub fn hunt(
     if hunt(tables, index, row, next, &marks, &left, high, found) {
         return true;
     }
-    let mut most = *low;
-    let mut rest = *missing;
-    hold_out(tables, index, row, next, row.len(), &mut most, &mut rest);
-    hunt(tables, index, row, next, low, missing, &most, found)
+    // The same two arrays again: each branch of the search keeps its own on the stack.
+    marks = *low;
+    left = *missing;
+    hold_out(tables, index, row, next, row.len(), &mut marks, &mut left);
+    hunt(tables, index, row, next, low, missing, &marks, found)
 }

@@ -1,18 +1,17 @@
 -- A rule in force is in the chain of each literal of its body, once.
 use Prim.Native.Nat.{ℕ, _+_, _<_}
 use mathlib.Core.Path.{_≡_, refl, sym, ap, _∙_}
-use mathlib.Core.Bool.{Bool, true, false, not, _&&_}
-use mathlib.Core.List.{List}
+use mathlib.Core.Bool.{Bool, true, false, _&&_}
 use mathlib.Core.Logic.{⊎-elim}
 use native.Mathlib.Omega.{arith}
 use borrow.Author.Tests.{eqb-true, lt-ltb}
 use lib.Dec.{eqb, ltb}
 use Rattle.theory.specs.Rule.{all, mem, howMany, upTo, adjoin, Program, Mask, count, rule}
-use Rattle.theory.proofs.Bools.{either, and-left, and-right, and-both, and-false, never}
+use Rattle.theory.proofs.Bools.{either, and-left, and-right, and-both, and-false}
 use Rattle.theory.proofs.Lists.{all-of, mem-keep, mem-upTo, howMany-ext, howMany-keep, howMany-upTo}
+use Rattle.theory.proofs.Counted.{none-counted}
 use Rattle.index.specs.Literal.{literals, body, lacking}
 use Rattle.index.specs.Index.{asks, askers}
-use Rattle.index.proofs.ElementsCounted.{none-counted}
 use Rattle.index.proofs.LiteralsCounted.{asked-lacking, unasked-lacking}
 
 module _ (P : Program) (on : Mask) (l : ℕ) where

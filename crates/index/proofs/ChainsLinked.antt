@@ -1,5 +1,5 @@
 -- A rule is put before the chains of its literals: each chain that it is put before has it once.
-use Prim.Native.Nat.{ℕ, zero, suc, _+_, _≤_, _<_}
+use Prim.Native.Nat.{ℕ, _+_, _≤_, _<_}
 use mathlib.Core.Path.{_≡_, refl, sym, ap, subst, fun-ext, _∙_}
 use mathlib.Core.Bool.{Bool, true, false, cond, not, _&&_, _||_}
 use mathlib.Core.List.{List, [], _∷_, _++_}
@@ -9,10 +9,9 @@ use borrow.Author.Tests.{eqb-true, eqb-false, eq-eqb, ne-eqb, ltb-true}
 use lib.ListN.{length, getD, set, length-set}
 use lib.Seq.{getD-set-same, getD-set-other}
 use lib.Dec.{eqb, ltb}
-use Rattle.theory.specs.Rule.{all, mem, adjoin, nothing}
-use Rattle.theory.proofs.Bools.{either, never, and-left, and-right, and-false}
+use Rattle.theory.specs.Rule.{all, mem, adjoin}
+use Rattle.theory.proofs.Bools.{either, and-left, and-right, and-false}
 use Rattle.theory.proofs.Lists.{eqb-self}
-use Rattle.items.specs.Item.{maxRules}
 use Rattle.index.specs.Literal.{literals, literalCount}
 use Rattle.index.specs.Cells.{slots, headsFrom, linksFrom, ownersFrom, marksFrom, indexCells, headIn, linkIn, ownerIn, onIn}
 use Rattle.index.specs.Index.{Chain}

@@ -1,4 +1,4 @@
-pub mod ElementsCounted
+pub mod MappedElements
 pub mod LiteralsCounted
 pub mod LiteralsBelow
 pub mod AskersCounted

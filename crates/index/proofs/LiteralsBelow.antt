@@ -9,10 +9,10 @@ use lib.Dec.{ltb}
 use Rattle.theory.specs.Rule.{all, mem, Program, Bounded, count, rule}
 use Rattle.theory.proofs.Bools.{and-left, and-right, and-both}
 use Rattle.theory.proofs.Lists.{all-elem, all-of, all-append}
-use Rattle.items.specs.Item.{maxFacts}
+use Rattle.items.specs.Item.{narrow, maxFacts}
 use Rattle.index.specs.Literal.{outside, literals, body}
 
-module _ (P : Program) (b : Bounded P) (few : P .facts ≤ maxFacts) (i : ℕ) (h : i < count P) where
+module _ (P : Program) (b : Bounded P) (few : P .facts ≤ maxFacts narrow) (i : ℕ) (h : i < count P) where
   pub premises-small : all (λ l. ltb l literals) (rule P i .premises) ≡ true
   premises-small = all-of (λ l. ltb l literals) (rule P i .premises) (λ x m. small x (all-elem (λ f. ltb f (P .facts)) (rule P i .premises) (b .premises-below i h) x m))
     where

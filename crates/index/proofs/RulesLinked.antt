@@ -1,28 +1,28 @@
 -- The index is filled from the last rule to the first: the rules passed are in the chains of their literals.
-use Prim.Native.Nat.{ℕ, zero, suc, _+_, _-_, _≤_, _<_}
+use Prim.Native.Nat.{ℕ, _+_, _-_, _≤_, _<_}
 use mathlib.Core.Path.{_≡_, refl, sym, ap, subst, _∙_}
-use mathlib.Core.Bool.{Bool, true, false, cond, not, _&&_, _||_}
-use mathlib.Core.List.{List, [], _∷_, _++_, map}
+use mathlib.Core.Bool.{Bool, true, false, cond, _&&_, _||_}
+use mathlib.Core.List.{List, [], _∷_, map}
 use mathlib.Core.Logic.{⊎-elim}
 use native.Mathlib.Omega.{arith}
 use borrow.Author.Tests.{eqb-true, eqb-false, eq-eqb, ne-eqb, lt-ltb}
-use lib.ListN.{length, getD, set, replicate, length-set, length-replicate, length-append, length-map}
+use lib.ListN.{length, getD, set, length-set, length-replicate, length-append, length-map}
 use lib.Seq.{getD-set-same, getD-set-other}
 use lib.Dec.{eqb, ltb}
-use Rattle.theory.specs.Rule.{all, mem, keep, range, upTo, nothing, Program, Mask, inForce, count, rule}
+use Rattle.theory.specs.Rule.{all, mem, keep, range, upTo, nothing, Program, Mask, count, rule}
 use Rattle.theory.proofs.Bools.{either, and-left, and-true, or-none}
-use Rattle.theory.proofs.Lists.{all-of, mem-keep, mem-range, range-cons, range-end, range-all, keep-same, mem-upTo}
-use Rattle.items.specs.Item.{maxFacts, maxRules, has}
-use Rattle.tables.specs.Layout.{maxOwn, rulesIn, premiseStart, constraintStart, programIn, WellFormed}
+use Rattle.theory.proofs.Lists.{zeros, all-of, mem-keep, mem-range, range-cons, range-end, range-all, keep-same, mem-upTo}
+use Rattle.items.specs.Item.{narrow, maxFacts, maxRules, has}
+use Rattle.tables.specs.Layout.{premiseStart, constraintStart, programIn, WellFormed}
 use Rattle.tables.proofs.ProgramHeld.{facts-below, rules-below, rules-held}
 use Rattle.tables.proofs.PartsSpanned.{premises-length, constraints-length}
-use Rattle.index.specs.Literal.{outside, literals, body, literalCount, lacks, lacking}
+use Rattle.index.specs.Literal.{outside, literals, body, lacks, lacking}
 use Rattle.index.specs.Cells.{slots, headsFrom, marksFrom, indexCells, headIn, linkIn, ownerIn, onIn}
 use Rattle.index.specs.Index.{Chain, asks, askers, Indexed, inForceBut, LeftOut, Sized, Blank}
 use Rattle.index.specs.Linked.{Filled, linkAll, Room}
 use Rattle.index.proofs.LiteralsCounted.{count-same, count-none}
 use Rattle.index.proofs.LiteralsBelow.{premises-small, body-small}
-use Rattle.index.proofs.ChainsLinked.{withRule, Linking, all-linked, all-marks-kept, all-slots, all-room, link-append}
+use Rattle.index.proofs.ChainsLinked.{Linking, all-linked, all-marks-kept, all-slots, all-room, link-append}
 
 -- the rules from i on that are on and ask the literal
 abbrev pub askersFrom : Program → Mask → ℕ → ℕ → List ℕ
@@ -43,11 +43,6 @@ pub record Indexing (T : List ℕ) (on : Mask) (R missing : List ℕ) (slot i : 
   pub rule-places : length missing ≡ maxRules
   pub sizes : (j : ℕ) → i ≤ j → j < count (programIn T) → getD missing j 0 ≡ cond (on j) (lacking (programIn T) nothing j) 1
 
-zeros : (n i : ℕ) → _≡_ {A = ℕ} (getD (replicate n 0) i 0) 0
-zeros zero i = refl
-zeros (suc n) zero = refl
-zeros (suc n) (suc i) = zeros n i
-
 pub none-passed : {T R missing : List ℕ} (on : Mask) (n : ℕ) → n ≡ count (programIn T) → Blank R missing → Indexing T on R missing 1 n
 none-passed {T} {R} {missing} on n q b =
     rw q
@@ -67,7 +62,7 @@ none-passed {T} {R} {missing} on n q b =
 
 -- The parts of a rule.
 module _ {T : List ℕ} (w : WellFormed T) {r : ℕ} (h : r < count (programIn T)) where
-  few : programIn T .facts ≤ maxFacts
+  few : programIn T .facts ≤ maxFacts narrow
   few = omega (arith, facts-below w)
 
   premises-in : all (λ l. ltb l literals) (rule (programIn T) r .premises) ≡ true

@@ -3,14 +3,14 @@ use Prim.Native.Nat.{ℕ, _+_}
 use mathlib.Core.Bool.{Bool, not, _&&_}
 use mathlib.Core.List.{List, _++_, map}
 use Rattle.theory.specs.Rule.{howMany, mem, upTo, Rule, Program, rule}
-use Rattle.items.specs.Item.{maxFacts}
+use Rattle.items.specs.Item.{narrow, maxFacts}
 
 abbrev pub outside : ℕ → ℕ
-outside k = maxFacts + k
+outside k = maxFacts narrow + k
 
 -- Every literal is below this.
 abbrev pub literals : ℕ
-literals = maxFacts + maxFacts
+literals = maxFacts narrow + maxFacts narrow
 
 -- What a rule asks: its premises in, its constraints out.
 abbrev pub body : Rule → List ℕ

@@ -10,10 +10,10 @@ use native.Mathlib.Numerals.{add-one}
 use lib.ListN.{length, getD, take, drop, length-drop}
 use lib.Seq.{drop-cons, drop-drop}
 use lib.Dec.{eqb}
-use Rattle.items.specs.Item.{factsKind, opensKind, premiseKind, constraintKind, rulesKind, namesKind, stepKind, factBytes, noSuchKind, bodyLength, bigEndian, stepFact, stepRule}
+use Rattle.items.specs.Item.{narrow, factBytes, factsKind, opensKind, premiseKind, constraintKind, rulesKind, namesKind, stepKind, noSuchKind, bodyLength, bigEndian, stepFact, stepRule}
 
 -- The kinds of a file's items that name a fact are neighbours.
-pub fact-kinds : (k : ℕ) → 1 ≤ k → k < 4 → bodyLength k ≡ factBytes
+pub fact-kinds : (k : ℕ) → 1 ≤ k → k < 4 → bodyLength narrow k ≡ factBytes narrow
 unfolding bodyLength
 fact-kinds zero a b = absurd (omega arith)
 fact-kinds (suc zero) a b = refl
@@ -23,28 +23,28 @@ fact-kinds (suc (suc (suc (suc n)))) a b = absurd (omega arith)
 
 -- k is none of the kinds but perhaps a step's
 pub record NoOther (k : ℕ) : Type 0 where
-  pub facts : k ≡ factsKind → ⊥
-  pub opens : k ≡ opensKind → ⊥
-  pub premise : k ≡ premiseKind → ⊥
-  pub constraint : k ≡ constraintKind → ⊥
+  pub facts : k ≡ factsKind narrow → ⊥
+  pub opens : k ≡ opensKind narrow → ⊥
+  pub premise : k ≡ premiseKind narrow → ⊥
+  pub constraint : k ≡ constraintKind narrow → ⊥
   pub rules : k ≡ rulesKind → ⊥
   pub names : k ≡ namesKind → ⊥
 
-pub unknown : (k : ℕ) → NoOther k → (k ≡ stepKind → ⊥) → bodyLength k ≡ noSuchKind
+pub unknown : (k : ℕ) → NoOther k → (k ≡ stepKind narrow → ⊥) → bodyLength narrow k ≡ noSuchKind
 unfolding bodyLength
 unknown k h s =
     rw
-    (ne-eqb k factsKind (h .facts), ne-eqb k opensKind (h .opens), ne-eqb k premiseKind (h .premise), ne-eqb k constraintKind (h .constraint), ne-eqb k rulesKind (h .rules), ne-eqb k namesKind (h .names), ne-eqb k stepKind s)
+    (ne-eqb k (factsKind narrow) (h .facts), ne-eqb k (opensKind narrow) (h .opens), ne-eqb k (premiseKind narrow) (h .premise), ne-eqb k (constraintKind narrow) (h .constraint), ne-eqb k rulesKind (h .rules), ne-eqb k namesKind (h .names), ne-eqb k (stepKind narrow) s)
 
-pub a-step : (k : ℕ) → NoOther k → bodyLength k < noSuchKind → k ≡ stepKind
-a-step k h small = go (eqb k stepKind) refl
+pub a-step : (k : ℕ) → NoOther k → bodyLength narrow k < noSuchKind → k ≡ stepKind narrow
+a-step k h small = go (eqb k (stepKind narrow)) refl
   where
-    go : (b : Bool) → eqb k stepKind ≡ b → k ≡ stepKind
-    go true e = eqb-true k stepKind e
-    go false e = absurd (omega (arith, unknown k h (eqb-false k stepKind e)))
+    go : (b : Bool) → eqb k (stepKind narrow) ≡ b → k ≡ stepKind narrow
+    go true e = eqb-true k (stepKind narrow) e
+    go false e = absurd (omega (arith, unknown k h (eqb-false k (stepKind narrow) e)))
 
 -- What is left past the arms of `body_length`.
-pub unlisted : (k : ℕ) → ((Unit {0} × (k ≡ factsKind → ⊥)) × ((k ≡ namesKind) ⊎ (k ≡ rulesKind) → ⊥)) × (k ≡ stepKind → ⊥) → (1 ≤ k → k < 4 → ⊥) → bodyLength k ≡ noSuchKind
+pub unlisted : (k : ℕ) → ((Unit {0} × (k ≡ factsKind narrow → ⊥)) × ((k ≡ namesKind) ⊎ (k ≡ rulesKind) → ⊥)) × (k ≡ stepKind narrow → ⊥) → (1 ≤ k → k < 4 → ⊥) → bodyLength narrow k ≡ noSuchKind
 unlisted k h far =
     unknown k
     (record {

@@ -1,11 +1,5 @@
 pub mod RefusalNumbers
 pub mod FirstNo
 pub mod Bodies
-pub mod EachKind
-pub mod CursorWays
-pub mod OneRow
-pub mod Items
-pub mod ReadBack
-pub mod ReadNumbers
-pub mod NoItemRead
+pub mod ItemSays
 pub mod PlacedBytes

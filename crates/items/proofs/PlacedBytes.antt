@@ -1,16 +1,21 @@
--- Bytes placed in a row, part after part.
-use Prim.Native.Nat.{ℕ, _+_, _-_, _≤_}
+-- Bytes, or other numbers, placed in a row, part after part.
+use Prim.Native.Nat.{ℕ, _+_, _-_, _≤_, _<_}
 use native.Mathlib.Omega.{arith}
 use native.Mathlib.Nat.{add-zero}
+use native.Mathlib.Numerals.{add-one}
 use mathlib.Core.Path.{_≡_, sym, ap, _∙_}
-use mathlib.Core.List.{List, [], _++_, append-assoc}
-use lib.ListN.{length, take, drop, length-append, length-drop, take-append-drop}
-use lib.Seq.{take-at, drop-at, drop-drop, length-take-le}
+use mathlib.Core.List.{List, [], _∷_, _++_, append-assoc}
+use lib.ListN.{length, take, drop, set, length-append, length-drop, take-append-drop}
+use lib.Seq.{sets, sets-eq, set-split, take-at, drop-at, drop-drop, length-take-le}
 use Rattle.items.specs.Write.{placed}
 
 -- Nothing placed leaves the bytes as they are.
 pub placed-none : (at : ℕ) (s : List ℕ) → placed [] at s ≡ s
 placed-none at s = ap (λ (n : ℕ). take at s ++ drop n s) (add-zero at) ∙ take-append-drop at s
+
+-- One number placed is stored.
+pub placed-one : (x at : ℕ) (s : List ℕ) → at < length s → placed (x ∷ []) at s ≡ set s at x
+placed-one x at s h = ap (λ (n : ℕ). take at s ++ (x ∷ drop n s)) (add-one at) ∙ sym (set-split s at x h)
 
 module _ (a s : List ℕ) (at : ℕ) (fits : at + length a ≤ length s) where
   head-length : length (take at s ++ a) ≡ at + length a
@@ -18,6 +23,10 @@ module _ (a s : List ℕ) (at : ℕ) (fits : at + length a ≤ length s) where
 
   joined : placed a at s ≡ (take at s ++ a) ++ drop (at + length a) s
   joined = sym (append-assoc (take at s) a (drop (at + length a) s))
+
+  -- what stands up to the end of what is placed
+  pub placed-front : take (at + length a) (placed a at s) ≡ take at s ++ a
+  placed-front = ap (take (at + length a)) joined ∙ take-at (take at s ++ a) (drop (at + length a) s) (at + length a) head-length
 
   pub placed-length : length (placed a at s) ≡ length s
   placed-length =
@@ -46,3 +55,7 @@ module _ (a s : List ℕ) (at : ℕ) (fits : at + length a ≤ length s) where
           rw (take-at (take at s ++ a) (drop (at + length a) s) (at + length a) head-length, tail)
           (append-assoc (take at s) a (b ++ drop (at + length (a ++ b)) s)
           ∙ ap (λ (l : List ℕ). take at s ++ l) (sym (append-assoc a b (drop (at + length (a ++ b)) s))))
+
+-- One store for each byte.
+pub stored : (vs l : List ℕ) (at : ℕ) → at + length vs ≤ length l → sets l at vs ≡ placed vs at l
+stored vs l at h = sets-eq vs l at h ∙ append-assoc (take at l) vs (drop (at + length vs) l)

@@ -1,5 +1,4 @@
 -- What is promised.
 pub mod Question
 pub mod Item
-pub mod Cursor
 pub mod Write

@@ -1,7 +1,7 @@
 ghost use mathlib.Core.Path.{_≡_};
 ghost use Prim.Native.Nat.{_+_, _<_, _≤_};
 ghost use lib.ListN.{length, take, drop};
-ghost use Rattle.items.specs.Item.{bodyLength, noSuchKind, bigEndian, itemOf};
+ghost use Rattle.items.specs.Item.{narrow, bodyLength, noSuchKind, bigEndian, itemOf};
 
 // A fact number and a rule number are counted separately, each from 0, and each indexes its own marks.
 pub struct FactId(pub u16);
@@ -39,15 +39,23 @@ pub const NAMES_KIND: u8 = 0x05;
 
 pub const STEP_KIND: u8 = 0x06;
 
+// The bytes of a kind, of a fact number and of a rule number.
+pub const KIND_BYTES: usize = 1;
+
 pub const FACT_BYTES: usize = 1;
 
 pub const RULE_BYTES: usize = 2;
 
 // The bytes of an item of a file that names a fact.
-pub const ITEM_WIDTH: usize = 1 + FACT_BYTES;
+pub const ITEM_WIDTH: usize = KIND_BYTES + FACT_BYTES;
+
+// A number of several bytes has them as its digits, in this base.
+pub const BASE: u16 = 256;
+
+const BYTE_BITS: usize = 8;
 
 // A table of this length has a place for every fact number, and one of this for every rule.
-pub const MAX_FACTS: usize = 256;
+pub const MAX_FACTS: usize = 1 << (BYTE_BITS * FACT_BYTES);
 
 pub const MAX_RULES: usize = 512;
 
@@ -59,7 +67,7 @@ const NO_SUCH_KIND: usize = 255;
 
 // How many bytes of body follow a kind. The one place that knows.
 pub fn body_length(kind: u8) -> usize
-    ensures { λ r. ⌜ r ≡ bodyLength kind ⌝ }
+    ensures { λ r. ⌜ r ≡ bodyLength narrow kind ⌝ }
 {
     match kind {
         FACTS_KIND | OPENS_KIND | PREMISE_KIND | CONSTRAINT_KIND => FACT_BYTES,
@@ -82,13 +90,13 @@ pub fn two_bytes(bytes: &[u8], at: usize) -> u16
     requires { ⌜ at + 2 ≤ length (now bytes) ⌝ }
     ensures { λ r. ⌜ r ≡ bigEndian (take 2 (drop at (now (bytes .entry)))) ⌝ }
 {
-    (bytes[at] as u16) * 256 + (bytes[at + 1] as u16)
+    (bytes[at] as u16) * BASE + (bytes[at + 1] as u16)
 }
 
 // The item of a kind whose body starts at a place. Internal: the cursor has seen that the kind is one of a row, and the body whole.
 pub fn item_of(kind: u8, bytes: &[u8], at: usize) -> Item
-    requires { ⌜ (bodyLength kind < noSuchKind) × (at + bodyLength kind ≤ length (now bytes)) ⌝ }
-    ensures { λ r. ⌜ r ≡ itemOf kind (take (bodyLength kind) (drop at (now (bytes .entry)))) ⌝ }
+    requires { ⌜ (bodyLength narrow kind < noSuchKind) × (at + bodyLength narrow kind ≤ length (now bytes)) ⌝ }
+    ensures { λ r. ⌜ r ≡ itemOf narrow kind (take (bodyLength narrow kind) (drop at (now (bytes .entry)))) ⌝ }
 {
     match kind {
         FACTS_KIND => Item::Facts(one_byte(bytes, at)),

@@ -2,19 +2,29 @@
 ghost use mathlib.Core.Path.{_≡_};
 ghost use Prim.Native.Nat.{_+_, _<_, _≤_};
 ghost use lib.ListN.{length};
-ghost use Rattle.items.specs.Item.{maxFacts, nameWidth, stepWidth};
+ghost use Rattle.items.specs.Item.{narrow, maxFacts, nameWidth, stepWidth};
 ghost use Rattle.items.specs.Write.{ruleItem, stepItem, placed};
+use crate::item::BASE;
 use crate::item::FACT_BYTES;
 use crate::item::FactId;
+use crate::item::KIND_BYTES;
 use crate::item::NAMES_KIND;
 use crate::item::RULE_BYTES;
 use crate::item::RuleId;
 use crate::item::STEP_KIND;
 
 // The bytes of an item of an order, and of a step.
-pub const NAME_WIDTH: usize = 1 + RULE_BYTES;
+pub const NAME_WIDTH: usize = KIND_BYTES + RULE_BYTES;
 
-pub const STEP_WIDTH: usize = 1 + FACT_BYTES + RULE_BYTES;
+pub const STEP_WIDTH: usize = KIND_BYTES + FACT_BYTES + RULE_BYTES;
+
+// Where the low byte of the rule number stands, the last of an item: behind the high byte.
+const NAME_LAST: usize = NAME_WIDTH - 1;
+
+const STEP_LAST: usize = STEP_WIDTH - 1;
+
+// Where the rule number of a step begins.
+const STEP_RULE: usize = KIND_BYTES + FACT_BYTES;
 
 // An item that names a rule.
 pub fn write_rule_item(out: &mut [u8], at: usize, rule: RuleId)
@@ -23,18 +33,18 @@ pub fn write_rule_item(out: &mut [u8], at: usize, rule: RuleId)
 {
     let number = rule.0;
     out[at] = NAMES_KIND;
-    out[at + 1] = (number / 256) as u8;
-    out[at + 2] = (number % 256) as u8;
+    out[at + KIND_BYTES] = (number / BASE) as u8;
+    out[at + NAME_LAST] = (number % BASE) as u8;
 }
 
 // A step.
 pub fn write_step_item(out: &mut [u8], at: usize, fact: FactId, rule: RuleId)
-    requires { ⌜ (fact .0 < maxFacts) × (at + stepWidth ≤ length (now out)) ⌝ }
-    ensures { λ _. ⌜ now (out .exit) ≡ placed (stepItem (fact .0) (rule .0)) at (now (out .entry)) ⌝ }
+    requires { ⌜ (fact .0 < maxFacts narrow) × (at + stepWidth narrow ≤ length (now out)) ⌝ }
+    ensures { λ _. ⌜ now (out .exit) ≡ placed (stepItem narrow (fact .0) (rule .0)) at (now (out .entry)) ⌝ }
 {
     let number = rule.0;
     out[at] = STEP_KIND;
-    out[at + 1] = fact.0 as u8;
-    out[at + 2] = (number / 256) as u8;
-    out[at + 3] = (number % 256) as u8;
+    out[at + KIND_BYTES] = fact.0 as u8;
+    out[at + STEP_RULE] = (number / BASE) as u8;
+    out[at + STEP_LAST] = (number % BASE) as u8;
 }

@@ -1,9 +1,9 @@
 -- What the judge answers, by the questions that led there.
 use Prim.Native.Nat.{ℕ, _≤_}
 use native.Mathlib.Omega.{arith}
-use mathlib.Core.Path.{_≡_, refl, sym, ap, ap₂, _∙_}
+use mathlib.Core.Path.{_≡_, refl, sym, ap, _∙_}
 use mathlib.Core.Bool.{Bool, not, cond, _&&_}
-use mathlib.Core.List.{List, _++_}
+use mathlib.Core.List.{List}
 use mathlib.Core.Option.{Option, none, some}
 use lib.ListN.{length}
 use Rattle.theory.specs.Rule.{Program, Mask, inForce, exception}
@@ -18,7 +18,7 @@ use Rattle.reader.specs.Questions.{programOf}
 use Rattle.reader.specs.Asked.{fileAsked}
 use Rattle.questions.specs.declared.answer.Answer.{Answer}
 use Rattle.questions.specs.declared.answer.Answer.the-variants.{Yes, No}
-use Rattle.questions.specs.Questions.{listQuestions, setQuestions, listNo, setNo, judgeQuestions, judgeNo}
+use Rattle.questions.specs.Questions.{listQuestions, listNo, setNo, judgeQuestions, judgeNo}
 use Rattle.questions.specs.Answer.{answerOf}
 use Rattle.questions.specs.Named.{Listed}
 use Rattle.questions.proofs.OperationAsked.{Passed, file-refused, file-accepted, yes-to-set}

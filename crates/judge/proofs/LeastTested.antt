@@ -5,19 +5,19 @@ use mathlib.Core.Bool.{Bool, true, false, not, _&&_, _||_, Bool·beq}
 use mathlib.Core.List.{List, []}
 use native.Mathlib.Omega.{arith}
 use lib.ListN.{replicate}
-use Rattle.theory.specs.Rule.{all, mem, keep, upTo, Program, Mask, FactSet, Bounded, count}
+use Rattle.theory.specs.Rule.{all, keep, upTo, Program, Mask, FactSet, Bounded, count}
 use Rattle.theory.specs.Check.{leastOf, isStable}
 use Rattle.theory.proofs.Bools.{or-none}
 use Rattle.theory.proofs.Lists.{all-ext, mem-keep, mem-upTo, upTo-mem}
 use Rattle.theory.proofs.Stable.{constraint-below, leastOf-agrees, leastOf-mask}
-use Rattle.items.specs.Item.{maxFacts, has}
-use Rattle.tables.proofs.MarksPainted.{unmarked}
+use Rattle.items.specs.Item.{narrow, maxFacts, has}
+use Rattle.marking.proofs.MarksPainted.{unmarked}
 use Rattle.index.specs.Literal.{outside, literals}
 use Rattle.index.specs.Cells.{onIn}
 use Rattle.propagation.specs.State.{notHeldOut, Settled, HeldToo}
 use Rattle.propagation.proofs.Least.{settled-least}
 
-module _ (P : Program) (b : Bounded P) (few : P .facts ≤ maxFacts) (R set first marks missing : List ℕ) (s : Settled P (onIn R) marks missing) (none : HeldToo (replicate literals 0) [] first) (held : HeldToo first (keep (λ k. not (has set k)) (upTo (P .facts))) marks) where
+module _ (P : Program) (b : Bounded P) (few : P .facts ≤ maxFacts narrow) (R set first marks missing : List ℕ) (s : Settled P (onIn R) marks missing) (none : HeldToo (replicate literals 0) [] first) (held : HeldToo first (keep (λ k. not (has set k)) (upTo (P .facts))) marks) where
   none-out : (k : ℕ) → has first (outside k) ≡ false
   none-out k = none k ∙ or-none (has (replicate literals 0) (outside k)) ∙ ap (λ (p : ℕ → Bool). p (outside k)) (unmarked literals)
 

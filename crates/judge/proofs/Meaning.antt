@@ -19,7 +19,7 @@ use Rattle.items.proofs.FirstNo.{both-yes}
 use Rattle.reader.proofs.Accepted.{accepted-file, bounded}
 use Rattle.items.specs.Item.{has}
 use Rattle.questions.specs.Questions.{listQuestions, setQuestions, setNo, judgeQuestions, judgeNo}
-use Rattle.tables.proofs.MarksPainted.{past-end}
+use Rattle.marking.proofs.MarksPainted.{past-end}
 use Rattle.questions.proofs.OperationAsked.{yes-to-set}
 use Rattle.judge.specs.declared.answer.Judged.{Judged}
 use Rattle.judge.specs.declared.answer.Judged.the-variants.{Stable, NotStable}

@@ -32,7 +32,7 @@ fn judge_program(tables: &[u16; TABLE_CELLS], list: &[u8], set: &[u8]) -> Judged
     ensures { λ r. ⌜ r ≡ judgedOf (programIn (now (tables .entry))) (now (list .entry)) (now (set .entry)) ⌝ }
 {
     let mut listed = [0u8; MAX_RULES];
-    let on_list = questions::order::ask_listed(tables, list, &mut listed);
+    let on_list = naming::order::ask_listed(tables, list, &mut listed);
     if let Answer::No(r) = on_list {
         return Judged::Refused(r);
     }

@@ -9,15 +9,15 @@ ghost use Rattle.items.specs.Write.{over};
 ghost use Rattle.reader.specs.Questions.{exceptions};
 ghost use Rattle.questions.specs.Questions.{naming};
 ghost use Rattle.tables.specs.Layout.{programIn, WellFormed};
-use crate::groups::OTHER;
-use crate::groups::UPHELD;
+use crate::groups::GROUPS;
 use crate::groups::groups_of;
 use items::item::MAX_FACTS;
-use questions::write::write_names;
+use naming::write::write_names;
 use tables::layout::TABLE_CELLS;
 use tables::layout::rules_of;
 
-// Writes the order for a set to the front of the buffer: the upheld exception rules ascending, then the others ascending. Answers its length.
+// Writes the order for a set to the front of the buffer: the exception rules group by group, each group ascending. Answers its
+// length.
 pub fn write_order(tables: &[u16; TABLE_CELLS], set: &[u8; MAX_FACTS], order: &mut [u8]) -> usize
     requires { ⌜ WellFormed (now tables) ⌝ }
     requires { ⌜ nameWidth * exceptions (programIn (now tables)) ≤ length (now order) ⌝ }
@@ -25,6 +25,11 @@ pub fn write_order(tables: &[u16; TABLE_CELLS], set: &[u8; MAX_FACTS], order: &m
 {
     let rules = rules_of(tables);
     let groups = groups_of(tables, set);
-    let first = write_names(&groups, UPHELD, rules, order, 0);
-    write_names(&groups, OTHER, rules, order, first)
+    let mut at: usize = 0;
+    let mut group: u8 = 0;
+    while group < GROUPS {
+        at = write_names(&groups, group, rules, order, at);
+        group += 1;
+    }
+    at
 }

@@ -12,20 +12,19 @@ use Rattle.theory.specs.Rule.{mem, keep, upTo, Program, inForce, count, excepti
 use Rattle.theory.proofs.Bools.{and-right, and-both}
 use Rattle.theory.proofs.Lists.{all-of, mem-keep, mem-upTo, upTo-mem, keep-same}
 use Rattle.items.specs.declared.refusal.Refusal.{Refusal}
-use Rattle.items.specs.Item.{stepWidth, maxFacts, maxRules}
+use Rattle.items.specs.Item.{narrow, stepWidth, maxFacts, maxRules}
 use Rattle.reader.specs.Questions.{programOf, fileNo}
 use Rattle.tables.specs.Layout.{programIn, WellFormed}
-use Rattle.tables.specs.Marks.{paint}
+use Rattle.marking.specs.Marks.{paint}
 use Rattle.tables.proofs.ProgramHeld.{rules-below}
-use Rattle.tables.proofs.MarksPainted.{unpainted}
-use Rattle.tables.proofs.RulesMarked.{plain-at}
-use Rattle.items.proofs.EachKind.{Bytes}
-use Rattle.reader.proofs.Accepted.{accepted-file, rules-few, facts-below}
+use Rattle.marking.proofs.MarksPainted.{unpainted}
+use Rattle.marking.proofs.RulesMarked.{plain-at}
+use Rattle.reader.proofs.Accepted.{accepted-file, rules-few}
 use Rattle.questions.specs.Questions.{orderQuestions, orderNo, bufferQuestions, runQuestions, buffersNo, runNo, naming}
 use Rattle.items.proofs.FirstNo.{all-yes}
 use Rattle.questions.proofs.OperationAsked.{file-accepted}
 use Rattle.questions.proofs.Orders.{keep-once, order-yes}
-use Rattle.panel_text.specs.Text.{ascending}
+use Rattle.panel_lines.specs.Text.{ascending}
 use Rattle.questions.specs.Orders.{placesMarked}
 
 -- The rules that are not marked as plain are the exception rules, ascending.
@@ -52,18 +51,18 @@ ascending-yes known n =
     (λ i h k. rw (mem-keep known (upTo n) i) (and-both (upTo-mem n i h) k))
 
 -- Working memory for every fact and every rule is large enough.
-buffers-yes : (P : Program) → P .facts ≤ maxFacts → count P ≤ maxRules → _≡_ {A = Option Refusal} (buffersNo P maxFacts maxRules (maxFacts * stepWidth)) none
+buffers-yes : (P : Program) → P .facts ≤ maxFacts narrow → count P ≤ maxRules → _≡_ {A = Option Refusal} (buffersNo narrow P (maxFacts narrow) maxRules (maxFacts narrow * stepWidth narrow)) none
 unfolding bufferQuestions
 buffers-yes P f r =
-    rw (le-leb (P .facts) maxFacts f, le-leb (count P) maxRules r, le-leb (stepWidth * P .facts) (maxFacts * stepWidth) (omega arith))
+    rw (le-leb (P .facts) (maxFacts narrow) f, le-leb (count P) maxRules r, le-leb (stepWidth narrow * P .facts) (maxFacts narrow * stepWidth narrow) (omega arith))
 
 -- So the run refuses nothing.
-pub run-yes : (s : List ℕ) → Bytes s → _≡_ {A = Option Refusal} (fileNo s) none → _≡_ {A = Option Refusal} (runNo s (naming (ascending (programOf s))) maxFacts maxRules (maxFacts * stepWidth)) none
+pub run-yes : (s : List ℕ) → programOf s .facts < maxFacts narrow → _≡_ {A = Option Refusal} (fileNo s) none → _≡_ {A = Option Refusal} (runNo s (naming (ascending (programOf s))) (maxFacts narrow) maxRules (maxFacts narrow * stepWidth narrow)) none
 unfolding runQuestions
-run-yes s b a =
+run-yes s few a =
     let t = accepted-file s a in
     let P = programOf s in
     file-accepted s _ a
-    ∙ all-yes (orderQuestions (exception P) (count P) (naming (ascending P))) (bufferQuestions P maxFacts maxRules (maxFacts * stepWidth))
+    ∙ all-yes (orderQuestions (exception P) (count P) (naming (ascending P))) (bufferQuestions narrow P (maxFacts narrow) maxRules (maxFacts narrow * stepWidth narrow))
     (ascending-yes (exception P) (count P))
-    (buffers-yes P (omega (arith, facts-below t b)) (rules-few t))
+    (buffers-yes P (omega (arith, few)) (rules-few t))

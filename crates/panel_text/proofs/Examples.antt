@@ -5,9 +5,9 @@ use Rattle.theory.specs.Rule.{plain, exception, plainRules}
 use Rattle.theory.specs.Derive.{fired, derive, steps}
 use Rattle.theory.specs.Run.{run, eligible, rejected, spares, setAside, factMark}
 use Rattle.items.specs.Item.{bodyLength, itemOf}
-use Rattle.items.specs.Cursor.{front, itemsAt}
+use Rattle.cursors.specs.Cursor.{front, itemsAt}
 use Rattle.reader.specs.Questions.{fileQuestions}
-use Rattle.panel_text.specs.Text.{decimal, spaced, field, line, headLine, stepLine, runText, panelText}
+use Rattle.panel_lines.specs.Text.{decimal, spaced, field, line, headLine, stepLine, runText, panelText}
 
 pub record Texts : Type 0 where
   -- empty input: `E 2`

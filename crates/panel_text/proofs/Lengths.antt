@@ -2,7 +2,7 @@
 use Prim.Native.Nat.{ℕ, zero, suc, _+_, _*_, _≤_, _<_}
 use native.Mathlib.Omega.{arith}
 use native.Mathlib.Nat.{add-zero, suc-mul}
-use mathlib.Core.Path.{_≡_, refl, _∙_}
+use mathlib.Core.Path.{_≡_, _∙_}
 use mathlib.Core.Bool.{Bool, true, false, cond}
 use mathlib.Core.List.{List, [], _∷_}
 use mathlib.Core.Option.{Option, none}
@@ -14,39 +14,40 @@ use Rattle.theory.specs.Run.{Stand, run, stageCount, stepCount}
 use Rattle.theory.proofs.Grounds.{Grounds}
 use Rattle.theory.proofs.Run.{granted, run-sound}
 use Rattle.items.specs.declared.refusal.Refusal.{Refusal}
-use Rattle.items.specs.Item.{nameWidth, maxFacts, maxRules}
+use Rattle.items.specs.Item.{narrow, nameWidth, maxFacts, maxRules}
+use Rattle.tables.proofs.ProgramHeld.{facts-below}
 use Rattle.reader.specs.Questions.{programOf, fileNo}
+use Rattle.reader.specs.Scanned.{Tabled}
 use Rattle.items.specs.Write.{ruleItem}
-use Rattle.items.proofs.EachKind.{Bytes}
-use Rattle.reader.proofs.Accepted.{accepted-file, rules-few, facts-below, bounded}
+use Rattle.reader.proofs.Accepted.{accepted-file, rules-few, bounded}
 use Rattle.run.proofs.FewSteps.{Paced, run-paced}
 use Rattle.questions.specs.Questions.{each, naming}
-use Rattle.panel_text.specs.Text.{newline, spaced, field, line, headLine, stepLine, lastLine, rejectedFacts, asideRules, runText, ascending, textRoom}
+use Rattle.panel_lines.specs.Text.{newline, spaced, field, line, headLine, stepLine, rejectedFacts, asideRules, runText, ascending, mostSpaced, mostField, mostLine, mostStep, mostHead, textRoom}
 use Rattle.questions.specs.Put.{Fits, Put}
-use Rattle.panel_text.proofs.Decimal.{three-digits}
+use Rattle.panel_lines.proofs.Decimal.{three-digits}
 
 -- A number of at most three digits.
 abbrev Small : ℕ → Type 0
 Small n = n < 1000
 
-spaced-length : (n : ℕ) → Small n → length (spaced n) ≤ 4
+spaced-length : (n : ℕ) → Small n → length (spaced n) ≤ mostSpaced narrow
 unfolding spaced
 spaced-length n h = omega (arith, three-digits n h)
 
-field-length : (l n : ℕ) → Small n → length (field l n) ≤ 5
+field-length : (l n : ℕ) → Small n → length (field l n) ≤ mostField narrow
 unfolding field
 field-length l n h = omega (arith, spaced-length n h)
 
-pub line-length : (l n : ℕ) → Small n → length (line l n) ≤ 6
+pub line-length : (l n : ℕ) → Small n → length (line l n) ≤ mostLine narrow
 unfolding line
 line-length l n h = omega (arith, field-length l n h, length-append (field l n) newline)
 
-head-length : (f r s : ℕ) → Small f → Small r → Small s → length (headLine f r s) ≤ 18
+head-length : (f r s : ℕ) → Small f → Small r → Small s → length (headLine f r s) ≤ mostHead narrow
 unfolding headLine
 head-length f r s hf hr hs =
     simp length-append (omega (arith, field-length 0x46 f hf, field-length 0x52 r hr, field-length 0x53 s hs))
 
-step-length : (s : Step) → Small (s .fact) → Small (s .by) → length (stepLine s) ≤ 10
+step-length : (s : Step) → Small (s .fact) → Small (s .by) → length (stepLine s) ≤ mostStep narrow
 unfolding stepLine
 step-length s hf hb =
     simp length-append (omega (arith, field-length 0x44 (s .fact) hf, spaced-length (s .by) hb))
@@ -78,9 +79,13 @@ order-fits s a =
       inside = omega (arith, order-length (exception (programOf s)) (count (programOf s)), rules-few (accepted-file s a), length-replicate {A = ℕ} (maxRules * nameWidth) 0);
     }
 
+-- The tables of an accepted file hold few facts.
+pub few-tabled : {s T : List ℕ} → Tabled s T → programOf s .facts < maxFacts narrow
+few-tabled t = rw (t .program) at (facts-below (t .well-formed))
+
 -- The lines of steps that a run may take.
-module _ (P : Program) (b : Bounded P) (f : P .facts < maxFacts) (r : count P ≤ maxRules) where
-  steps-length : (ok : Mask) (row : List Step) (S : FactSet) → Grounds P ok S row → length (each stepLine row) ≤ length row * 10
+module _ (P : Program) (b : Bounded P) (f : P .facts < maxFacts narrow) (r : count P ≤ maxRules) where
+  steps-length : (ok : Mask) (row : List Step) (S : FactSet) → Grounds P ok S row → length (each stepLine row) ≤ length row * mostStep narrow
   steps-length ok [] S g = omega arith
   steps-length ok (s ∷ row) S g =
       let by-known : s .by < count P = g .0 .known in
@@ -88,23 +93,20 @@ module _ (P : Program) (b : Bounded P) (f : P .facts < maxFacts) (r : count P �
       let fact-small : Small (s .fact) = omega (arith, g .0 .concludes) in
       omega (arith, length-append (stepLine s) (each stepLine row), step-length s fact-small (omega arith), steps-length ok row (adjoin S (s .fact)) (g .1))
 
-  last-length : (x : Bool) → length (lastLine x) ≡ 2
-  last-length x = refl
-
-  text-length : (order : List ℕ) → length (runText P (run P (inForce P) order)) ≤ textRoom
+  text-length : (order : List ℕ) → length (runText P (run P (inForce P) order)) ≤ textRoom narrow
   unfolding runText
   text-length order =
       let s : Stand = run P (inForce P) order in
       let pace : Paced P s = run-paced P b (inForce P) order in
       let taken : stepCount s ≤ P .facts = omega (arith, pace .room) in
-      let head : length (headLine (P .facts) (count P) (stageCount s)) ≤ 18 = head-length (P .facts) (count P) (stageCount s) (omega arith) (omega arith) (omega (arith, pace .staged)) in
-      let steps : length (each stepLine (s .trace)) ≤ length (s .trace) * 10 = steps-length (granted P (inForce P) (s .applied)) (s .trace) nothing (run-sound P (inForce P) order .grounds) in
-      let facts : length (each (line 0x58) (rejectedFacts P s)) ≤ P .facts * 6 = kept-length (line 0x58) 6 _ 0 (P .facts) (λ i l. line-length 0x58 i (omega arith)) in
-      let rules : length (each (line 0x41) (asideRules P s)) ≤ count P * 6 = kept-length (line 0x41) 6 _ 0 (count P) (λ i l. line-length 0x41 i (omega arith)) in
+      let head : length (headLine (P .facts) (count P) (stageCount s)) ≤ mostHead narrow = head-length (P .facts) (count P) (stageCount s) (omega arith) (omega arith) (omega (arith, pace .staged)) in
+      let steps : length (each stepLine (s .trace)) ≤ length (s .trace) * mostStep narrow = steps-length (granted P (inForce P) (s .applied)) (s .trace) nothing (run-sound P (inForce P) order .grounds) in
+      let facts : length (each (line 0x58) (rejectedFacts P s)) ≤ P .facts * mostLine narrow = kept-length (line 0x58) (mostLine narrow) _ 0 (P .facts) (λ i l. line-length 0x58 i (omega arith)) in
+      let rules : length (each (line 0x41) (asideRules P s)) ≤ count P * mostLine narrow = kept-length (line 0x41) (mostLine narrow) _ 0 (count P) (λ i l. line-length 0x41 i (omega arith)) in
       simp length-append (omega (arith, head, steps, facts, rules, taken))
 
 -- The text of every accepted file has room.
-pub text-fits : (s : List ℕ) → Bytes s → _≡_ {A = Option Refusal} (fileNo s) none → (order : List ℕ) → length (runText (programOf s) (run (programOf s) (inForce (programOf s)) order)) ≤ textRoom
-text-fits s b a order =
+pub text-fits : (s : List ℕ) → programOf s .facts < maxFacts narrow → _≡_ {A = Option Refusal} (fileNo s) none → (order : List ℕ) → length (runText (programOf s) (run (programOf s) (inForce (programOf s)) order)) ≤ textRoom narrow
+text-fits s few a order =
     let t = accepted-file s a in
-    text-length (programOf s) (bounded t) (facts-below t b) (rules-few t) order
+    text-length (programOf s) (bounded t) few (rules-few t) order

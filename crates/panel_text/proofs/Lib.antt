@@ -1,4 +1,3 @@
-pub mod Decimal
 pub mod StepLines
 pub mod TextShown
 pub mod AscendingOrder

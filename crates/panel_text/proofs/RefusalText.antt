@@ -14,7 +14,7 @@ use Rattle.theory.specs.Run.{Stand, run}
 use Rattle.items.specs.declared.refusal.Refusal.{Refusal}
 use Rattle.items.specs.Question as refusal
 use Rattle.reader.specs.Questions.{programOf, fileNo}
-use Rattle.panel_text.specs.Text.{digit, digits, decimal, newline, spaced, field, line, headLine, runText, ascending, panelText}
+use Rattle.panel_lines.specs.Text.{digit, digits, decimal, newline, spaced, field, line, headLine, runText, ascending, panelText}
 use Rattle.panel_text.proofs.RunLines.{refused-text, accepted-text}
 
 -- The value of a row of digits behind those of n.

@@ -14,11 +14,10 @@ use Rattle.theory.proofs.Lists.{mem-upTo, keep-same}
 use Rattle.items.specs.declared.refusal.Refusal.{Refusal}
 use Rattle.reader.specs.declared.answer.FileCounts.{FileCounts}
 use Rattle.items.specs.Question.{number}
-use Rattle.items.specs.Item.{stepWidth, maxFacts, maxRules, marked}
+use Rattle.items.specs.Item.{narrow, stepWidth, maxFacts, maxRules, marked}
 use Rattle.reader.specs.Questions.{programOf, fileNo}
 use Rattle.reader.specs.Accepted.{Accepted}
-use Rattle.items.proofs.EachKind.{Bytes}
-use Rattle.reader.proofs.Accepted.{accepted-file, rules-few, facts-below, bounded}
+use Rattle.reader.proofs.Accepted.{accepted-file, rules-few, bounded}
 use Rattle.closure.specs.Steps.{stepBytes}
 use Rattle.run.specs.declared.answer.Ran.{Ran}
 use Rattle.run.specs.declared.answer.Ran.the-variants.{Done, Refused}
@@ -27,20 +26,20 @@ use Rattle.run.specs.Outcome.{RunOutcome, runWritten, runOutcome}
 use Rattle.items.specs.Write.{over}
 use Rattle.run.proofs.Outcomes.{outcome-written}
 use Rattle.run.proofs.FewSteps.{Paced, run-paced}
-use Rattle.run.proofs.StepsWritten.{over-length, step-bytes-length, steps-read}
+use Rattle.results.proofs.StepsWritten.{over-length, step-bytes-length}
 use Rattle.run.proofs.ReadMarks.{length-marks, mark-at, read-aside}
-use Rattle.run.proofs.ReadSteps.{steps-front}
-use Rattle.panel_text.specs.Text.{line, asideRules, runText, ascending, panelText}
+use Rattle.run.proofs.ReadSteps.{steps-front, steps-read}
+use Rattle.panel_lines.specs.Text.{line, asideRules, runText, ascending, panelText}
 use Rattle.questions.specs.Orders.{placesMarked}
 use Rattle.panel_text.specs.Left.{leftText, Tables}
 use Rattle.questions.proofs.Orders.{naming-names}
 use Rattle.panel_text.proofs.AscendingOrder.{run-yes}
 
 -- the row of the steps taken
-front-steps : (row : List Taken) (room : List ℕ) → rowOf (take (length row * stepWidth) (over (stepBytes row) room)) ≡ row
+front-steps : (row : List Taken) (room : List ℕ) → rowOf (take (length row * stepWidth narrow) (over (stepBytes narrow row) room)) ≡ row
 front-steps row room =
-    let taken : length row * stepWidth ≡ stepWidth * length row = omega arith in
-    ap (λ (n : ℕ). rowOf (take n (over (stepBytes row) room))) taken ∙ ap rowOf (steps-front row room) ∙ steps-read row
+    let taken : length row * stepWidth narrow ≡ stepWidth narrow * length row = omega arith in
+    ap (λ (n : ℕ). rowOf (take n (over (stepBytes narrow row) room))) taken ∙ ap rowOf (steps-front row room) ∙ steps-read row
 
 -- the numbers that were given the mark m
 front-marked : (f : ℕ → ℕ) (n m : ℕ) (room : List ℕ) → placesMarked m (over (map f (upTo n)) room) n ≡ keep (λ i. eqb (f i) m) (upTo n)
@@ -59,9 +58,9 @@ front-aside P b order room =
 -- Where the run has ended at s.
 pub record RunEnded (P : Program) (s : Stand) (answer : Ran) (fact-marks rule-marks steps : List ℕ) : Type 0 where
   pub answered : answer ≡ Done (stageCount s) (stepCount s)
-  pub facts-marked : fact-marks ≡ over (factMarks P s) (replicate maxFacts 0)
+  pub facts-marked : fact-marks ≡ over (factMarks P s) (replicate (maxFacts narrow) 0)
   pub rules-marked : rule-marks ≡ over (ruleMarks P (inForce P) s) (replicate maxRules 0)
-  pub steps-written : steps ≡ over (stepBytes (s .trace)) (replicate (maxFacts * stepWidth) 0)
+  pub steps-written : steps ≡ over (stepBytes narrow (s .trace)) (replicate (maxFacts narrow * stepWidth narrow) 0)
 
 -- It has not refused.
 pub not-refused : (P : Program) (s : Stand) (answer : Ran) (fact-marks rule-marks steps : List ℕ) → RunEnded P s answer fact-marks rule-marks steps → (r : Refusal) → answer ≡ Refused r → ⊥
@@ -75,7 +74,7 @@ front-places : (f : ℕ → ℕ) (n : ℕ) (room : List ℕ) → n ≤ length (o
 front-places f n room =
     omega (arith, length-append (map f (upTo n)) (drop (length (map f (upTo n))) room), length-marks f n)
 
-module _ {s : List ℕ} {counts : FileCounts} (a : Accepted s counts) (b : Bytes s) (order : List ℕ) (answer : Ran) (fact-marks rule-marks steps : List ℕ) (w : RunEnded (programOf s) (run (programOf s) (inForce (programOf s)) order) answer fact-marks rule-marks steps) where
+module _ {s : List ℕ} {counts : FileCounts} (a : Accepted s counts) (few : programOf s .facts < maxFacts narrow) (order : List ℕ) (answer : Ran) (fact-marks rule-marks steps : List ℕ) (w : RunEnded (programOf s) (run (programOf s) (inForce (programOf s)) order) answer fact-marks rule-marks steps) where
   abbrev P : Program
   P = programOf s
 
@@ -86,9 +85,9 @@ module _ {s : List ℕ} {counts : FileCounts} (a : Accepted s counts) (b : Bytes
   tables =
       let t = accepted-file s (a .accepted) in
       record {
-        fact-places = rw (a .facts, w .facts-marked) (front-places (factMark P e) (P .facts) (replicate maxFacts 0));
+        fact-places = rw (a .facts, w .facts-marked) (front-places (factMark P e) (P .facts) (replicate (maxFacts narrow) 0));
         rule-places = rw (a .rules, w .rules-marked) (front-places (ruleMark P (inForce P) e) (count P) (replicate maxRules 0));
-        few-facts = omega (arith, a .facts, facts-below t b);
+        few-facts = omega (arith, a .facts, few);
         few-rules = omega (arith, a .rules, rules-few t);
       }
 
@@ -96,24 +95,24 @@ module _ {s : List ℕ} {counts : FileCounts} (a : Accepted s counts) (b : Bytes
     same : Done stages taken ≡ Done (stageCount e) (stepCount e)
     same = sym q ∙ w .answered
 
-    pub steps-inside : taken * stepWidth ≤ length steps
+    pub steps-inside : taken * stepWidth narrow ≤ length steps
     steps-inside =
         let t = accepted-file s (a .accepted) in
         let pace : Paced P e = run-paced P (bounded t) (inForce P) order in
         let taken-are : taken ≡ stepCount e = cc in
-        omega (arith, ap length (w .steps-written), over-length (stepBytes (e .trace)) (replicate (maxFacts * stepWidth) 0) (omega (arith, step-bytes-length (e .trace), pace .room, facts-below t b, length-replicate {A = ℕ} (maxFacts * stepWidth) 0)), length-replicate {A = ℕ} (maxFacts * stepWidth) 0, pace .room, facts-below t b)
+        omega (arith, ap length (w .steps-written), over-length (stepBytes narrow (e .trace)) (replicate (maxFacts narrow * stepWidth narrow) 0) (omega (arith, step-bytes-length (e .trace), pace .room, few, length-replicate {A = ℕ} (maxFacts narrow * stepWidth narrow) 0)), length-replicate {A = ℕ} (maxFacts narrow * stepWidth narrow) 0, pace .room, few)
 
-    pub left-lines : leftText (counts .facts) (counts .rules) stages fact-marks rule-marks (take (taken * stepWidth) steps) ≡ runText P e
+    pub left-lines : leftText (counts .facts) (counts .rules) stages fact-marks rule-marks (take (taken * stepWidth narrow) steps) ≡ runText P e
     unfolding leftText runText
     left-lines =
         let stages-are : stages ≡ stageCount e = cc in
         let taken-are : taken ≡ stepCount e = cc in
-        rw (a .facts, a .rules, stages-are, taken-are, w .facts-marked, w .rules-marked, w .steps-written, front-steps (e .trace) (replicate (maxFacts * stepWidth) 0), front-marked (factMark P e) (P .facts) 2 (replicate maxFacts 0), front-aside P (bounded (accepted-file s (a .accepted))) order (replicate maxRules 0))
+        rw (a .facts, a .rules, stages-are, taken-are, w .facts-marked, w .rules-marked, w .steps-written, front-steps (e .trace) (replicate (maxFacts narrow * stepWidth narrow) 0), front-marked (factMark P e) (P .facts) 2 (replicate (maxFacts narrow) 0), front-aside P (bounded (accepted-file s (a .accepted))) order (replicate maxRules 0))
 
 -- The run in ascending order of an accepted file.
-pub ran-through : (s order : List ℕ) → Bytes s → _≡_ {A = Option Refusal} (fileNo s) none → order ≡ naming (ascending (programOf s)) → (answer : Ran) (fact-marks rule-marks steps : List ℕ) → _≡_ {A = RunOutcome} (record { answer = answer; fact-marks = fact-marks; rule-marks = rule-marks; steps = steps }) (runOutcome s order (replicate maxFacts 0) (replicate maxRules 0) (replicate (maxFacts * stepWidth) 0)) → RunEnded (programOf s) (run (programOf s) (inForce (programOf s)) (ascending (programOf s))) answer fact-marks rule-marks steps
+pub ran-through : (s order : List ℕ) → programOf s .facts < maxFacts narrow → _≡_ {A = Option Refusal} (fileNo s) none → order ≡ naming (ascending (programOf s)) → (answer : Ran) (fact-marks rule-marks steps : List ℕ) → _≡_ {A = RunOutcome} (record { answer = answer; fact-marks = fact-marks; rule-marks = rule-marks; steps = steps }) (runOutcome s order (replicate (maxFacts narrow) 0) (replicate maxRules 0) (replicate (maxFacts narrow * stepWidth narrow) 0)) → RunEnded (programOf s) (run (programOf s) (inForce (programOf s)) (ascending (programOf s))) answer fact-marks rule-marks steps
 unfolding runWritten
-ran-through s order b a o answer fm rm st e =
+ran-through s order few a o answer fm rm st e =
     record {
       answered = ap (λ (x : RunOutcome). x .answer) all;
       facts-marked = ap (λ (x : RunOutcome). x .fact-marks) all;
@@ -124,11 +123,11 @@ ran-through s order b a o answer fm rm st e =
     P : Program
     P = programOf s
 
-    all : _≡_ {A = RunOutcome} (record { answer = answer; fact-marks = fm; rule-marks = rm; steps = st }) (runWritten P (run P (inForce P) (ascending P)) (replicate maxFacts 0) (replicate maxRules 0) (replicate (maxFacts * stepWidth) 0))
+    all : _≡_ {A = RunOutcome} (record { answer = answer; fact-marks = fm; rule-marks = rm; steps = st }) (runWritten P (run P (inForce P) (ascending P)) (replicate (maxFacts narrow) 0) (replicate maxRules 0) (replicate (maxFacts narrow * stepWidth narrow) 0))
     all =
-        e ∙ ap (λ (l : List ℕ). runOutcome s l (replicate maxFacts 0) (replicate maxRules 0) (replicate (maxFacts * stepWidth) 0)) o
-        ∙ sym (outcome-written s (naming (ascending P)) (replicate maxFacts 0) (replicate maxRules 0) (replicate (maxFacts * stepWidth) 0) (run-yes s b a))
-        ∙ ap (λ (l : List ℕ). runWritten P (run P (inForce P) l) (replicate maxFacts 0) (replicate maxRules 0) (replicate (maxFacts * stepWidth) 0)) (naming-names (ascending P))
+        e ∙ ap (λ (l : List ℕ). runOutcome s l (replicate (maxFacts narrow) 0) (replicate maxRules 0) (replicate (maxFacts narrow * stepWidth narrow) 0)) o
+        ∙ sym (outcome-written s (naming (ascending P)) (replicate (maxFacts narrow) 0) (replicate maxRules 0) (replicate (maxFacts narrow * stepWidth narrow) 0) (run-yes s few a))
+        ∙ ap (λ (l : List ℕ). runWritten P (run P (inForce P) l) (replicate (maxFacts narrow) 0) (replicate maxRules 0) (replicate (maxFacts narrow * stepWidth narrow) 0)) (naming-names (ascending P))
 
 -- The text of a file that is refused, and of one that is accepted.
 pub refused-text : (s : List ℕ) (r : Refusal) → fileNo s ≡ some r → panelText s ≡ line 0x45 (number r)

@@ -7,12 +7,12 @@ use Rattle.items.specs.declared.item.FactId.{FactId}
 use Rattle.items.specs.declared.item.RuleId.{RuleId}
 use Rattle.items.specs.declared.item.Item.{Item}
 use Rattle.items.specs.declared.item.Item.the-variants.{Step}
-use Rattle.items.specs.declared.cursor.Cursor.{Cursor}
-use Rattle.items.specs.declared.cursor.Read.the-variants.{Found, Refused, Ended}
-use Rattle.items.specs.Cursor.{nextAt}
+use Rattle.cursors.specs.declared.cursor.Cursor.{Cursor}
+use Rattle.cursors.specs.declared.cursor.Read.the-variants.{Found, Refused, Ended}
+use Rattle.cursors.specs.Cursor.{nextAt}
 use Rattle.questions.proofs.Rows.{stepsFrom, NotStep, no-step-left, steps-ended, other-item, step-read}
 use Rattle.questions.specs.Questions.{each, stepOf, rowOf}
-use Rattle.panel_text.specs.Text.{stepLine}
+use Rattle.panel_lines.specs.Text.{stepLine}
 use Rattle.questions.specs.Put.{Fits, Put}
 use Rattle.questions.proofs.BytesPut.{Putting, ended, nothing-put, next-fits, one-put}
 

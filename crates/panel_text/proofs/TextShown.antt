@@ -11,7 +11,7 @@ use lib.ListN.{length, getD, take, drop, set, length-set}
 use lib.Seq.{paste, paste-zero, paste-suc, take-all, take-append-seam}
 use lib.Dec.{leb}
 use Rattle.items.specs.Write.{over}
-use Rattle.panel_text.specs.Text.{shown}
+use Rattle.panel_lines.specs.Text.{shown}
 use Rattle.questions.specs.Put.{Put}
 
 -- The first i bytes are copied.

@@ -6,7 +6,7 @@ use Rattle.theory.specs.Rule.{null}
 use Rattle.items.specs.Item.{maxRules}
 use Rattle.questions.specs.Questions.{rowOf, each}
 use Rattle.questions.specs.Orders.{placesMarked}
-use Rattle.panel_text.specs.Text.{headLine, stepLine, line, lastLine}
+use Rattle.panel_lines.specs.Text.{headLine, stepLine, line, lastLine}
 
 -- The lines by the counts, the marks and the row of steps.
 unfoldable pub leftText : ℕ → ℕ → ℕ → List ℕ → List ℕ → List ℕ → List ℕ

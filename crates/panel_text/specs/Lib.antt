@@ -1,4 +1,2 @@
--- What is promised.
-pub mod Text
 -- What only code and proofs use.
 pub mod Left

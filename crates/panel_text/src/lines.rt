@@ -4,17 +4,17 @@ ghost use lib.ListN.{length};
 ghost use Rattle.items.specs.Item.{maxRules};
 ghost use Rattle.questions.specs.Questions.{each, rowOf};
 ghost use Rattle.questions.specs.Orders.{placesMarked};
-ghost use Rattle.panel_text.specs.Text.{line, stepLine};
+ghost use Rattle.panel_lines.specs.Text.{line, stepLine};
 ghost use Rattle.panel_text.specs.Left.{leftText, Tables};
 ghost use Rattle.questions.specs.Put.{Fits, Put};
-use crate::put::put_head;
-use crate::put::put_last;
-use crate::put::put_line;
-use crate::put::put_step;
-use items::cursor::Cursor;
-use items::cursor::Read;
-use items::cursor::Row;
+use cursors::cursor::Cursor;
+use cursors::cursor::Read;
+use cursors::cursor::Row;
 use items::item::Item;
+use panel_lines::put::put_head;
+use panel_lines::put::put_last;
+use panel_lines::put::put_line;
+use panel_lines::put::put_step;
 
 // The fact mark of a fact in R, and the rule mark of a rule set aside.
 const IN_R: u8 = 2;

@@ -2,7 +2,7 @@
 ghost use Rattle.tables.specs.Layout.{programIn, WellFormed};
 ghost use Rattle.questions.specs.Questions.{naming};
 ghost use Rattle.questions.specs.Put.{Fits, Put};
-ghost use Rattle.panel_text.specs.Text.{ascending};
+ghost use Rattle.panel_lines.specs.Text.{ascending};
 use items::item::MAX_RULES;
 use tables::layout::TABLE_CELLS;
 use tables::layout::rules_of;
@@ -17,6 +17,6 @@ pub fn put_order(tables: &[u16; TABLE_CELLS], out: &mut [u8]) -> usize
     ensures { λ r. ⌜ Put (naming (ascending (programIn (now (tables .entry))))) 0 (now (out .entry)) r (now (out .exit)) ⌝ }
 {
     let mut marks = [0u8; MAX_RULES];
-    tables::marks::mark_plain(tables, &mut marks);
-    questions::write::write_names(&marks, NOT_PLAIN, rules_of(tables), out, 0)
+    marking::marks::mark_plain(tables, &mut marks);
+    naming::write::write_names(&marks, NOT_PLAIN, rules_of(tables), out, 0)
 }

@@ -4,10 +4,11 @@ ghost use mathlib.Core.Path.{_≡_};
 ghost use lib.ListN.{length};
 ghost use Rattle.theory.specs.Rule.{inForce};
 ghost use Rattle.theory.specs.Run.{run as runOf};
+ghost use Rattle.items.specs.Item.{narrow};
 ghost use Rattle.reader.specs.Questions.{programOf};
 ghost use Rattle.reader.specs.Accepted.{Accepted};
 ghost use Rattle.reader.specs.Scanned.{Tabled};
-ghost use Rattle.panel_text.specs.Text.{ascending, runText, panelText, shown, textRoom};
+ghost use Rattle.panel_lines.specs.Text.{ascending, runText, panelText, shown, textRoom};
 ghost use Rattle.questions.specs.Put.{Put};
 use items::item::MAX_FACTS;
 use items::item::MAX_RULES;
@@ -18,14 +19,34 @@ use reader::answer::FileCounts;
 use run::answer::Ran;
 use tables::layout::TABLE_CELLS;
 
-// Every text has room in so many bytes: a line of at most 18, at most 255 of 10, 255 and 512 of 6, and one of 2.
-pub const TEXT_ROOM: usize = 8192;
+// The most digits of a number in a line.
+const MOST_DIGITS: usize = 3;
+
+// The most bytes of a space and a number, of these behind a letter, and of each line.
+const MOST_SPACED: usize = 1 + MOST_DIGITS;
+
+const MOST_FIELD: usize = 1 + MOST_SPACED;
+
+const MOST_LINE: usize = MOST_FIELD + 1;
+
+const MOST_STEP: usize = MOST_FIELD + MOST_SPACED + 1;
+
+const MOST_HEAD: usize = 3 * (MOST_FIELD + 1);
+
+const LAST_LENGTH: usize = 2;
+
+// Every text has room in so many bytes: a step and an X for each fact, an A for each rule, and the first and the last line.
+pub const TEXT_ROOM: usize = MOST_HEAD
+    + MAX_FACTS * MOST_STEP
+    + MAX_FACTS * MOST_LINE
+    + MAX_RULES * MOST_LINE
+    + LAST_LENGTH;
 
 // The lines of the run of an accepted file, in ascending order. The order gets yes to its questions and the buffers are large enough, so the
 // run refuses nothing.
 fn put_run(file: &[u8], tables: &[u16; TABLE_CELLS], counts: FileCounts, out: &mut [u8]) -> usize
     requires { ⌜ Accepted (now file) counts × Tabled (now file) (now tables) ⌝ }
-    requires { ⌜ textRoom ≤ length (now out) ⌝ }
+    requires { ⌜ textRoom narrow ≤ length (now out) ⌝ }
     ensures { λ r. ⌜ Put (runText (programOf (now (file .entry))) (runOf (programOf (now (file .entry))) (inForce (programOf (now (file .entry)))) (ascending (programOf (now (file .entry)))))) 0 (now (out .entry)) r (now (out .exit)) ⌝ }
 {
     let mut order = [0u8; MAX_RULES * NAME_WIDTH];
@@ -61,13 +82,13 @@ fn put_run(file: &[u8], tables: &[u16; TABLE_CELLS], counts: FileCounts, out: &m
 
 // The text for a file. Answers its length.
 pub fn put_text(file: &[u8], out: &mut [u8]) -> usize
-    requires { ⌜ textRoom ≤ length (now out) ⌝ }
+    requires { ⌜ textRoom narrow ≤ length (now out) ⌝ }
     ensures { λ r. ⌜ Put (panelText (now (file .entry))) 0 (now (out .entry)) r (now (out .exit)) ⌝ }
-    ensures { λ r. ⌜ r ≤ textRoom ⌝ }
+    ensures { λ r. ⌜ r ≤ textRoom narrow ⌝ }
 {
     let mut tables = [0u16; TABLE_CELLS];
     match reader::scan::scan(file, &mut tables) {
-        Asked::No(r) => crate::put::put_line(out, 0, b'E', r.number() as u16),
+        Asked::No(r) => panel_lines::put::put_line(out, 0, b'E', r.number() as u16),
         Asked::Yes(counts) => put_run(file, &tables, counts, out),
     }
 }

@@ -1,7 +1,8 @@
+pub mod JoinedSets
+pub mod BarMarks
 pub mod ReadByView
+pub mod StepTested
 pub mod RowEnds
-pub mod StepsHold
-pub mod RowClear
-pub mod RowTested
+pub mod RowWalked
 pub mod CheckAsked
 pub mod Meaning

@@ -1,70 +1,161 @@
--- A rule read item after item through its view: what is to come of the rule decides, and the range still ends with the rule.
+-- A rule read item after item through its view: what is to come of the rule decides, its constraints so far are barred, and the range still ends
+-- with the rule.
 use Prim.Native.Nat.{ℕ, _<_}
-use mathlib.Core.Path.{_≡_, refl, ap, _∙_}
-use mathlib.Core.Bool.{Bool, true, false, not, _&&_}
+use mathlib.Core.Path.{_≡_, refl, sym, ap, ap₂, fun-ext, _∙_}
+use mathlib.Core.Bool.{Bool, true, false, _&&_}
 use mathlib.Core.List.{List, [], _∷_}
 use native.Mathlib.Omega.{arith}
-use Rattle.theory.specs.Rule.{all, clear, count, Rule, FactSet}
-use Rattle.theory.proofs.ListWalks.{Decides, whole-decides, not-tested, all-pass, one-fails, one-passes}
-use Rattle.items.specs.declared.item.Item.{Item}
-use Rattle.items.specs.Cursor.{Token, item, itemsAt, bodyAt}
+use borrow.Author.Tests.{lt-ltb, ltb-true, eq-eqb, ne-eqb}
+use lib.ListN.{length, getD, set, length-set}
+use lib.Dec.{ltb}
+use Rattle.theory.specs.Rule.{all, clear, count, rule, Rule, Program, FactSet}
+use Rattle.theory.proofs.Bools.{and-left, and-right, and-false, or-none}
+use Rattle.theory.proofs.Lists.{all-mono}
+use Rattle.items.specs.declared.item.FactId.{FactId}
+use Rattle.items.specs.Item.{narrow, asksIn, asksOut, maxFacts, has}
+use Rattle.cursors.specs.Cursor.{itemsAt, bodyAt}
 use Rattle.tables.specs.Layout.{programIn, WellFormed}
-use Rattle.reader.specs.Questions.{programOf}
-use Rattle.reader.specs.Scanned.{Tabled}
+use Rattle.tables.proofs.ProgramHeld.{facts-below}
+use Rattle.reader.specs.Questions.{premisesOf, constraintsOf, programOf}
+use Rattle.reader.specs.Scanned.{OwnAt, Tabled}
 use Rattle.view.specs.declared.range.Taken.{Taken}
 use Rattle.view.specs.declared.range.Range.{Range}
 use Rattle.view.specs.View.{endAt}
-use Rattle.view.proofs.RangeItems.{Gives}
+use Rattle.view.proofs.RangeItems.{Gives, NoneOwn}
 use Rattle.view.proofs.RuleRanges.{InFile}
-
--- f reads the premises, or the constraints, off the items of the rule.
-pub record Viewing (p : ℕ → Bool) (xs : List ℕ) (f : List Token → List ℕ) (s : List ℕ) (end at : ℕ) : Type 0 where
-  pub decides : Decides p xs (f (itemsAt s (bodyAt at)))
-  pub ends : end ≡ endAt s at
-
-pub all-ahead : (p : ℕ → Bool) (f : List Token → List ℕ) {s : List ℕ} {R : Rule} {r : Range} → InFile s R r → Viewing p (f (itemsAt s (bodyAt (r .at)))) f s (r .end) (r .at)
-all-ahead p f o = record { decides = whole-decides _ _; ends = o .ends }
+use Rattle.marking.specs.Marks.{barred, barredIn}
+use Rattle.proofcheck.specs.Steps.{joined, ruleFits, RuleMarked}
+use Rattle.proofcheck.proofs.JoinedSets.{joined-first}
+use Rattle.proofcheck.proofs.BarMarks.{bar-set, bar-keeps-facts}
 
 -- a rule of the file is one of the tables
 pub held : {s T : List ℕ} {i : ℕ} → Tabled s T → i < count (programOf s) → WellFormed T × (i < count (programIn T))
 held t h = (t .well-formed, omega (arith, ap count (t .program), h))
 
-module _ {p : ℕ → Bool} {xs : List ℕ} {f : List Token → List ℕ} {s : List ℕ} {end at : ℕ} (w : Viewing p xs f s end at) where
-  pub none-left : f (itemsAt s (bodyAt at)) ≡ [] → true ≡ all p xs
-  none-left e = all-pass (w .decides) e
+abbrev marksFit : List ℕ → Bool
+marksFit xs = all (λ f. ltb f (maxFacts narrow)) xs
 
-  module _ {t : Taken} {i : Item} (g : Gives s at end t i) where
-    pub taken-along : ((ts : List Token) → f (item i ∷ ts) ≡ f ts) → Viewing p xs f s end (t .rest)
-    taken-along h = record { decides = not-tested (w .decides) _ (ap f (g .items) ∙ h _); ends = g .ends (w .ends) }
+constraints-fit : {s T : List ℕ} {i : ℕ} → Tabled s T → i < count (programOf s) → marksFit (rule (programOf s) i .constraints) ≡ true
+constraints-fit {s} {T} {i} t h =
+    all-mono (λ f. ltb f (programIn T .facts)) (λ f. ltb f (maxFacts narrow)) (rule (programOf s) i .constraints) wider
+    (ap (λ (P : Program). all (λ f. ltb f (programIn T .facts)) (rule P i .constraints)) (sym (t .program)) ∙ t .well-formed .in-bounds .constraints-below i (held t h .1))
+  where
+    wider : (f : ℕ) → ltb f (programIn T .facts) ≡ true → ltb f (maxFacts narrow) ≡ true
+    wider f e = lt-ltb f (maxFacts narrow) (omega (arith, ltb-true f (programIn T .facts) e, facts-below (t .well-formed)))
 
-    module _ (x : ℕ) (h : (ts : List Token) → f (item i ∷ ts) ≡ x ∷ f ts) where
-      pub taken-fails : p x ≡ false → false ≡ all p xs
-      taken-fails q = one-fails (w .decides) x _ (ap f (g .items) ∙ h _) q
+-- what some premises and constraints ask of S and M, as those of a rule do
+abbrev fits : FactSet → FactSet → List ℕ → List ℕ → Bool
+fits M S ps ks = all S ps && (clear S ks && clear M ks)
 
-      pub taken-passes : p x ≡ true → Viewing p xs f s end (t .rest)
-      taken-passes q = record { decides = one-passes (w .decides) x _ (ap f (g .items) ∙ h _) q; ends = g .ends (w .ends) }
+-- What is to come of a rule R from place `at` on.
+pub record Viewing (M : FactSet) (R : Rule) (before marks : List ℕ) (s : List ℕ) (end at : ℕ) : Type 0 where
+  pub size : length marks ≡ maxFacts narrow
+  pub ends : end ≡ endAt s at
+  pub same : ruleFits M (has before) R ≡ fits M (has before) (premisesOf (itemsAt s (bodyAt at))) (constraintsOf (itemsAt s (bodyAt at)))
+  pub below : marksFit (constraintsOf (itemsAt s (bodyAt at))) ≡ true
+  pub facts : has marks ≡ has before
+  pub bars : joined (barredIn marks) (constraintsOf (itemsAt s (bodyAt at))) ≡ joined (barredIn before) (R .constraints)
 
--- Outside two sets at once.
-abbrev pub outside : FactSet → FactSet → ℕ → Bool
-outside T M x = not (T x) && not (M x)
+-- the same of whatever rule stands from place `from` on
+abbrev pub ViewingFrom : ℕ → FactSet → List ℕ → List ℕ → List ℕ → ℕ → ℕ → Type 0
+ViewingFrom from M before marks s end at = (R : Rule) → OwnAt s from R → Viewing M R before marks s end at
 
-pub regrouped : (a b c d : Bool) → (a && b) && (c && d) ≡ (a && c) && (b && d)
-regrouped true true c d = refl
-regrouped true false true d = refl
-regrouped true false false d = refl
-regrouped false b c d = refl
+pub all-ahead : (M : FactSet) (marks : List ℕ) → length marks ≡ maxFacts narrow → {s T : List ℕ} {i : ℕ} {r : Range} → Tabled s T → i < count (programOf s) → InFile s (rule (programOf s) i) r → ViewingFrom (r .at) M marks marks s (r .end) (r .at)
+all-ahead M marks l {s} {r = r} t h o R a =
+    record {
+      size = l;
+      ends = o .ends;
+      same = sym (ap (λ (xs : List ℕ). fits M (has marks) xs (constraintsOf (itemsAt s (bodyAt (r .at))))) (a .premises) ∙ ap (fits M (has marks) (R .premises)) (a .constraints));
+      below = ap marksFit (o .own .constraints) ∙ constraints-fit t h;
+      facts = refl;
+      bars = ap (joined (barredIn marks)) (a .constraints);
+    }
 
-pub outside-both : (T M : FactSet) (xs : List ℕ) → all (outside T M) xs ≡ clear T xs && clear M xs
-outside-both T M [] = refl
-outside-both T M (x ∷ xs) =
-    ap (λ (b : Bool). outside T M x && b) (outside-both T M xs) ∙ regrouped (not (T x)) (not (M x)) (clear T xs) (clear M xs)
+module _ {M : FactSet} {R : Rule} {before marks s : List ℕ} {end at : ℕ} (w : Viewing M R before marks s end at) where
+  pub none-left : NoneOwn (itemsAt s (bodyAt at)) → (true ≡ ruleFits M (has before) R) × (true ≡ true → RuleMarked R before marks)
+  none-left e = (
+    sym (w .same ∙ ap (λ (ps : List ℕ). fits M (has before) ps (constraintsOf (itemsAt s (bodyAt at)))) (e asksIn) ∙ ap (fits M (has before) []) (e asksOut)),
+    λ y. record { size = w .size; facts = w .facts; bars = sym (fun-ext (λ f. or-none (barredIn marks f))) ∙ ap (joined (barredIn marks)) (sym (e asksOut)) ∙ w .bars },
+  )
 
-module _ (T M : FactSet) (x : ℕ) where
-  pub in-first : T x ≡ true → outside T M x ≡ false
-  in-first e = rw e
+  module _ {t : Taken} (f : FactId) (g : Gives s at end t asksIn f) where
+    abbrev ps : List ℕ
+    ps = premisesOf (itemsAt s (bodyAt (t .rest)))
 
-  pub in-second : T x ≡ false → M x ≡ true → outside T M x ≡ false
-  in-second e q = rw (e, q)
+    abbrev ks : List ℕ
+    ks = constraintsOf (itemsAt s (bodyAt (t .rest)))
 
-  pub in-neither : T x ≡ false → M x ≡ false → outside T M x ≡ true
-  in-neither e q = rw (e, q)
+    premise-first : ruleFits M (has before) R ≡ fits M (has before) (f .0 ∷ ps) ks
+    premise-first = w .same ∙ ap₂ (fits M (has before)) (g .own asksIn) (g .own asksOut)
+
+    pub premise-missing : has marks (f .0) ≡ false → false ≡ ruleFits M (has before) R
+    premise-missing q =
+        let out : has before (f .0) ≡ false = sym (ap (λ (S : FactSet). S (f .0)) (w .facts)) ∙ q in
+        let here : fits M (has before) (f .0 ∷ ps) ks ≡ false = rw out in
+        sym (premise-first ∙ here)
+
+    pub premise-there : has marks (f .0) ≡ true → Viewing M R before marks s end (t .rest)
+    premise-there q =
+        let in-before : has before (f .0) ≡ true = sym (ap (λ (S : FactSet). S (f .0)) (w .facts)) ∙ q in
+        let here : fits M (has before) (f .0 ∷ ps) ks ≡ fits M (has before) ps ks = rw in-before in
+        record {
+          size = w .size;
+          ends = g .ends (w .ends);
+          same = premise-first ∙ here;
+          below = ap marksFit (sym (g .own asksOut)) ∙ w .below;
+          facts = w .facts;
+          bars = ap (joined (barredIn marks)) (sym (g .own asksOut)) ∙ w .bars;
+        }
+
+  module _ {t : Taken} (f : FactId) (g : Gives s at end t asksOut f) where
+    abbrev ps′ : List ℕ
+    ps′ = premisesOf (itemsAt s (bodyAt (t .rest)))
+
+    abbrev ks′ : List ℕ
+    ks′ = constraintsOf (itemsAt s (bodyAt (t .rest)))
+
+    constraint-first : ruleFits M (has before) R ≡ fits M (has before) ps′ (f .0 ∷ ks′)
+    constraint-first = w .same ∙ ap₂ (fits M (has before)) (g .own asksIn) (g .own asksOut)
+
+    first-below : marksFit (f .0 ∷ ks′) ≡ true
+    first-below = ap marksFit (sym (g .own asksOut)) ∙ w .below
+
+    pub constraint-below : f .0 < maxFacts narrow
+    constraint-below = ltb-true (f .0) (maxFacts narrow) (and-left _ (marksFit ks′) first-below)
+
+    -- the facts are those before the rule
+    before-too : {b : Bool} → has marks (f .0) ≡ b → has before (f .0) ≡ b
+    before-too q = sym (ap (λ (S : FactSet). S (f .0)) (w .facts)) ∙ q
+
+    fact-mark : getD marks (f .0) 0 ≡ 1 → has marks (f .0) ≡ true
+    unfolding has
+    fact-mark e = eq-eqb _ _ e
+
+    no-fact-mark : (getD marks (f .0) 0 ≡ 1 → ⊥) → has marks (f .0) ≡ false
+    unfolding has
+    no-fact-mark n = ne-eqb _ _ n
+
+    pub among-facts : getD marks (f .0) 0 ≡ 1 → false ≡ ruleFits M (has before) R
+    among-facts q =
+        let in-before : has before (f .0) ≡ true = before-too (fact-mark q) in
+        let here : fits M (has before) ps′ (f .0 ∷ ks′) ≡ false = rw in-before (and-false (all (has before) ps′)) in
+        sym (constraint-first ∙ here)
+
+    pub in-the-set : M (f .0) ≡ true → false ≡ ruleFits M (has before) R
+    in-the-set q =
+        let here : fits M (has before) ps′ (f .0 ∷ ks′) ≡ false = rw q (ap (λ (b : Bool). all (has before) ps′ && b) (and-false (clear (has before) (f .0 ∷ ks′))) ∙ and-false (all (has before) ps′)) in
+        sym (constraint-first ∙ here)
+
+    pub outside-both : (getD marks (f .0) 0 ≡ 1 → ⊥) → M (f .0) ≡ false → Viewing M R before (set marks (f .0) barred) s end (t .rest)
+    outside-both n m =
+        let q : has marks (f .0) ≡ false = no-fact-mark n in
+        let here : fits M (has before) ps′ (f .0 ∷ ks′) ≡ fits M (has before) ps′ ks′ = rw (before-too q, m) in
+        let inside : f .0 < length marks = omega (arith, constraint-below, w .size) in
+        record {
+          size = length-set marks (f .0) barred ∙ w .size;
+          ends = g .ends (w .ends);
+          same = constraint-first ∙ here;
+          below = and-right (ltb (f .0) (maxFacts narrow)) (marksFit ks′) first-below;
+          facts = bar-keeps-facts marks (f .0) inside q ∙ w .facts;
+          bars = ap (λ (B : FactSet). joined B ks′) (bar-set marks (f .0) inside) ∙ joined-first (barredIn marks) (f .0) ks′ ∙ ap (joined (barredIn marks)) (sym (g .own asksOut)) ∙ w .bars;
+        }

@@ -26,14 +26,8 @@ fn is_proof(
     requires { ⌜ Tabled (now file) (now tables) ⌝ }
     ensures { λ r. ⌜ r ≡ isProof (programOf (now (file .entry))) (inForce (programOf (now (file .entry)))) (has (now (set .entry))) (rowOf (now (proof .entry))) (fact .0) ⌝ }
 {
-    if !crate::steps::ends_with(proof, fact) {
-        return false;
-    }
-    let mut facts = [0u8; MAX_FACTS];
-    if !crate::steps::steps_hold(file, tables, proof, &mut facts) {
-        return false;
-    }
-    crate::constraints::row_clear(file, tables, proof, &facts, set)
+    let mut marks = [0u8; MAX_FACTS];
+    crate::steps::row_proves(file, tables, set, fact, proof, &mut marks)
 }
 
 // The questions of the set, then of the asked fact and the row; then the check.

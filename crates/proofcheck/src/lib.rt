@@ -1,7 +1,6 @@
 // The proof check: is a row of steps a proof of a fact that a set admits?
 mod accepted;
 pub mod answer;
-mod constraints;
 mod own;
 mod steps;
 

@@ -1,20 +1,32 @@
-// What a rule says of sets, read item after item through the rule's view. Internal.
+// What a rule asks of the steps before it and of the set, read item after item through the rule's view. Internal.
 ghost use Prim.Native.Nat.{_<_};
 ghost use mathlib.Core.Path.{_≡_};
-ghost use mathlib.Core.Bool.{_&&_};
-ghost use Rattle.theory.specs.Rule.{all, clear, count, rule as ruleOf};
-ghost use Rattle.items.specs.Item.{has};
+ghost use mathlib.Core.Bool.{true};
+ghost use lib.ListN.{length};
+ghost use Rattle.theory.specs.Rule.{count, rule as ruleOf};
+ghost use Rattle.items.specs.Item.{narrow, maxFacts, has};
 ghost use Rattle.reader.specs.Questions.{programOf};
 ghost use Rattle.reader.specs.Scanned.{Tabled};
+ghost use Rattle.proofcheck.specs.Steps.{ruleFits, RuleMarked};
+use items::item::MAX_FACTS;
 use items::item::RuleId;
+use marking::marks::BARRED;
 use questions::fact_set::in_set;
 use tables::layout::TABLE_CELLS;
 use view::range::Own;
 
-// Are the premises of the rule in the set?
-pub fn premises_in(file: &[u8], tables: &[u16; TABLE_CELLS], rule: RuleId, set: &[u8]) -> bool
+// Are the premises of the rule among the marked facts, and its constraints outside them and outside the set? Its constraints are marked.
+pub fn rule_fits(
+    file: &[u8],
+    tables: &[u16; TABLE_CELLS],
+    rule: RuleId,
+    set: &[u8],
+    marks: &mut [u8; MAX_FACTS],
+) -> bool
     requires { ⌜ Tabled (now file) (now tables) × (rule .0 < count (programOf (now file))) ⌝ }
-    ensures { λ r. ⌜ r ≡ all (has (now (set .entry))) (ruleOf (programOf (now (file .entry))) (rule .0) .premises) ⌝ }
+    requires { ⌜ length (now marks) ≡ maxFacts narrow ⌝ }
+    ensures { λ r. ⌜ r ≡ ruleFits (has (now (set .entry))) (has (now (marks .entry))) (ruleOf (programOf (now (file .entry))) (rule .0)) ⌝ }
+    ensures { λ r. ⌜ (r ≡ true → RuleMarked (ruleOf (programOf (now (file .entry))) (rule .0)) (now (marks .entry)) (now (marks .exit))) ⌝ }
 {
     let range = view::range::range_of(tables, rule);
     let end = range.end;
@@ -24,49 +36,20 @@ pub fn premises_in(file: &[u8], tables: &[u16; TABLE_CELLS], rule: RuleId, set: 
         let item = taken.item;
         match item {
             Own::Premise(f) => {
-                if !in_set(set, f) {
+                if !in_set(marks, f) {
                     return false;
                 }
                 at = taken.rest;
             }
-            Own::Constraint(_) => {
-                at = taken.rest;
-            }
-            Own::Ended => {
-                return true;
-            }
-        }
-    }
-}
-
-// Are its constraints all outside the facts and outside the set?
-pub fn constraints_clear(
-    file: &[u8],
-    tables: &[u16; TABLE_CELLS],
-    rule: RuleId,
-    facts: &[u8],
-    set: &[u8],
-) -> bool
-    requires { ⌜ Tabled (now file) (now tables) × (rule .0 < count (programOf (now file))) ⌝ }
-    ensures { λ r. ⌜ r ≡ clear (has (now (facts .entry))) (ruleOf (programOf (now (file .entry))) (rule .0) .constraints) && clear (has (now (set .entry))) (ruleOf (programOf (now (file .entry))) (rule .0) .constraints) ⌝ }
-{
-    let range = view::range::range_of(tables, rule);
-    let end = range.end;
-    let mut at = range.at;
-    loop {
-        let taken = view::own_item(file, at, end);
-        let item = taken.item;
-        match item {
             Own::Constraint(f) => {
-                if in_set(facts, f) {
+                let number = f.0 as usize;
+                if marks[number] == 1 {
                     return false;
                 }
                 if in_set(set, f) {
                     return false;
                 }
-                at = taken.rest;
-            }
-            Own::Premise(_) => {
+                marks[number] = BARRED;
                 at = taken.rest;
             }
             Own::Ended => {

@@ -1,5 +1,5 @@
 -- Facts are held out one after another, or none at first.
-use Prim.Native.Nat.{ℕ, zero, suc, _+_, _-_, _<_, _≤_}
+use Prim.Native.Nat.{ℕ, suc, _+_, _-_, _<_, _≤_}
 use native.Mathlib.Omega.{arith}
 use native.Mathlib.Numerals.{add-one}
 use mathlib.Core.Path.{_≡_, refl, sym, ap, subst, _∙_, fun-ext}
@@ -7,13 +7,13 @@ use mathlib.Core.Bool.{Bool, true, false, not, cond, _||_}
 use mathlib.Core.List.{List, [], _∷_}
 use mathlib.Core.Logic.{⊎-elim}
 use borrow.Author.Tests.{eqb-true, eqb-false, eq-eqb, ne-eqb, lt-ltb, ltb-true}
-use lib.ListN.{length, getD, take, drop, replicate, length-replicate, drop-of-length-le}
+use lib.ListN.{length, getD, take, drop, replicate, length-replicate}
 use lib.Seq.{drop-cons, getD-take, length-take-le}
 use lib.Dec.{eqb, ltb}
-use Rattle.theory.specs.Rule.{all, mem, keep, range, upTo, nothing, Program, Mask, everyRule, count, rule}
+use Rattle.theory.specs.Rule.{all, mem, keep, range, upTo, nothing, Program, Mask, everyRule, count}
 use Rattle.theory.proofs.Bools.{either, never, or-none, or-cases, both-ways}
-use Rattle.theory.proofs.Lists.{all-elem, getD-mem, range-all, range-cons, range-end}
-use Rattle.items.specs.Item.{maxFacts, has}
+use Rattle.theory.proofs.Lists.{zeros, all-elem, getD-mem, range-all, range-cons, range-end}
+use Rattle.items.specs.Item.{narrow, maxFacts, has}
 use Rattle.index.specs.Literal.{outside, literals, lacking}
 use Rattle.index.specs.Cells.{onIn}
 use Rattle.index.specs.Index.{Sized}
@@ -34,9 +34,9 @@ none-held {P} {on} {marks} {missing} facts stack size w =
     }
 
 -- a row up to a place
-module _ (facts : List ℕ) (to : ℕ) (l : to ≤ length facts) (small : all (λ k. ltb k maxFacts) facts ≡ true) (n : ℕ) (h : n < to) where
-  pub fact-small : getD facts n 0 < maxFacts
-  fact-small = ltb-true (getD facts n 0) maxFacts (all-elem (λ k. ltb k maxFacts) facts small (getD facts n 0) (getD-mem facts n (omega arith)))
+module _ (facts : List ℕ) (to : ℕ) (l : to ≤ length facts) (small : all (λ k. ltb k (maxFacts narrow)) facts ≡ true) (n : ℕ) (h : n < to) where
+  pub fact-small : getD facts n 0 < maxFacts narrow
+  fact-small = ltb-true (getD facts n 0) (maxFacts narrow) (all-elem (λ k. ltb k (maxFacts narrow)) facts small (getD facts n 0) (getD-mem facts n (omega arith)))
 
   pub next-fact : drop n (take to facts) ≡ getD facts n 0 ∷ drop (n + 1) (take to facts)
   next-fact =
@@ -99,11 +99,6 @@ all-absent set n = ap (keep (λ k. not (has set k))) (sym (range-all n))
 pub record Starting (P : Program) (on : Mask) (n : ℕ) (marks missing stack : List ℕ) (top : ℕ) : Type 0 where
   pub spreading : Spreading P on (λ i. ltb i n) [] marks missing stack top
   pub none-out : (k : ℕ) → told marks (outside k) ≡ false
-
-zeros : (n l : ℕ) → _≡_ {A = ℕ} (getD (replicate n 0) l 0) 0
-zeros zero l = refl
-zeros (suc n) zero = refl
-zeros (suc n) (suc l) = zeros n l
 
 module _ {marks : List ℕ} (e : _≡_ {A = List ℕ} marks (replicate literals 0)) where
   blank : (l : ℕ) → getD marks l 0 ≡ 0

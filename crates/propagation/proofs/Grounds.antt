@@ -13,10 +13,10 @@ use Rattle.theory.proofs.Bools.{never, or-right, or-cases}
 use Rattle.theory.proofs.Lists.{all-elem, all-of, clear-elem, clear-of, clear-anti, mem-left, mem-append}
 use Rattle.theory.proofs.Derive.{out-below}
 use Rattle.theory.proofs.Stable.{reduct-has, reduct-on, reduct-clear}
-use Rattle.items.specs.Item.{maxFacts}
+use Rattle.items.specs.Item.{narrow, maxFacts}
 use Rattle.index.specs.Literal.{outside, body, lacking}
 use Rattle.index.proofs.LiteralsBelow.{body-below}
-use Rattle.index.proofs.ElementsCounted.{mem-map, map-mem}
+use Rattle.index.proofs.MappedElements.{mem-map, map-mem}
 use Rattle.index.proofs.LiteralsCounted.{none-lacking, lacking-none}
 use Rattle.propagation.specs.State.{notHeldOut, Grounded}
 
@@ -33,7 +33,7 @@ module _ (P : Program) (on : Mask) where
   grounded-still yet yet′ s f g N c = g N (closed-before yet yet′ s N c)
 
   module _ (yet : ℕ → Bool) (i : ℕ) where
-    pub body-true : i < count P → Bounded P → P .facts ≤ maxFacts → lacking P yet i ≡ 0 → (l : ℕ) → mem l (body (rule P i)) ≡ true → yet l ≡ true
+    pub body-true : i < count P → Bounded P → P .facts ≤ maxFacts narrow → lacking P yet i ≡ 0 → (l : ℕ) → mem l (body (rule P i)) ≡ true → yet l ≡ true
     body-true h b few e l m = not-false (yet l) (never-lacks (mem l (body (rule P i))) (not (yet l)) m (none-lacking P yet i e l (body-below P b few i h l m)))
       where
         never-lacks : (a c : Bool) → a ≡ true → a && c ≡ false → c ≡ false
@@ -55,7 +55,7 @@ module _ (P : Program) (on : Mask) where
         unlacked l false m = refl
 
   -- `sure` are the literals that are true, `yet` those and the ones that wait
-  pub conclusion-grounded : Bounded P → P .facts ≤ maxFacts → (sure yet : ℕ → Bool) → Sub sure yet → ((f : ℕ) → f < maxFacts → yet f ≡ true → Grounded P on yet f) → (i : ℕ) → i < count P → on i ≡ true → lacking P sure i ≡ 0 → Grounded P on yet (rule P i .conclusion)
+  pub conclusion-grounded : Bounded P → P .facts ≤ maxFacts narrow → (sure yet : ℕ → Bool) → Sub sure yet → ((f : ℕ) → f < maxFacts narrow → yet f ≡ true → Grounded P on yet f) → (i : ℕ) → i < count P → on i ≡ true → lacking P sure i ≡ 0 → Grounded P on yet (rule P i .conclusion)
   conclusion-grounded b few sure yet s sound i l o e N c =
       c i l
       (reduct-has P on (notHeldOut yet) i o (clear-of (notHeldOut yet) (rule P i .constraints) (λ k m. ap not (s (outside k) (held k m)))))
@@ -66,5 +66,5 @@ module _ (P : Program) (on : Mask) where
           body-true sure i l b few e (outside k)
           (mem-append (outside k) (rule P i .premises) (map outside (rule P i .constraints)) ∙ or-right (mem (outside k) (rule P i .premises)) _ (mem-map outside (rule P i .constraints) k m))
 
-      small : (p : ℕ) → mem p (rule P i .premises) ≡ true → p < maxFacts
+      small : (p : ℕ) → mem p (rule P i .premises) ≡ true → p < maxFacts narrow
       small p m = omega (arith, ltb-true p (P .facts) (all-elem (λ f. ltb f (P .facts)) (rule P i .premises) (b .premises-below i l) p m))

@@ -12,10 +12,10 @@ use Rattle.theory.specs.Rule.{all, howMany, Program, Mask, Sub, everyRule, adjo
 use Rattle.theory.proofs.Bools.{either, never, and-left, and-right, or-right, or-cases, not-of-false}
 use Rattle.theory.proofs.Lists.{eqb-self}
 use Rattle.items.specs.declared.item.FactId.{FactId}
-use Rattle.items.specs.Item.{maxFacts, factId, maxRules, has}
+use Rattle.items.specs.Item.{narrow, maxFacts, factId, maxRules, has}
 use Rattle.tables.specs.Layout.{programIn, WellFormed}
 use Rattle.tables.proofs.ProgramHeld.{facts-below, conclusion-below}
-use Rattle.tables.proofs.MarksPainted.{has-set}
+use Rattle.marking.proofs.MarksPainted.{has-set}
 use Rattle.index.specs.Literal.{outside, literals, literalCount, lacking}
 use Rattle.index.specs.Cells.{slots, headIn, linkIn, ownerIn, onIn}
 use Rattle.index.specs.Index.{Chain, askers, Indexed}
@@ -58,7 +58,7 @@ module _ {P : Program} {on asked : Mask} {rules marks missing stack : List ℕ} 
 
   module _ {marks′ stack′ : List ℕ} {top′ : ℕ} where
     -- a literal is told that is held out, or has grounds
-    pub one-told : (l : ℕ) → Waited l marks top marks′ stack′ top′ → (l < maxFacts → Grounded P on (told marks) l) → Spreading P on asked rules marks′ missing stack′ top′
+    pub one-told : (l : ℕ) → Waited l marks top marks′ stack′ top′ → (l < maxFacts narrow → Grounded P on (told marks) l) → Spreading P on asked rules marks′ missing stack′ top′
     one-told l v grounds =
         record {
           on-stack = v .on-stack;
@@ -72,7 +72,7 @@ module _ {P : Program} {on asked : Mask} {rules marks missing stack : List ℕ} 
         more : Sub (told marks) (told marks′)
         more x t = v .tells x ∙ or-right (eqb x l) _ t
 
-        now : (f : ℕ) → eqb f l ≡ true → f < maxFacts → Grounded P on (told marks) f
+        now : (f : ℕ) → eqb f l ≡ true → f < maxFacts narrow → Grounded P on (told marks) f
         now f e h =
             let is-l : f ≡ l = eqb-true f l e in
             subst (Grounded P on (told marks)) (sym is-l) (grounds (omega arith))
@@ -350,7 +350,7 @@ module _ {P : Program} {on : Mask} {marks missing : List ℕ} where
 
 -- The conclusion of a rule, as read from the tables.
 module _ {T : List ℕ} (t : WellFormed T) (i : ℕ) (h : i < count (programIn T)) (f : FactId) (e : f ≡ factId (rule (programIn T) i .conclusion)) where
-  few : programIn T .facts ≤ maxFacts
+  few : programIn T .facts ≤ maxFacts narrow
   few = omega (arith, facts-below t)
 
   is : f .0 ≡ rule (programIn T) i .conclusion

@@ -10,7 +10,7 @@ use lib.ListN.{length, getD, take}
 use lib.Dec.{eqb, ltb}
 use Rattle.theory.specs.Rule.{all, mem, howMany, Program, Mask, FactSet, Bounded, everyRule, adjoin, count, rule, Closed}
 use Rattle.theory.specs.Stable.{reduct}
-use Rattle.items.specs.Item.{maxFacts, maxRules, has}
+use Rattle.items.specs.Item.{narrow, maxFacts, maxRules, has}
 use Rattle.tables.specs.Layout.{programIn, WellFormed}
 use Rattle.index.specs.Literal.{outside, literals, literalCount, lacking}
 use Rattle.index.specs.Cells.{onIn}
@@ -60,7 +60,7 @@ pub record Spreading (P : Program) (on asked : Mask) (rules : List ℕ) (marks m
   pub unused : (i : ℕ) → i < count P → on i ≡ false → getD missing i 0 ≡ 1
   pub fires : (i : ℕ) → i < count P → asked i ≡ true → getD missing i 0 ≡ 0 → told marks (rule P i .conclusion) ≡ true
   -- nothing is derived without grounds
-  pub sound : (f : ℕ) → f < maxFacts → told marks f ≡ true → Grounded P on (told marks) f
+  pub sound : (f : ℕ) → f < maxFacts narrow → told marks f ≡ true → Grounded P on (told marks) f
 
 -- Between two literals: every rule knows of every literal that is true.
 abbrev pub Between : Program → Mask → List ℕ → List ℕ → List ℕ → ℕ → Type 0
@@ -83,7 +83,7 @@ pub record Waited (literal : ℕ) (marks : List ℕ) (top : ℕ) (marks′ stack
 -- The conclusion of a rule is told now, if it was not before.
 pub record Concluded (P : Program) (i : ℕ) (marks : List ℕ) (top : ℕ) (marks′ stack′ : List ℕ) (top′ : ℕ) : Type 0 where
   pub bounded : Bounded P
-  pub few : P .facts ≤ maxFacts
+  pub few : P .facts ≤ maxFacts narrow
   pub waited : Waited (rule P i .conclusion) marks top marks′ stack′ top′
 
 -- The same facts are held out as before, and the stack has grown by no more than the literals told.
@@ -99,7 +99,7 @@ pub record Settled (P : Program) (on : Mask) (marks missing : List ℕ) : Type 0
   pub missed : (i : ℕ) → i < count P → on i ≡ true → getD missing i 0 ≡ lacking P (has marks) i
   pub unused : (i : ℕ) → i < count P → on i ≡ false → getD missing i 0 ≡ 1
   pub fires : (i : ℕ) → i < count P → getD missing i 0 ≡ 0 → has marks (rule P i .conclusion) ≡ true
-  pub sound : (N : FactSet) → Closed P (reduct P on (notHeldOut (has marks))) N → (f : ℕ) → f < maxFacts → has marks f ≡ true → N f ≡ true
+  pub sound : (N : FactSet) → Closed P (reduct P on (notHeldOut (has marks))) N → (f : ℕ) → f < maxFacts narrow → has marks f ≡ true → N f ≡ true
 
 -- The same facts are held out as before, and these.
 abbrev pub HeldToo : List ℕ → List ℕ → List ℕ → Type 0

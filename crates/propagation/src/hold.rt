@@ -5,7 +5,7 @@ ghost use mathlib.Core.Bool.{true, not};
 ghost use lib.ListN.{length, take, drop};
 ghost use lib.Dec.{ltb};
 ghost use Rattle.theory.specs.Rule.{all, keep, upTo};
-ghost use Rattle.items.specs.Item.{maxFacts, has};
+ghost use Rattle.items.specs.Item.{narrow, maxFacts, has};
 ghost use Rattle.tables.specs.Layout.{programIn};
 ghost use Rattle.index.specs.Cells.{onIn};
 ghost use Rattle.propagation.specs.State.{Ready, Settled, HeldToo};
@@ -30,7 +30,7 @@ pub fn hold_out(
 )
     requires { ⌜ Ready (now tables) (now index) ⌝ }
     requires { ⌜ Settled (programIn (now tables)) (onIn (now index)) (now marks) (now missing) ⌝ }
-    requires { ⌜ (to ≤ length (now facts)) × (all (λ k. ltb k maxFacts) (now facts) ≡ true) ⌝ }
+    requires { ⌜ (to ≤ length (now facts)) × (all (λ k. ltb k (maxFacts narrow)) (now facts) ≡ true) ⌝ }
     ensures { λ _. ⌜ Settled (programIn (now (tables .entry))) (onIn (now (index .entry))) (now (marks .exit)) (now (missing .exit)) ⌝ }
     ensures { λ _. ⌜ HeldToo (now (marks .entry)) (drop from (take to (now (facts .entry)))) (now (marks .exit)) ⌝ }
 {

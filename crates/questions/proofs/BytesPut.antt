@@ -6,8 +6,7 @@ use mathlib.Core.Path.{_≡_, refl, sym, ap, ap₂, _∙_}
 use mathlib.Core.List.{List, [], _∷_, _++_}
 use lib.ListN.{length, set, length-append}
 use Rattle.items.specs.Write.{placed}
-use Rattle.items.proofs.ReadBack.{stored}
-use Rattle.items.proofs.PlacedBytes.{placed-none, placed-length, placed-more}
+use Rattle.items.proofs.PlacedBytes.{placed-none, placed-length, placed-more, stored}
 use Rattle.questions.specs.Put.{Fits, Put}
 
 -- One byte is one store.
@@ -62,7 +61,3 @@ module _ {all : List ℕ} {from : ℕ} {before rest : List ℕ} {at : ℕ} {now 
               bytes-put = q .bytes-put ∙ ap₂ (placed more) (p .behind) (p .bytes-put) ∙ sym (placed-more a now at (next-fits .inside) more) ∙ ap (λ (r : List ℕ). placed r at now) (sym e);
               behind = omega (arith, q .behind, p .behind, ap length e, length-append a more);
             }
-
-  -- where the last part is written, all is
-  pub last-put : (next : ℕ) (after : List ℕ) → Put rest at now next after → Put all from before next after
-  last-put next after p = w .finish next after p

@@ -4,7 +4,7 @@ use mathlib.Core.List.{List, [], _∷_}
 use Prim.Native.Nat.{ℕ}
 use Rattle.theory.specs.Rule.{exception, constraintFact}
 use Rattle.items.specs.Item.{bodyLength, itemOf}
-use Rattle.items.specs.Cursor.{front, itemsAt}
+use Rattle.cursors.specs.Cursor.{front, itemsAt}
 use Rattle.items.specs.Question.{noNumber}
 use Rattle.reader.specs.Questions.{fileQuestions, exceptions, constraintFacts}
 use Rattle.questions.specs.Questions.{listQuestions, orderQuestions, setQuestions, rowQuestions, bufferQuestions, runQuestions, judgeQuestions, checkQuestions, earlyQuestions, searchQuestions, runNo, judgeNo, checkNo, searchNo}

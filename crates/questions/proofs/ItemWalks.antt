@@ -5,21 +5,18 @@ use mathlib.Core.List.{List, [], _∷_}
 use mathlib.Core.Logic.{⊎-elim}
 use mathlib.Core.Option.{Option, some}
 use native.Mathlib.Omega.{arith}
-use types.Run.{OneOf, miss}
-use denote.Enum.Declared.{tagOf}
 use Rattle.items.specs.declared.refusal.Refusal.{Refusal}
 use Rattle.items.specs.declared.item.Item.{Item}
-use Rattle.items.specs.declared.item.Item.the-variants.{Facts, Opens, Premise, Constraint, Rules, Names, Step}
-use Rattle.items.specs.declared.cursor.Cursor.{Cursor}
-use Rattle.items.specs.declared.cursor.Read.the-variants.{Found, Refused}
-use Rattle.items.specs.declared.cursor.Row.{Row}
-use Rattle.items.specs.declared.cursor.Row.the-variants.{Opening, Body, Order, Steps}
-use Rattle.items.specs.declared.cursor.Fault.{Fault}
-use Rattle.items.specs.declared.cursor.Fault.the-variants.{NoByte}
-use Rattle.items.specs.Cursor.{Token, item, bad, rowAfter, placeQuestions, nextAt, itemsAt}
+use Rattle.cursors.specs.declared.cursor.Cursor.{Cursor}
+use Rattle.cursors.specs.declared.cursor.Read.the-variants.{Found, Refused}
+use Rattle.cursors.specs.declared.cursor.Row.{Row}
+use Rattle.cursors.specs.declared.cursor.Row.the-variants.{Opening, Body, Order, Steps}
+use Rattle.cursors.specs.declared.cursor.Fault.{Fault}
+use Rattle.cursors.specs.declared.cursor.Fault.the-variants.{NoByte}
+use Rattle.cursors.specs.Cursor.{Token, item, bad, rowAfter, placeQuestions, nextAt, itemsAt}
 use Rattle.items.specs.Question.{firstNo}
-use Rattle.items.proofs.item.Item.{the-type}
-use Rattle.items.proofs.Items.{found, not-found}
+use Rattle.items.proofs.ItemSays.{Tagged, by-tags, unsaid}
+use Rattle.cursors.proofs.Items.{found, not-found}
 use Rattle.questions.specs.Questions.{namesOf}
 
 -- An order, a list or a proof row ends past its last whole item.
@@ -54,16 +51,10 @@ same-row s c d i row e h q = found s c d i e .row ∙ ap rowAfter q ∙ stays ro
     stays Steps k = refl
 
 abbrev pub NotNames : Item → Type 0
-NotNames i = OneOf (0 ∷ 1 ∷ 2 ∷ 3 ∷ 4 ∷ 6 ∷ []) (tagOf the-type i)
+NotNames i = Tagged (0 ∷ 1 ∷ 2 ∷ 3 ∷ 4 ∷ 6 ∷ []) i
 
 no-name : (i : Item) (ts : List Token) → NotNames i → namesOf (item i ∷ ts) ≡ namesOf ts
-no-name (Facts n) ts k = refl
-no-name (Opens f) ts k = refl
-no-name (Premise f) ts k = refl
-no-name (Constraint f) ts k = refl
-no-name (Rules n) ts k = refl
-no-name (Names r) ts k = absurd (miss (0 ∷ 1 ∷ 2 ∷ 3 ∷ 4 ∷ 6 ∷ []) 5 tt k)
-no-name (Step f r) ts k = refl
+no-name i ts k = rw (unsaid (by-tags i .names) (0 ∷ 1 ∷ 2 ∷ 3 ∷ 4 ∷ 6 ∷ []) (tt, tt) k)
 
 module _ (s : List ℕ) (c d : Cursor) (i : Item) (e : nextAt s c ≡ Found i d) where
   pub past-names : NotNames i → namesOf (itemsAt s c) ≡ namesOf (itemsAt s d)

@@ -12,9 +12,9 @@ use Rattle.theory.specs.Rule.{mem, adjoin, Program, count, exception}
 use Rattle.theory.proofs.Bools.{or-right, or-none}
 use Rattle.items.specs.declared.refusal.Refusal.{Refusal}
 use Rattle.items.specs.declared.refusal.Refusal.the-variants.{NotAnException, NamedTwice}
-use Rattle.items.specs.declared.cursor.Cursor.{Cursor}
+use Rattle.cursors.specs.declared.cursor.Cursor.{Cursor}
 use Rattle.items.specs.Question.{firstNo}
-use Rattle.items.specs.Cursor.{itemsAt}
+use Rattle.cursors.specs.Cursor.{itemsAt}
 use Rattle.items.proofs.FirstNo.{first-no, first-yes}
 use Rattle.questions.specs.declared.answer.Answer.the-variants.{Yes, No}
 use Rattle.items.specs.Item.{has}

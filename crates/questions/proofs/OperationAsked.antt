@@ -5,7 +5,6 @@ use mathlib.Core.Bool.{Bool, true, false, cond, not, _||_}
 use mathlib.Core.List.{List, [], _∷_, _++_}
 use mathlib.Core.Logic.{⊎-elim}
 use mathlib.Core.Option.{Option, none, some}
-use native.Mathlib.Omega.{arith}
 use borrow.Author.Tests.{eqb-true, eq-eqb, ne-eqb, lt-ltb, le-ltb, lt-leb, le-leb}
 use lib.ListN.{length, replicate}
 use lib.Dec.{eqb}
@@ -14,10 +13,10 @@ use Rattle.theory.proofs.Bools.{never, false-of-not, or-false-right, both-ways}
 use Rattle.theory.proofs.Lists.{mem-cases, all-elem, upTo-mem}
 use Rattle.items.specs.declared.refusal.Refusal.{Refusal}
 use Rattle.items.specs.declared.refusal.Refusal.the-variants.{NotRuleItems, NotAllNamed, WrongSetLength, NotZeroOrOne, NotStepItems, AskedFactTooHigh, FactMarksShort, RuleMarksShort, StepsShort}
-use Rattle.items.specs.Cursor.{itemsAt, orderStart, stepsStart}
+use Rattle.cursors.specs.Cursor.{itemsAt, orderStart, stepsStart}
 use Rattle.reader.specs.declared.answer.FileCounts.{FileCounts}
 use Rattle.reader.specs.declared.answer.Asked.the-variants as asked
-use Rattle.items.specs.Item.{stepWidth, maxRules, has}
+use Rattle.items.specs.Item.{narrow, stepWidth, maxRules, has}
 use Rattle.reader.specs.Questions.{programOf, fileQuestions, fileNo}
 use Rattle.items.specs.Question.{Question, firstNo, noNumber}
 use Rattle.tables.specs.Layout.{programIn}
@@ -28,10 +27,10 @@ use Rattle.reader.proofs.Accepted.{all-asked}
 use Rattle.reader.proofs.FileAsked.{file-no, file-yes}
 use Rattle.questions.specs.declared.answer.Answer.{Answer}
 use Rattle.questions.specs.declared.answer.Answer.the-variants.{Yes, No}
-use Rattle.questions.specs.Questions.{whole, namedIn, nameQuestions, namesQuestions, allNamedQuestion, listQuestions, orderQuestions, zeroOrOne, setQuestions, rowQuestions, listNo, orderNo, setNo, rowNo, bufferQuestions, buffersNo, askListQuestions, askOrderQuestions, askSetQuestions, askRowQuestions}
+use Rattle.questions.specs.Questions.{whole, namedIn, nameQuestions, namesQuestions, allNamedQuestion, listQuestions, orderQuestions, zeroOrOne, setQuestions, rowQuestions, listNo, orderNo, setNo, rowNo, bufferQuestions, buffersNo, tabledNo, askListQuestions, askOrderQuestions, askSetQuestions, askRowQuestions}
 use Rattle.questions.specs.Answer.{answerOf, number, AnswerNumbers}
 use Rattle.questions.specs.Named.{AllNamed, Listed}
-use Rattle.tables.proofs.MarksPainted.{unmarked}
+use Rattle.marking.proofs.MarksPainted.{unmarked}
 use Rattle.questions.proofs.NamesAsked.{said-yes, said-no}
 
 -- An answer that is the one defined, in numbers.
@@ -128,23 +127,33 @@ module _ (row before : List ℕ) (z : _≡_ {A = List ℕ} before (replicate max
 
 -- The ways of the questions on the buffers.
 module _ (P : Program) (facts rules steps : ℕ) where
-  pub facts-short : facts < P .facts → buffersNo P facts rules steps ≡ some FactMarksShort
+  pub facts-short : facts < P .facts → buffersNo narrow P facts rules steps ≡ some FactMarksShort
   unfolding bufferQuestions
   facts-short h = rw (lt-leb (P .facts) facts h)
 
   module _ (f : P .facts ≤ facts) where
-    pub rules-short : rules < count P → buffersNo P facts rules steps ≡ some RuleMarksShort
+    pub rules-short : rules < count P → buffersNo narrow P facts rules steps ≡ some RuleMarksShort
     unfolding bufferQuestions
     rules-short h = rw (le-leb (P .facts) facts f, lt-leb (count P) rules h)
 
     module _ (r : count P ≤ rules) where
-      pub steps-short : steps < stepWidth * P .facts → buffersNo P facts rules steps ≡ some StepsShort
+      pub steps-short : steps < stepWidth narrow * P .facts → buffersNo narrow P facts rules steps ≡ some StepsShort
       unfolding bufferQuestions
-      steps-short h = rw (le-leb (P .facts) facts f, le-leb (count P) rules r, lt-leb (stepWidth * P .facts) steps h)
+      steps-short h = rw (le-leb (P .facts) facts f, le-leb (count P) rules r, lt-leb (stepWidth narrow * P .facts) steps h)
 
-      pub large-enough : stepWidth * P .facts ≤ steps → buffersNo P facts rules steps ≡ none
+      pub large-enough : stepWidth narrow * P .facts ≤ steps → buffersNo narrow P facts rules steps ≡ none
       unfolding bufferQuestions
-      large-enough h = rw (le-leb (P .facts) facts f, le-leb (count P) rules r, le-leb (stepWidth * P .facts) steps h)
+      large-enough h = rw (le-leb (P .facts) facts f, le-leb (count P) rules r, le-leb (stepWidth narrow * P .facts) steps h)
+
+-- The ways of a run's questions behind those of the file.
+module _ (P : Program) (order : List ℕ) (facts rules steps : ℕ) where
+  pub order-no : (r : Refusal) → No r ≡ answerOf (orderNo (exception P) (count P) order) → No r ≡ answerOf (tabledNo P order facts rules steps)
+  order-no r e =
+      sym (ap answerOf (first-no (orderQuestions (exception P) (count P) order) _ r (said-no (orderNo (exception P) (count P) order) r e)))
+
+  pub buffers-asked : Yes ≡ answerOf (orderNo (exception P) (count P) order) → (answer : Answer) → answer ≡ answerOf (buffersNo narrow P facts rules steps) → answer ≡ answerOf (tabledNo P order facts rules steps)
+  buffers-asked e answer q =
+      q ∙ sym (ap answerOf (first-yes (orderQuestions (exception P) (count P) order) _ (said-yes (orderNo (exception P) (count P) order) e)))
 
 -- What an operation asks of an accepted file, with what was read of it.
 module _ (s : List ℕ) (yes-all : _≡_ {A = Option Refusal} (fileNo s) none) where

@@ -1,7 +1,7 @@
 -- An order or a list that is written names what was written, and gets yes where each rule is known and named once.
 use Prim.Native.Nat.{ℕ, zero, suc, _+_, _*_, _≤_, _<_}
 use native.Mathlib.Omega.{arith}
-use mathlib.Core.Path.{_≡_, refl, ap, ap₂, _∙_}
+use mathlib.Core.Path.{_≡_, refl, ap, _∙_}
 use mathlib.Core.Bool.{Bool, true, false, cond, not, _||_}
 use mathlib.Core.List.{List, [], _∷_, _++_}
 use mathlib.Core.Logic.{⊎-elim}
@@ -16,10 +16,10 @@ use Rattle.theory.proofs.Run.{NoRepeat}
 use Rattle.items.specs.declared.refusal.Refusal.{Refusal}
 use Rattle.items.specs.Item.{nameWidth}
 use Rattle.items.specs.Question.{firstNo}
-use Rattle.items.specs.Cursor.{itemsAt, orderStart}
+use Rattle.cursors.specs.Cursor.{itemsAt, orderStart}
 use Rattle.items.proofs.FirstNo.{first-yes}
 use Rattle.items.specs.Write.{ruleItem}
-use Rattle.items.proofs.ReadBack.{rule-item-first}
+use Rattle.cursors.proofs.ReadBack.{rule-item-first}
 use Rattle.questions.specs.Questions.{whole, namesOf, namedIn, nameQuestions, namesQuestions, listQuestions, orderQuestions, listNo, orderNo, naming}
 use Rattle.questions.proofs.NamesAsked.{first-named}
 

@@ -1,22 +1,18 @@
 -- The steps of a row, read one item after another.
-use Prim.Native.Nat.{ℕ, _<_}
+use Prim.Native.Nat.{ℕ}
 use mathlib.Core.Path.{_≡_, refl, ap, _∙_}
 use mathlib.Core.List.{List, [], _∷_}
-use types.Run.{OneOf, miss}
-use denote.Enum.Declared.{tagOf}
 use Rattle.theory.specs.Rule.{Step as TheStep}
 use Rattle.items.specs.declared.refusal.Refusal.{Refusal}
 use Rattle.items.specs.declared.item.FactId.{FactId}
 use Rattle.items.specs.declared.item.RuleId.{RuleId}
 use Rattle.items.specs.declared.item.Item.{Item}
-use Rattle.items.specs.declared.item.Item.the-variants.{Facts, Opens, Premise, Constraint, Rules, Names, Step}
-use Rattle.items.specs.declared.cursor.Cursor.{Cursor}
-use Rattle.items.specs.declared.cursor.Read.the-variants.{Found, Refused, Ended}
-use Rattle.items.specs.Item.{maxFacts}
-use Rattle.items.specs.Cursor.{Token, item, nextAt, itemsAt}
-use Rattle.items.proofs.item.Item.{the-type}
-use Rattle.items.proofs.Items.{found, row-ended}
-use Rattle.items.proofs.EachKind.{Bytes, narrowIn, narrow-item}
+use Rattle.items.specs.declared.item.Item.the-variants.{Step}
+use Rattle.cursors.specs.declared.cursor.Cursor.{Cursor}
+use Rattle.cursors.specs.declared.cursor.Read.the-variants.{Found, Refused, Ended}
+use Rattle.cursors.specs.Cursor.{Token, item, nextAt, itemsAt}
+use Rattle.items.proofs.ItemSays.{Tagged, by-tags, unsaid}
+use Rattle.cursors.proofs.Items.{row-ended}
 use Rattle.questions.proofs.ItemWalks.{headed, none-read}
 use Rattle.questions.specs.Questions.{stepOf, stepsOf}
 
@@ -25,16 +21,10 @@ abbrev pub stepsFrom : List ℕ → Cursor → List TheStep
 stepsFrom s c = stepsOf (itemsAt s c)
 
 abbrev pub NotStep : Item → Type 0
-NotStep i = OneOf (0 ∷ 1 ∷ 2 ∷ 3 ∷ 4 ∷ 5 ∷ []) (tagOf the-type i)
+NotStep i = Tagged (0 ∷ 1 ∷ 2 ∷ 3 ∷ 4 ∷ 5 ∷ []) i
 
 pub no-step : (i : Item) (ts : List Token) → NotStep i → stepsOf (item i ∷ ts) ≡ stepsOf ts
-no-step (Facts n) ts k = refl
-no-step (Opens f) ts k = refl
-no-step (Premise f) ts k = refl
-no-step (Constraint f) ts k = refl
-no-step (Rules n) ts k = refl
-no-step (Names r) ts k = refl
-no-step (Step f r) ts k = absurd (miss (0 ∷ 1 ∷ 2 ∷ 3 ∷ 4 ∷ 5 ∷ []) 6 tt k)
+no-step i ts k = rw (unsaid (by-tags i .step) (0 ∷ 1 ∷ 2 ∷ 3 ∷ 4 ∷ 5 ∷ []) (tt, tt) k)
 
 module _ (s : List ℕ) (c d : Cursor) where
   pub no-step-left : (r : Refusal) → nextAt s c ≡ Refused r d → stepsFrom s c ≡ []
@@ -50,6 +40,3 @@ module _ (s : List ℕ) (c d : Cursor) where
     module _ (f : FactId) (r : RuleId) (q : i ≡ Step f r) where
       pub step-read : stepsFrom s c ≡ stepOf f r ∷ stepsFrom s d
       step-read = ap stepsOf (headed s c d i (Step f r) e q)
-
-      pub fact-narrow : Bytes s → f .0 < maxFacts
-      fact-narrow b = rw (ap narrowIn q) at (narrow-item (found s c d i e) b)

@@ -1,19 +1,18 @@
 -- What the bytes lent beside a file mean, and the questions of every operation that asks those of a file, in the order of document 01
 -- ("Questions before a result").
 use Prim.Native.Nat.{ℕ, _*_}
-use mathlib.Core.Bool.{Bool, true, false, not, _||_, _&&_}
+use mathlib.Core.Bool.{Bool, true, false, not, _||_}
 use mathlib.Core.List.{List, [], _∷_, _++_}
 use mathlib.Core.Option.{Option, none, some}
-use lib.ListN.{length, getD}
+use lib.ListN.{length}
 use lib.Dec.{eqb, ltb, leb}
-use Rattle.theory.specs.Rule.{all, mem, upTo, nothing, adjoin, count, exception, Program, FactSet, inForce, Step as Taken}
+use Rattle.theory.specs.Rule.{all, mem, upTo, nothing, adjoin, count, exception, Program, FactSet, inForce, Step}
 use Rattle.items.specs.declared.refusal.Refusal.{Refusal}
 use Rattle.items.specs.declared.refusal.Refusal.the-variants.{NotRuleItems, NotAnException, NamedTwice, NotAllNamed, WrongSetLength, NotZeroOrOne, NotStepItems, AskedFactTooHigh, FactMarksShort, RuleMarksShort, StepsShort, OrderShort, TooManyConstraints, NoStableSet}
-use Rattle.items.specs.declared.item.Item.the-variants.{Facts, Opens, Premise, Constraint, Rules, Names, Step}
-use Rattle.items.specs.Cursor.{Token, item, bad, itemsAt, orderStart, stepsStart}
+use Rattle.items.specs.Item.{narrow, classOf, whereSaid, Width, stepWidth, nameWidth, maxGuessed}
+use Rattle.cursors.specs.Cursor.{Token, item, bad, itemsAt, orderStart, stepsStart}
 use Rattle.items.specs.Question.{Question, ask, firstNo}
 use Rattle.reader.specs.Questions.{programOf, fileQuestions, fileNo, exceptions, constraintFacts}
-use Rattle.items.specs.Item.{maxGuessed, stepWidth, nameWidth}
 use Rattle.items.specs.declared.item.FactId.{FactId}
 use Rattle.items.specs.declared.item.RuleId.{RuleId}
 use mathlib.Core.Path.{_≡_}
@@ -32,13 +31,7 @@ whole (bad fault ∷ ts) = false
 abbrev pub namesOf : List Token → List ℕ
 namesOf [] = []
 namesOf (bad fault ∷ ts) = []
-namesOf (item (Names r) ∷ ts) = r .0 ∷ namesOf ts
-namesOf (item (Facts n) ∷ ts) = namesOf ts
-namesOf (item (Opens f) ∷ ts) = namesOf ts
-namesOf (item (Premise f) ∷ ts) = namesOf ts
-namesOf (item (Constraint f) ∷ ts) = namesOf ts
-namesOf (item (Rules n) ∷ ts) = namesOf ts
-namesOf (item (Step f r) ∷ ts) = namesOf ts
+namesOf (item i ∷ ts) = whereSaid (classOf i .names) (λ r. r .0 ∷ namesOf ts) (namesOf ts)
 
 -- the rules that the bytes of an order or a list name
 abbrev pub namedIn : List ℕ → List ℕ
@@ -54,23 +47,17 @@ abbrev pub naming : List ℕ → List ℕ
 naming rs = each ruleItem rs
 
 -- the step that a 06 item gives
-abbrev pub stepOf : FactId → RuleId → Taken
+abbrev pub stepOf : FactId → RuleId → Step
 stepOf f r = record { fact = f .0; by = r .0 }
 
 -- the steps that the items of a row give
-abbrev pub stepsOf : List Token → List Taken
+abbrev pub stepsOf : List Token → List Step
 stepsOf [] = []
 stepsOf (bad fault ∷ ts) = []
-stepsOf (item (Step f r) ∷ ts) = stepOf f r ∷ stepsOf ts
-stepsOf (item (Facts n) ∷ ts) = stepsOf ts
-stepsOf (item (Opens f) ∷ ts) = stepsOf ts
-stepsOf (item (Premise f) ∷ ts) = stepsOf ts
-stepsOf (item (Constraint f) ∷ ts) = stepsOf ts
-stepsOf (item (Rules n) ∷ ts) = stepsOf ts
-stepsOf (item (Names r) ∷ ts) = stepsOf ts
+stepsOf (item i ∷ ts) = whereSaid (classOf i .step) (λ s. stepOf (s .fact) (s .rule) ∷ stepsOf ts) (stepsOf ts)
 
 -- the steps that the bytes of a proof row give
-abbrev pub rowOf : List ℕ → List Taken
+abbrev pub rowOf : List ℕ → List Step
 rowOf bytes = stepsOf (itemsAt bytes stepsStart)
 
 -- Questions 12 and 13 of one item: an exception rule of the file? Not named before? `known` tells the exception rules, `seen` those named
@@ -149,33 +136,38 @@ askSetQuestions file set = fileQuestions file ++ setQuestions (programOf file .f
 unfoldable pub askRowQuestions : List ℕ → ℕ → List ℕ → List Question
 askRowQuestions file fact row = fileQuestions file ++ rowQuestions (programOf file .facts) fact row
 
--- Fact marks at least the count of facts? Rule marks at least the count of rules? Steps at least 4 × facts?
+-- Fact marks at least the count of facts? Rule marks at least the count of rules? Steps at least a step's bytes × facts?
 abbrev pub factMarksQuestion : Program → ℕ → Question
 factMarksQuestion P facts = ask FactMarksShort (leb (P .facts) facts)
 
 abbrev pub ruleMarksQuestion : Program → ℕ → Question
 ruleMarksQuestion P rules = ask RuleMarksShort (leb (count P) rules)
 
-abbrev pub stepsQuestion : Program → ℕ → Question
-stepsQuestion P steps = ask StepsShort (leb (stepWidth * P .facts) steps)
+abbrev pub stepsQuestion : Width → Program → ℕ → Question
+stepsQuestion w P steps = ask StepsShort (leb (stepWidth w * P .facts) steps)
 
 -- The buffers that the run and the search share.
-unfoldable pub bufferQuestions : Program → ℕ → ℕ → ℕ → List Question
-bufferQuestions P facts rules steps = factMarksQuestion P facts ∷ ruleMarksQuestion P rules ∷ stepsQuestion P steps ∷ []
+unfoldable pub bufferQuestions : Width → Program → ℕ → ℕ → ℕ → List Question
+bufferQuestions w P facts rules steps = factMarksQuestion P facts ∷ ruleMarksQuestion P rules ∷ stepsQuestion w P steps ∷ []
 
 -- The run: the file, the order, then the buffers.
 unfoldable pub runQuestions : List ℕ → List ℕ → ℕ → ℕ → ℕ → List Question
 runQuestions file order facts rules steps =
     fileQuestions file
     ++ (orderQuestions (exception (programOf file)) (count (programOf file)) order
-    ++ bufferQuestions (programOf file) facts rules steps)
+    ++ bufferQuestions narrow (programOf file) facts rules steps)
 
 -- The first no of each.
-abbrev pub buffersNo : Program → ℕ → ℕ → ℕ → Option Refusal
-buffersNo P facts rules steps = firstNo (bufferQuestions P facts rules steps)
+abbrev pub buffersNo : Width → Program → ℕ → ℕ → ℕ → Option Refusal
+buffersNo w P facts rules steps = firstNo (bufferQuestions w P facts rules steps)
 
 abbrev pub runNo : List ℕ → List ℕ → ℕ → ℕ → ℕ → Option Refusal
 runNo file order facts rules steps = firstNo (runQuestions file order facts rules steps)
+
+-- The first no to the run's questions behind those of the file.
+abbrev pub tabledNo : Program → List ℕ → ℕ → ℕ → ℕ → Option Refusal
+tabledNo P order facts rules steps =
+    firstNo (orderQuestions (exception P) (count P) order ++ bufferQuestions narrow P facts rules steps)
 
 -- The judge: the file, the list, then the set.
 unfoldable pub judgeQuestions : List ℕ → List ℕ → List ℕ → List Question
@@ -218,7 +210,7 @@ limitQuestions P order = orderRoomQuestion P order ∷ guessedQuestion P ∷ []
 
 unfoldable pub earlyQuestions : List ℕ → ℕ → ℕ → ℕ → ℕ → List Question
 earlyQuestions file facts rules steps order =
-    fileQuestions file ++ (bufferQuestions (programOf file) facts rules steps ++ limitQuestions (programOf file) order)
+    fileQuestions file ++ (bufferQuestions narrow (programOf file) facts rules steps ++ limitQuestions (programOf file) order)
 
 unfoldable pub searchQuestions : List ℕ → ℕ → ℕ → ℕ → ℕ → List Question
 searchQuestions file facts rules steps order =

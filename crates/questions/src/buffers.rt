@@ -3,6 +3,7 @@ ghost use mathlib.Core.Path.{_≡_};
 ghost use Rattle.tables.specs.Layout.{programIn, WellFormed};
 ghost use Rattle.questions.specs.Questions.{buffersNo};
 ghost use Rattle.questions.specs.Answer.{answerOf};
+ghost use Rattle.items.specs.Item.{narrow};
 use crate::answer::Answer;
 use items::refusal::Refusal;
 use items::write::STEP_WIDTH;
@@ -13,7 +14,7 @@ use tables::layout::rules_of;
 // Questions 31 to 33, by the lengths of the buffers.
 pub fn ask_buffers(tables: &[u16; TABLE_CELLS], facts: usize, rules: usize, steps: usize) -> Answer
     requires { ⌜ WellFormed (now tables) ⌝ }
-    ensures { λ r. ⌜ r ≡ answerOf (buffersNo (programIn (now (tables .entry))) facts rules steps) ⌝ }
+    ensures { λ r. ⌜ r ≡ answerOf (buffersNo narrow (programIn (now (tables .entry))) facts rules steps) ⌝ }
 {
     let count = facts_of(tables);
     if facts < count {

@@ -1,8 +1,5 @@
-// The questions on orders, lists of rules, fact sets, proof rows and buffers, and what is written in their forms.
+// The questions on fact sets, proof rows and buffers, and the definitions of all questions beside the file's.
 pub mod answer;
 pub mod buffers;
 pub mod fact_set;
-mod names;
-pub mod order;
 pub mod row;
-pub mod write;

@@ -1,13 +1,13 @@
 // The questions on proof rows.
 ghost use mathlib.Core.Path.{_≡_};
-ghost use Rattle.items.specs.Cursor.{itemsAt, stepsStart};
+ghost use Rattle.cursors.specs.Cursor.{itemsAt, stepsStart};
 ghost use Rattle.items.specs.Question.{firstNo};
 ghost use Rattle.questions.specs.Answer.{answerOf, AnswerNumbers};
 ghost use Rattle.questions.specs.Questions.{whole, rowNo, askRowQuestions};
 use crate::answer::Answer;
-use items::cursor::Cursor;
-use items::cursor::Read;
-use items::cursor::Row;
+use cursors::cursor::Cursor;
+use cursors::cursor::Read;
+use cursors::cursor::Row;
 use items::refusal::Refusal;
 use reader::answer::Asked;
 use tables::layout::TABLE_CELLS;

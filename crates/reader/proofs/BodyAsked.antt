@@ -14,27 +14,19 @@ use Rattle.items.specs.declared.refusal.Refusal.the-variants.{FileCutOff, Unkno
 use Rattle.items.specs.declared.item.FactId.{FactId}
 use Rattle.items.specs.declared.item.Item.{Item}
 use Rattle.items.specs.declared.item.Item.the-variants.{Opens, Premise, Constraint, Rules}
-use Rattle.items.specs.declared.cursor.Cursor.{Cursor}
-use Rattle.items.specs.declared.cursor.Row.the-variants.{Body}
-use Rattle.items.specs.declared.cursor.Fault.the-variants.{NoByte}
-use Rattle.items.specs.declared.cursor.Read.the-variants.{Refused, Ended}
+use Rattle.cursors.specs.declared.cursor.Cursor.{Cursor}
+use Rattle.cursors.specs.declared.cursor.Row.the-variants.{Body}
+use Rattle.cursors.specs.declared.cursor.Fault.the-variants.{NoByte}
+use Rattle.cursors.specs.declared.cursor.Read.the-variants.{Refused, Ended}
 use Rattle.reader.specs.declared.answer.Scan.{Scan}
 use Rattle.items.specs.Item.{maxRules}
 use Rattle.items.specs.Question.{firstNo}
-use Rattle.items.specs.Cursor.{rowAfter, Token, item, bad, placeQuestions, nextAt, itemsAt}
+use Rattle.cursors.specs.Cursor.{rowAfter, Token, item, bad, placeQuestions, nextAt, itemsAt}
 use Rattle.reader.specs.Questions.{factQuestion, ownerQuestion, bodyQuestions}
 use Rattle.reader.specs.BodyScanned.{bodyNo}
-use Rattle.items.proofs.Items.{ReadAt, NoItemAt, not-found, row-ended, none-left, some-left}
+use Rattle.reader.specs.Scanning.{seen, Along}
+use Rattle.cursors.proofs.Items.{ReadAt, NoItemAt, not-found, row-ended, none-left, some-left}
 use Rattle.reader.proofs.Tags.{NotOfBody, not-of-body}
-
--- The count of facts, and the rules opened so far.
-abbrev pub seen : ℕ → ℕ → Scan
-seen facts n = record { facts = facts; rules = n }
-
--- A walk along the body: what is to come gives the first no of the whole.
-pub record Along (s : List ℕ) (c₀ : Cursor) (facts : ℕ) (c : Cursor) (n : ℕ) : Type 0 where
-  pub body : c .row ≡ Body
-  pub same : bodyNo facts s c₀ ≡ firstNo (bodyQuestions (seen facts n) (itemsAt s c))
 
 pub not-begun : (s : List ℕ) (c : Cursor) (facts : ℕ) → c .row ≡ Body → Along s c facts c 0
 not-begun s c facts b = record { body = b; same = refl }

@@ -12,19 +12,15 @@ use Rattle.theory.specs.Rule.{mem, howMany, range, upTo, null, constraintFact, 
 use Rattle.theory.proofs.Lists.{howMany-ext, howMany-le, length-range, mem-range}
 use Rattle.items.specs.declared.item.FactId.{FactId}
 use Rattle.items.specs.declared.item.Item.the-variants.{Opens, Premise, Constraint, Rules}
-use Rattle.items.specs.declared.cursor.Cursor.{Cursor}
-use Rattle.items.specs.Item.{maxFacts, has}
-use Rattle.items.specs.Cursor.{Token, item, itemsAt}
-use Rattle.items.proofs.Items.{ReadAt}
-use Rattle.tables.proofs.MarksPainted.{has-set, unmarked}
+use Rattle.cursors.specs.declared.cursor.Cursor.{Cursor}
+use Rattle.items.specs.Item.{narrow, maxFacts, has}
+use Rattle.cursors.specs.Cursor.{Token, item, itemsAt}
+use Rattle.cursors.proofs.Items.{ReadAt}
+use Rattle.marking.proofs.MarksPainted.{has-set, unmarked}
 use Rattle.reader.specs.Questions.{constraintsOf, rulesOf, exceptions, constraintFacts}
 use Rattle.reader.specs.BodyScanned.{programFrom, Unmarked}
-use Rattle.reader.proofs.RulesCounted.{constrained, withConstraint, constraint-fact, exceptions-of}
-
--- the constraints ahead, once a rule is opened that has them
-abbrev ownedBy : ℕ → List ℕ → List ℕ
-ownedBy zero fs = []
-ownedBy (suc n) fs = fs
+use Rattle.reader.specs.Scanning.{constrained, withConstraint, ownedBy, Counting}
+use Rattle.reader.proofs.RulesCounted.{constraint-fact, exceptions-of}
 
 owned : (n : ℕ) (fs : List ℕ) → (n ≡ 0 → ⊥) → ownedBy n fs ≡ fs
 owned zero fs h = absurd (h refl)
@@ -34,25 +30,18 @@ none-owned : (n : ℕ) → ownedBy n [] ≡ []
 none-owned zero = refl
 none-owned (suc n) = refl
 
-pub record Counting (facts : ℕ) (s : List ℕ) (c₀ c : Cursor) (marks : List ℕ) (n exceptions plain found : ℕ) : Type 0 where
-  pub rules : withConstraint (rulesOf (itemsAt s c₀)) ≡ exceptions + (cond (null (ownedBy n (constraintsOf (itemsAt s c)))) 0 plain + withConstraint (rulesOf (itemsAt s c)))
-  pub few : exceptions + plain ≤ n
-  pub size : length marks ≡ maxFacts
-  pub marks-show : (k : ℕ) → constrained (rulesOf (itemsAt s c₀)) k ≡ has marks k || (mem k (ownedBy n (constraintsOf (itemsAt s c))) || constrained (rulesOf (itemsAt s c)) k)
-  pub counted : found ≡ howMany (has marks) (upTo facts)
-
 pub none-counted : (facts : ℕ) (s : List ℕ) (c : Cursor) {marks : List ℕ} → Unmarked marks → Counting facts s c c marks 0 0 0 0
 none-counted facts s c {marks} zeros =
     record {
       rules = omega arith;
       few = omega arith;
-      size = ap length (zeros .zeros) ∙ length-replicate {A = ℕ} maxFacts 0;
+      size = ap length (zeros .zeros) ∙ length-replicate {A = ℕ} (maxFacts narrow) 0;
       marks-show = λ k. ap (λ (S : ℕ → Bool). S k || constrained (rulesOf (itemsAt s c)) k) (sym empty);
       counted = sym (ap (λ (S : ℕ → Bool). howMany S (upTo facts)) empty ∙ no-one (upTo facts));
     }
   where
     empty : has marks ≡ nothing
-    empty = ap has (zeros .zeros) ∙ unmarked maxFacts
+    empty = ap has (zeros .zeros) ∙ unmarked (maxFacts narrow)
 
     no-one : (xs : List ℕ) → howMany (λ k. false) xs ≡ 0
     no-one [] = refl
@@ -84,16 +73,14 @@ one-more-counted S n f h = go n 0 (omega arith) (omega arith)
     go zero a l u = absurd (omega arith)
     go (suc m) a l u = here m a l (λ ne. go m (suc a) (omega arith) (omega arith)) (eqb a f) refl
 
-module _ {facts : ℕ} {s : List ℕ} {c₀ c : Cursor} {marks : List ℕ} {n exc plain found : ℕ} (w : Counting facts s c₀ c marks n exc plain found) where
-  few-found : found ≤ facts
-  few-found = rw (w .counted) (rw (length-range 0 facts) at (howMany-le (has marks) (upTo facts)))
+-- One more fact is counted at most.
+pub one-at-most : (b : Bool) (new : ℕ) → new ≡ cond b 0 1 → new ≤ 1
+one-at-most true new e = omega (arith, e)
+one-at-most false new e = omega (arith, e)
 
-  pub few-marked : (b : Bool) (new : ℕ) → new ≡ cond b 0 1 → facts < maxFacts → found + new ≤ maxFacts
-  few-marked b new e small = omega (arith, few-found, at-most-one b, e)
-    where
-      at-most-one : (t : Bool) → cond t 0 1 ≤ 1
-      at-most-one true = omega arith
-      at-most-one false = omega arith
+module _ {facts : ℕ} {s : List ℕ} {c₀ c : Cursor} {marks : List ℕ} {n exc plain found : ℕ} (w : Counting facts s c₀ c marks n exc plain found) where
+  pub few-found : found ≤ facts
+  few-found = rw (w .counted) (rw (length-range 0 facts) at (howMany-le (has marks) (upTo facts)))
 
   pub rule-counted : {f : FactId} {d : Cursor} → ReadAt s c (Opens f) d → Counting facts s c₀ d marks (n + 1) exc 1 found
   rule-counted {f} {d} r =
@@ -130,7 +117,7 @@ module _ {facts : ℕ} {s : List ℕ} {c₀ c : Cursor} {marks : List ℕ} {n ex
         counted = w .counted;
       }
 
-  pub constraint-counted : {f : FactId} {d : Cursor} → ReadAt s c (Constraint f) d → (n ≡ 0 → ⊥) → f .0 < facts → facts < maxFacts → Counting facts s c₀ d (set marks (f .0) 1) n (exc + plain) 0 (found + cond (has marks (f .0)) 0 1)
+  pub constraint-counted : {f : FactId} {d : Cursor} → ReadAt s c (Constraint f) d → (n ≡ 0 → ⊥) → f .0 < facts → facts < maxFacts narrow → Counting facts s c₀ d (set marks (f .0) 1) n (exc + plain) 0 (found + cond (has marks (f .0)) 0 1)
   constraint-counted {f} {d} r opened below small =
       record {
         rules =

@@ -1,5 +1,5 @@
 -- What the questions on a file tell once they are asked: the first no, or that the file is accepted, and its counts.
-use Prim.Native.Nat.{ℕ, _<_}
+use Prim.Native.Nat.{ℕ}
 use mathlib.Core.Path.{_≡_, refl, sym, ap, _∙_}
 use mathlib.Core.List.{List}
 use mathlib.Core.Option.{Option, none, some}
@@ -9,13 +9,10 @@ use Rattle.items.specs.declared.refusal.Refusal.{Refusal}
 use Rattle.reader.specs.declared.answer.Accept.the-variants as accept
 use Rattle.reader.specs.declared.answer.FileCounts.{FileCounts}
 use Rattle.reader.specs.declared.answer.Asked.the-variants.{Yes, No}
-use Rattle.items.specs.Item.{maxFacts}
 use Rattle.reader.specs.Questions.{programOf, fileNo, exceptions, constraintFacts}
 use Rattle.reader.specs.Asked.{askedOf, countsOf, fileAsked}
 use Rattle.reader.specs.Accepted.{Accepted}
 use Rattle.reader.specs.Accept.{acceptOf}
-use Rattle.items.proofs.EachKind.{Bytes}
-use Rattle.reader.proofs.Accepted.{accepted-file, facts-below}
 
 -- A no is the answer, and nothing is promised of the tables.
 pub said-no : {o : Option Refusal} {A : Type 0} {r : Refusal} (counts : FileCounts) → o ≡ some r → (No r ≡ askedOf o counts) × (_≡_ {A = Option Refusal} o none → A)
@@ -65,8 +62,3 @@ module _ (s : List ℕ) where
   pub accepted-answer : (f r e k : ℕ) → _≡_ {A = Option Refusal} (fileNo s) none → f ≡ programOf s .facts → r ≡ count (programOf s) → e ≡ exceptions (programOf s) → k ≡ constraintFacts (programOf s) → accept.Accepted f r e k ≡ acceptOf s
   unfolding acceptOf
   accepted-answer f r e k q a b c d = rw (q, acceptOf, a, b, c, d)
-
--- The count of facts of an accepted file is small.
-module _ {s : List ℕ} {counts : FileCounts} (a : Accepted s counts) where
-  pub few-facts : Bytes s → counts .facts < maxFacts
-  few-facts b = rw (a .facts) (facts-below (accepted-file s (a .accepted)) b)

@@ -4,13 +4,14 @@ use native.Mathlib.Omega.{arith}
 use mathlib.Core.Path.{_≡_}
 use mathlib.Core.Bool.{Bool, true, false, cond}
 use mathlib.Core.List.{List, [], _∷_, _++_}
-use mathlib.Core.Option.{Option, none, some}
+use mathlib.Core.Option.{some}
 use Rattle.items.specs.declared.refusal.Refusal.{Refusal}
 use Rattle.items.specs.declared.refusal.Refusal.the-variants.{FileTooLong, NoFactCount, FileCutOff, UnknownKind, BodyCutOff, FactTooHigh, NoRuleOpened, TooManyRules, WrongRuleCount, BytesAfterEnd}
-use Rattle.items.specs.declared.item.Item.the-variants.{Facts, Opens, Premise, Constraint, Rules, Names, Step}
 use Rattle.reader.specs.declared.answer.Scan.{Scan}
 use Rattle.items.specs.Question.{Question, firstNo}
-use Rattle.items.specs.Cursor.{Token, item, bad, itemsAt, fileStart}
+use Rattle.items.specs.Item.{classOf}
+use Rattle.cursors.specs.Cursor.{Token, item, bad, itemsAt, fileStart}
+use Rattle.items.proofs.ItemSays.{either-said}
 use Rattle.reader.specs.Questions.{fresh, opened, bodyQuestions, openingQuestions, fileQuestions}
 
 -- Q holds of the refusal of every question of a list.
@@ -47,24 +48,17 @@ module _ (Q : Refusal → Type 0) (a : FileRefusals Q) where
   each-body : (scan : Scan) (ts : List Token) → Each Q (bodyQuestions scan ts)
   each-body scan [] = (a .three, (a .four, (a .five, tt)))
   each-body scan (bad fault ∷ ts) = (a .three, (a .four, (a .five, tt)))
-  each-body scan (item (Opens f) ∷ ts) = (a .three, (a .four, (a .five, (a .six, (a .eight, each-body (opened scan) ts)))))
-  each-body scan (item (Premise f) ∷ ts) = (a .three, (a .four, (a .five, (a .six, (a .seven, each-body scan ts)))))
-  each-body scan (item (Constraint f) ∷ ts) = (a .three, (a .four, (a .five, (a .six, (a .seven, each-body scan ts)))))
-  each-body scan (item (Rules n) ∷ ts) = (a .three, (a .four, (a .five, (a .nine, (a .ten, tt)))))
-  each-body scan (item (Facts n) ∷ ts) = (a .three, (a .four, (a .five, tt)))
-  each-body scan (item (Names r) ∷ ts) = (a .three, (a .four, (a .five, tt)))
-  each-body scan (item (Step f r) ∷ ts) = (a .three, (a .four, (a .five, tt)))
+  each-body scan (item i ∷ ts) =
+      either-said (Each Q) (classOf i .opens) _ _ (λ f _. (a .three, (a .four, (a .five, (a .six, (a .eight, each-body (opened scan) ts))))))
+      (λ _. either-said (Each Q) (classOf i .own) _ _ (λ o _. (a .three, (a .four, (a .five, (a .six, (a .seven, each-body scan ts))))))
+      (λ _. either-said (Each Q) (classOf i .rules) _ _ (λ n _. (a .three, (a .four, (a .five, (a .nine, (a .ten, tt))))))
+      (λ _. (a .three, (a .four, (a .five, tt))))))
 
   each-opening : (ts : List Token) → Each Q (openingQuestions ts)
   each-opening [] = (a .two, tt)
   each-opening (bad fault ∷ ts) = (a .two, tt)
-  each-opening (item (Facts n) ∷ ts) = (a .two, each-body (fresh n) ts)
-  each-opening (item (Opens f) ∷ ts) = (a .two, tt)
-  each-opening (item (Premise f) ∷ ts) = (a .two, tt)
-  each-opening (item (Constraint f) ∷ ts) = (a .two, tt)
-  each-opening (item (Rules n) ∷ ts) = (a .two, tt)
-  each-opening (item (Names r) ∷ ts) = (a .two, tt)
-  each-opening (item (Step f r) ∷ ts) = (a .two, tt)
+  each-opening (item i ∷ ts) =
+      either-said (Each Q) (classOf i .facts) _ _ (λ n _. (a .two, each-body (fresh n) ts)) (λ _. (a .two, tt))
 
   pub each-file : (s : List ℕ) → Each Q (fileQuestions s)
   unfolding fileQuestions

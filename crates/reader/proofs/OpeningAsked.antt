@@ -11,11 +11,11 @@ use Rattle.items.specs.declared.refusal.Refusal.{Refusal}
 use Rattle.items.specs.declared.refusal.Refusal.the-variants.{FileTooLong, NoFactCount}
 use Rattle.items.specs.declared.item.Item.{Item}
 use Rattle.items.specs.declared.item.Item.the-variants.{Facts}
-use Rattle.items.specs.declared.cursor.Cursor.{Cursor}
-use Rattle.items.specs.declared.cursor.Fault.the-variants.{NoByte}
-use Rattle.items.specs.declared.cursor.Read.the-variants.{Refused, Ended}
+use Rattle.cursors.specs.declared.cursor.Cursor.{Cursor}
+use Rattle.cursors.specs.declared.cursor.Fault.the-variants.{NoByte}
+use Rattle.cursors.specs.declared.cursor.Read.the-variants.{Refused, Ended}
 use Rattle.items.specs.Question.{firstNo}
-use Rattle.items.specs.Cursor.{Token, item, bad, nextAt, itemsAt, fileStart}
+use Rattle.cursors.specs.Cursor.{Token, item, bad, nextAt, itemsAt, fileStart}
 use Rattle.items.specs.Item.{maxBytes}
 use Rattle.tables.specs.Layout.{placeIn}
 use Rattle.reader.specs.declared.answer.Asked.{Asked}
@@ -23,7 +23,7 @@ use Rattle.reader.specs.Questions.{rulesOf, factCount, programOf, openin
 use Rattle.reader.specs.Asked.{askedOf, countsOf, fileAsked}
 use Rattle.reader.specs.Scanned.{OwnAt, Tabled, Scanned}
 use Rattle.reader.specs.BodyScanned.{programFrom, bodyNo, BodyTabled, BodyScanned}
-use Rattle.items.proofs.Items.{ReadAt, NoItemAt, not-found, row-ended}
+use Rattle.cursors.proofs.Items.{ReadAt, NoItemAt, not-found, row-ended}
 use Rattle.reader.proofs.Tags.{NotFacts, no-count}
 
 module _ (s : List ℕ) where

@@ -11,6 +11,7 @@ use lib.Dec.{ltb}
 use Rattle.theory.proofs.Bools.{either}
 use Rattle.tables.specs.Layout.{listed, span}
 use Rattle.tables.proofs.PartsSpanned.{span-end}
+use Rattle.reader.specs.Scanning.{Filled}
 
 span-agree : (row row′ : ℕ → ℕ) (a b : ℕ) → ((j : ℕ) → j < b → row′ j ≡ row j) → span row′ a b ≡ span row a b
 span-agree row row′ a b h = go (b - a) a (λ j l u. h j (omega arith))
@@ -30,13 +31,6 @@ span-more row a b h =
     go (suc m) a =
         let next : suc a + m ≡ a + suc m = omega arith in
         ap (λ (xs : List ℕ). row a ∷ xs) (go m (suc a) ∙ ap (λ (j : ℕ). listed row (suc a) m ++ (row j ∷ [])) next)
-
-pub record Filled (part : ℕ → List ℕ) (start row : ℕ → ℕ) (n at : ℕ) (ahead : List ℕ) : Type 0 where
-  pub low : (i : ℕ) → i + 1 < n → start i ≤ start (i + 1)
-  pub high : (i : ℕ) → i + 1 < n → start (i + 1) ≤ at
-  pub done : (i : ℕ) → i + 1 < n → span row (start i) (start (i + 1)) ≡ part i
-  pub last-low : (i : ℕ) → i + 1 ≡ n → start i ≤ at
-  pub last : (i : ℕ) → i + 1 ≡ n → span row (start i) at ++ ahead ≡ part i
 
 pub none-filled : (part : ℕ → List ℕ) (start row : ℕ → ℕ) (ahead : List ℕ) → Filled part start row 0 0 ahead
 none-filled part start row ahead =

@@ -1,27 +1,18 @@
 -- Counts over rules, by number and by list.
 use Prim.Native.Nat.{ℕ, zero, suc, _-_, _<_, _≤_}
 use mathlib.Core.Path.{_≡_, refl, ap, _∙_}
-use mathlib.Core.Bool.{Bool, false, cond, not, _&&_, _||_}
+use mathlib.Core.Bool.{Bool, cond, not, _&&_, _||_}
 use mathlib.Core.List.{List, [], _∷_}
 use native.Mathlib.Omega.{arith}
 use borrow.Author.Tests.{lt-ltb}
 use lib.ListN.{length, getD, replicate}
 use lib.Dec.{eqb}
 use Rattle.theory.specs.Rule.{mem, any, howMany, range, upTo, Rule, Program, count, rule, blank, null, exception, constraintFact, inForce}
-use Rattle.theory.proofs.Lists.{howMany-ext, howMany-le, length-range, mem-upTo}
-use Rattle.tables.specs.Marks.{paint}
-use Rattle.tables.proofs.MarksPainted.{painted}
+use Rattle.theory.proofs.Lists.{howMany-ext, mem-upTo}
+use Rattle.marking.specs.Marks.{paint}
+use Rattle.marking.proofs.MarksPainted.{painted}
 use Rattle.reader.specs.Questions.{exceptions, constraintFacts}
-
--- k is a constraint of some of the rules
-abbrev pub constrained : List Rule → ℕ → Bool
-constrained [] k = false
-constrained (r ∷ rs) k = mem k (r .constraints) || constrained rs k
-
--- how many of the rules have a constraint
-abbrev pub withConstraint : List Rule → ℕ
-withConstraint [] = 0
-withConstraint (r ∷ rs) = cond (not (null (r .constraints))) (suc (withConstraint rs)) (withConstraint rs)
+use Rattle.reader.specs.Scanning.{constrained, withConstraint}
 
 any-shift : (q : ℕ → Bool) (a n : ℕ) → any q (range (suc a) n) ≡ any (λ i. q (suc i)) (range a n)
 any-shift q a zero = refl
@@ -53,11 +44,6 @@ exceptions-of P =
     howMany-ext (exception P) (λ i. not (null (rule P i .constraints))) (upTo (count P))
     (λ i m. ap (λ (b : Bool). b && not (null (rule P i .constraints))) (lt-ltb i (count P) (mem-upTo (count P) i m)))
     ∙ counted-rules (P .rules)
-
--- No more exception rules than rules.
-pub exceptions-le : (P : Program) → exceptions P ≤ count P
-unfolding exceptions
-exceptions-le P = rw length-range at (howMany-le (exception P) (upTo (count P)))
 
 -- The count of the marks painted by the constraint facts.
 pub painted-count : (P : Program) (n : ℕ) → P .facts ≤ n → howMany (λ k. eqb (getD (paint (constraintFact P (inForce P)) (replicate n 0)) k 0) 1) (upTo (P .facts)) ≡ constraintFacts P

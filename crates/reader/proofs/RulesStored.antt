@@ -9,41 +9,26 @@ use borrow.Author.Tests.{ltb-true, ltb-false}
 use lib.ListN.{length, getD, set, drop, length-set}
 use lib.Seq.{getD-set-same, getD-set-other, getD-drop, drop-drop}
 use lib.Dec.{ltb}
-use Rattle.theory.specs.Rule.{Rule, range, upTo, blank, count, rule, Bounded}
+use Rattle.theory.specs.Rule.{Rule, range, upTo, blank, count, Bounded}
 use Rattle.theory.proofs.Bools.{either}
 use Rattle.items.specs.declared.item.FactId.{FactId}
 use Rattle.items.specs.declared.item.Item.{Item}
 use Rattle.items.specs.declared.item.Item.the-variants.{Opens, Premise, Constraint, Rules}
-use Rattle.items.specs.declared.cursor.Cursor.{Cursor}
-use Rattle.items.specs.declared.cursor.Row.the-variants.{Body}
-use Rattle.items.specs.Item.{maxFacts, maxRules, maxBytes, itemWidth}
-use Rattle.items.specs.Cursor.{itemsAt, bodyAt}
-use Rattle.items.proofs.Items.{ReadAt}
-use Rattle.items.proofs.EachKind.{width-of-item}
+use Rattle.cursors.specs.declared.cursor.Cursor.{Cursor}
+use Rattle.cursors.specs.declared.cursor.Row.the-variants.{Body}
+use Rattle.items.specs.Item.{narrow, maxFacts, itemWidth, maxRules, maxBytes, classOf}
+use Rattle.cursors.specs.Cursor.{itemsAt, bodyAt}
+use Rattle.cursors.proofs.Items.{ReadAt}
+use Rattle.items.proofs.ItemSays.{either-said}
+use Rattle.cursors.proofs.EachKind.{itemLength, width-of-item}
 use Rattle.tables.specs.Layout.{maxOwn, conclusionsFrom, placesFrom, premiseStartsFrom, constraintStartsFrom, ownFrom, tableCells, lastCell, rulesIn, conclusionIn, placeIn, premiseStart, constraintStart, premiseAt, constraintAt, ruleIn, programIn}
 use Rattle.reader.specs.Questions.{premisesOf, constraintsOf, ruleOf, rulesOf}
 use Rattle.reader.specs.Scanned.{OwnAt}
 use Rattle.reader.specs.BodyScanned.{programFrom, BodyTabled}
+use Rattle.reader.specs.Scanning.{Filled, ruleFrom, Storing}
 use Rattle.reader.specs.Stores.{withRule, withCounts}
-use Rattle.reader.proofs.PartsFilled.{Filled, none-filled, kept, same-ahead, one-read, next-rule}
+use Rattle.reader.proofs.PartsFilled.{none-filled, kept, same-ahead, one-read, next-rule}
 use Rattle.reader.proofs.CellsStored.{RuleStored, rule-stored, CountsStored, counts-stored}
-
--- The rule numbered i of those from a cursor on.
-abbrev ruleFrom : List ℕ → Cursor → ℕ → Rule
-ruleFrom s c i = getD (rulesOf (itemsAt s c)) i blank
-
-pub record Storing (s : List ℕ) (c₀ c : Cursor) (T : List ℕ) (n filled barred : ℕ) : Type 0 where
-  -- the rules to come
-  pub passed : drop n (rulesOf (itemsAt s c₀)) ≡ rulesOf (itemsAt s c)
-  pub total : length (rulesOf (itemsAt s c₀)) ≡ n + length (rulesOf (itemsAt s c))
-  pub few : n ≤ maxRules
-  pub size : length T ≡ tableCells
-  pub conclusions : (i : ℕ) → i < n → conclusionIn T i ≡ ruleFrom s c₀ i .conclusion
-  pub places : (i : ℕ) → i < n → OwnAt s (placeIn T i) (ruleFrom s c₀ i)
-  pub premises : Filled (λ i. ruleFrom s c₀ i .premises) (premiseStart T) (premiseAt T) n filled (premisesOf (itemsAt s c))
-  pub constraints : Filled (λ i. ruleFrom s c₀ i .constraints) (constraintStart T) (constraintAt T) n barred (constraintsOf (itemsAt s c))
-  -- each premise and each constraint has an item of its own
-  pub spent : itemWidth * (filled + barred) ≤ c .at
 
 pub none-stored : (s : List ℕ) (c : Cursor) (T : List ℕ) → length T ≡ tableCells → Storing s c c T 0 0 0
 none-stored s c T size =
@@ -67,13 +52,20 @@ to-come : (rs : List Rule) (n : ℕ) (r : Rule) (rest : List Rule) → drop n rs
 to-come rs n r rest e =
     (ap (λ (i : ℕ). getD rs i blank) (sym (add-zero n)) ∙ (sym (getD-drop n rs 0 blank) ∙ ap (λ (l : List Rule). getD l 0 blank) e), sym (drop-drop 1 n rs) ∙ ap (drop 1) e)
 
+-- No item is narrower than one that names a fact.
+at-least : (i : Item) → itemWidth narrow ≤ itemLength narrow i
+at-least i =
+    either-said (λ n. itemWidth narrow ≤ n) (classOf i .rules) _ _ (λ n _. omega arith)
+    (λ _. either-said (λ n. itemWidth narrow ≤ n) (classOf i .names) _ _ (λ r _. omega arith)
+    (λ _. either-said (λ n. itemWidth narrow ≤ n) (classOf i .step) _ _ (λ t _. omega arith) (λ _. omega arith)))
+
 module _ {s : List ℕ} {c₀ c : Cursor} {T : List ℕ} {n filled barred : ℕ} (w : Storing s c₀ c T n filled barred) where
   -- There is room for what is read.
-  pub fits : {i : Item} {d : Cursor} → ReadAt s c i d → length s ≤ maxBytes → (d .at ≤ maxBytes) × (filled ≤ maxOwn) × (barred ≤ maxOwn)
-  fits r short = (omega (arith, r .inside), omega (arith, w .spent, r .forward, r .inside), omega (arith, w .spent, r .forward, r .inside))
+  pub item-fits : {i : Item} {d : Cursor} → ReadAt s c i d → itemWidth narrow * (filled + barred) + itemWidth narrow ≤ d .at
+  item-fits {i} r = omega (arith, w .spent, width-of-item r, at-least i)
 
-  pub fits-one : {i : Item} {d : Cursor} → ReadAt s c i d → d .at ≡ c .at + itemWidth → length s ≤ maxBytes → filled + barred + 1 < maxOwn
-  fits-one r wide short = omega (arith, w .spent, r .inside)
+  fits-one : {i : Item} {d : Cursor} → ReadAt s c i d → length s ≤ maxBytes → filled + barred + 1 < maxOwn
+  fits-one r short = omega (arith, item-fits r, r .inside)
 
   -- a rule
   module _ {f : FactId} {d : Cursor} (r : ReadAt s c (Opens f) d) (body : d .row ≡ Body) (room : n < maxRules) (short : length s ≤ maxBytes) where
@@ -159,7 +151,7 @@ module _ {s : List ℕ} {c₀ c : Cursor} {T : List ℕ} {n filled barred : ℕ}
         T′ = set T (ownFrom + filled) (f .0)
 
         room : filled + barred + 1 < maxOwn
-        room = fits-one r (width-of-item r) short
+        room = fits-one r short
 
         elsewhere : (k : ℕ) → (k ≡ ownFrom + filled → ⊥) → getD T′ k 0 ≡ getD T k 0
         elsewhere k h = getD-set-other T (ownFrom + filled) k (f .0) 0 h
@@ -188,7 +180,7 @@ module _ {s : List ℕ} {c₀ c : Cursor} {T : List ℕ} {n filled barred : ℕ}
         T′ = set T (lastCell - barred) (f .0)
 
         room : filled + barred + 1 < maxOwn
-        room = fits-one r (width-of-item r) short
+        room = fits-one r short
 
         elsewhere : (k : ℕ) → (k ≡ lastCell - barred → ⊥) → getD T′ k 0 ≡ getD T k 0
         elsewhere k h = getD-set-other T (lastCell - barred) k (f .0) 0 h
@@ -241,7 +233,7 @@ module _ {s : List ℕ} {c₀ c : Cursor} {T : List ℕ} {n filled barred : ℕ}
             ap (λ (m : ℕ). map (ruleIn T′) (upTo m)) (t .rules ∙ sym all-read)
             ∙ same-rules (ruleIn T′) 0 (rulesOf (itemsAt s c₀)) (λ i h. ap (ruleIn T′) (zero-add i) ∙ rule-there i (rw all-read at h))
 
-    tabled : facts < maxFacts → Bounded (programFrom facts s c₀) → BodyTabled facts s c₀ T′
+    tabled : facts < maxFacts narrow → Bounded (programFrom facts s c₀) → BodyTabled facts s c₀ T′
     tabled few bounded =
         record {
           program = program-there;
@@ -264,5 +256,5 @@ module _ {s : List ℕ} {c₀ c : Cursor} {T : List ℕ} {n filled barred : ℕ}
         in-range : (i : ℕ) → i < count (programFrom facts s c₀) → i < n
         in-range i h = rw all-read at h
 
-  pub all-stored : {facts : ℕ} → facts < maxFacts → Bounded (programFrom facts s c₀) → BodyTabled facts s c₀ (withCounts T facts n filled barred)
+  pub all-stored : {facts : ℕ} → facts < maxFacts narrow → Bounded (programFrom facts s c₀) → BodyTabled facts s c₀ (withCounts T facts n filled barred)
   all-stored {facts} few bounded = tabled (counts-stored T (w .size) facts n filled barred (w .few)) few bounded

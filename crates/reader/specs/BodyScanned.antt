@@ -6,10 +6,10 @@ use mathlib.Core.Option.{Option, none}
 use lib.ListN.{replicate}
 use Rattle.theory.specs.Rule.{Program, count, rule}
 use Rattle.items.specs.declared.refusal.Refusal.{Refusal}
-use Rattle.items.specs.declared.cursor.Cursor.{Cursor}
-use Rattle.items.specs.Item.{maxFacts}
+use Rattle.cursors.specs.declared.cursor.Cursor.{Cursor}
+use Rattle.items.specs.Item.{narrow, maxFacts}
 use Rattle.items.specs.Question.{firstNo}
-use Rattle.items.specs.Cursor.{itemsAt}
+use Rattle.cursors.specs.Cursor.{itemsAt}
 use Rattle.tables.specs.Layout.{placeIn, programIn, WellFormed}
 use Rattle.reader.specs.Questions.{rulesOf, fresh, bodyQuestions}
 use Rattle.reader.specs.Scanned.{OwnAt}
@@ -33,4 +33,4 @@ BodyScanned n s c T = _≡_ {A = Option Refusal} (bodyNo n s c) none → BodyTab
 
 -- No fact is marked yet.
 pub record Unmarked (marks : List ℕ) : Type 0 where
-  pub zeros : marks ≡ replicate maxFacts 0
+  pub zeros : marks ≡ replicate (maxFacts narrow) 0

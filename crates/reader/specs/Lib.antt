@@ -6,4 +6,5 @@ pub mod Asked
 pub mod Accepted
 pub mod Scanned
 pub mod BodyScanned
+pub mod Scanning
 pub mod Stores

@@ -3,43 +3,32 @@ use Prim.Native.Nat.{ℕ, _+_}
 use mathlib.Core.List.{List, [], _∷_, _++_}
 use Rattle.theory.specs.Rule.{Rule, Program, howMany, upTo, count, exception, constraintFact, inForce}
 use Rattle.items.specs.declared.item.FactId.{FactId}
-use Rattle.items.specs.declared.item.Item.the-variants.{Facts, Opens, Premise, Constraint, Rules, Names, Step}
-use Rattle.items.specs.Item.{maxBytes, maxRules}
-use Rattle.items.specs.Cursor.{Token, item, bad, itemsAt, fileStart, placeQuestions, ended}
-use mathlib.Core.Bool.{Bool, true, false}
+use Rattle.items.specs.Item.{maxBytes, maxRules, Sign, asksIn, asksOut, sameSign, classOf, whereSaid}
+use Rattle.cursors.specs.Cursor.{Token, item, bad, itemsAt, fileStart, placeQuestions, ended}
+use mathlib.Core.Bool.{cond}
 use mathlib.Core.Option.{Option}
 use lib.ListN.{length}
 use lib.Dec.{eqb, ltb, leb}
 use Rattle.items.specs.declared.refusal.Refusal.{Refusal}
 use Rattle.items.specs.declared.refusal.Refusal.the-variants.{FileTooLong, FactTooHigh, NoRuleOpened, TooManyRules, WrongRuleCount, BytesAfterEnd}
-use Rattle.items.specs.declared.cursor.Row.the-variants.{Opening, Body}
-use Rattle.items.specs.declared.cursor.Fault.the-variants.{NoByte, OtherKind}
+use Rattle.cursors.specs.declared.cursor.Row.the-variants.{Opening, Body}
+use Rattle.cursors.specs.declared.cursor.Fault.the-variants.{NoByte, OtherKind}
 use Rattle.reader.specs.declared.answer.Scan.{Scan}
 use Rattle.items.specs.Question.{Question, ask, firstNo}
 
--- The premises of the rule just opened: those of the 02 items that stand before an item of another kind than 02 and 03.
-abbrev pub premisesOf : List Token → List ℕ
-premisesOf [] = []
-premisesOf (bad fault ∷ ts) = []
-premisesOf (item (Premise f) ∷ ts) = f .0 ∷ premisesOf ts
-premisesOf (item (Constraint f) ∷ ts) = premisesOf ts
-premisesOf (item (Facts n) ∷ ts) = []
-premisesOf (item (Opens f) ∷ ts) = []
-premisesOf (item (Rules n) ∷ ts) = []
-premisesOf (item (Names r) ∷ ts) = []
-premisesOf (item (Step f r) ∷ ts) = []
+-- The facts that the items of the rule just opened ask in, or out: of those of its own items that stand before an item of another class.
+abbrev pub ownFacts : Sign → List Token → List ℕ
+ownFacts sign [] = []
+ownFacts sign (bad fault ∷ ts) = []
+ownFacts sign (item i ∷ ts) =
+    whereSaid (classOf i .own) (λ o. cond (sameSign sign (o .sign)) (o .fact .0 ∷ ownFacts sign ts) (ownFacts sign ts)) []
 
--- Its constraints: the same of the 03 items.
+-- Its premises, and its constraints.
+abbrev pub premisesOf : List Token → List ℕ
+premisesOf ts = ownFacts asksIn ts
+
 abbrev pub constraintsOf : List Token → List ℕ
-constraintsOf [] = []
-constraintsOf (bad fault ∷ ts) = []
-constraintsOf (item (Premise f) ∷ ts) = constraintsOf ts
-constraintsOf (item (Constraint f) ∷ ts) = f .0 ∷ constraintsOf ts
-constraintsOf (item (Facts n) ∷ ts) = []
-constraintsOf (item (Opens f) ∷ ts) = []
-constraintsOf (item (Rules n) ∷ ts) = []
-constraintsOf (item (Names r) ∷ ts) = []
-constraintsOf (item (Step f r) ∷ ts) = []
+constraintsOf ts = ownFacts asksOut ts
 
 -- The rule that an item opens, with the items after that one.
 abbrev pub ruleOf : FactId → List Token → Rule
@@ -49,25 +38,13 @@ ruleOf f ts = record { conclusion = f .0; premises = premisesOf ts; constraints 
 abbrev pub rulesOf : List Token → List Rule
 rulesOf [] = []
 rulesOf (bad fault ∷ ts) = []
-rulesOf (item (Opens f) ∷ ts) = ruleOf f ts ∷ rulesOf ts
-rulesOf (item (Facts n) ∷ ts) = rulesOf ts
-rulesOf (item (Premise f) ∷ ts) = rulesOf ts
-rulesOf (item (Constraint f) ∷ ts) = rulesOf ts
-rulesOf (item (Rules n) ∷ ts) = rulesOf ts
-rulesOf (item (Names r) ∷ ts) = rulesOf ts
-rulesOf (item (Step f r) ∷ ts) = rulesOf ts
+rulesOf (item i ∷ ts) = whereSaid (classOf i .opens) (λ f. ruleOf f ts ∷ rulesOf ts) (rulesOf ts)
 
 -- The count of facts that the first item gives.
 abbrev pub factCount : List Token → ℕ
 factCount [] = 0
 factCount (bad fault ∷ ts) = 0
-factCount (item (Facts n) ∷ ts) = n
-factCount (item (Opens f) ∷ ts) = 0
-factCount (item (Premise f) ∷ ts) = 0
-factCount (item (Constraint f) ∷ ts) = 0
-factCount (item (Rules n) ∷ ts) = 0
-factCount (item (Names r) ∷ ts) = 0
-factCount (item (Step f r) ∷ ts) = 0
+factCount (item i ∷ ts) = whereSaid (classOf i .facts) (λ n. n) 0
 
 -- The program of an accepted file.
 abbrev pub programOf : List ℕ → Program
@@ -108,29 +85,18 @@ endQuestion ts = ask BytesAfterEnd (ended ts)
 abbrev pub bodyQuestions : Scan → List Token → List Question
 bodyQuestions scan [] = placeQuestions Body (bad NoByte)
 bodyQuestions scan (bad fault ∷ ts) = placeQuestions Body (bad fault)
-bodyQuestions scan (item (Opens f) ∷ ts) =
-    placeQuestions Body (item (Opens f)) ++ (factQuestion scan f ∷ roomQuestion scan ∷ bodyQuestions (opened scan) ts)
-bodyQuestions scan (item (Premise f) ∷ ts) =
-    placeQuestions Body (item (Premise f)) ++ (factQuestion scan f ∷ ownerQuestion scan ∷ bodyQuestions scan ts)
-bodyQuestions scan (item (Constraint f) ∷ ts) =
-    placeQuestions Body (item (Constraint f)) ++ (factQuestion scan f ∷ ownerQuestion scan ∷ bodyQuestions scan ts)
-bodyQuestions scan (item (Rules n) ∷ ts) =
-    placeQuestions Body (item (Rules n)) ++ (countQuestion scan n ∷ endQuestion ts ∷ [])
-bodyQuestions scan (item (Facts n) ∷ ts) = placeQuestions Body (bad OtherKind)
-bodyQuestions scan (item (Names r) ∷ ts) = placeQuestions Body (bad OtherKind)
-bodyQuestions scan (item (Step f r) ∷ ts) = placeQuestions Body (bad OtherKind)
+bodyQuestions scan (item i ∷ ts) =
+    whereSaid (classOf i .opens) (λ f. placeQuestions Body (item i) ++ (factQuestion scan f ∷ roomQuestion scan ∷ bodyQuestions (opened scan) ts))
+    (whereSaid (classOf i .own) (λ o. placeQuestions Body (item i) ++ (factQuestion scan (o .fact) ∷ ownerQuestion scan ∷ bodyQuestions scan ts))
+    (whereSaid (classOf i .rules) (λ n. placeQuestions Body (item i) ++ (countQuestion scan n ∷ endQuestion ts ∷ []))
+    (placeQuestions Body (bad OtherKind))))
 
 -- Question 2, and the others where it gets yes.
 abbrev pub openingQuestions : List Token → List Question
 openingQuestions [] = placeQuestions Opening (bad NoByte)
 openingQuestions (bad fault ∷ ts) = placeQuestions Opening (bad fault)
-openingQuestions (item (Facts n) ∷ ts) = placeQuestions Opening (item (Facts n)) ++ bodyQuestions (fresh n) ts
-openingQuestions (item (Opens f) ∷ ts) = placeQuestions Opening (bad OtherKind)
-openingQuestions (item (Premise f) ∷ ts) = placeQuestions Opening (bad OtherKind)
-openingQuestions (item (Constraint f) ∷ ts) = placeQuestions Opening (bad OtherKind)
-openingQuestions (item (Rules n) ∷ ts) = placeQuestions Opening (bad OtherKind)
-openingQuestions (item (Names r) ∷ ts) = placeQuestions Opening (bad OtherKind)
-openingQuestions (item (Step f r) ∷ ts) = placeQuestions Opening (bad OtherKind)
+openingQuestions (item i ∷ ts) =
+    whereSaid (classOf i .facts) (λ n. placeQuestions Opening (item i) ++ bodyQuestions (fresh n) ts) (placeQuestions Opening (bad OtherKind))
 
 -- The questions on a file, 1 to 10. A file is accepted (document 01) where each gets yes.
 unfoldable pub fileQuestions : List ℕ → List Question

@@ -5,7 +5,7 @@ use mathlib.Core.List.{List}
 use mathlib.Core.Option.{Option, none}
 use Rattle.theory.specs.Rule.{Rule, count, rule}
 use Rattle.items.specs.declared.refusal.Refusal.{Refusal}
-use Rattle.items.specs.Cursor.{itemsAt, bodyAt}
+use Rattle.cursors.specs.Cursor.{itemsAt, bodyAt}
 use Rattle.tables.specs.Layout.{placeIn, programIn, WellFormed}
 use Rattle.reader.specs.Questions.{premisesOf, constraintsOf, programOf, fileNo}
 

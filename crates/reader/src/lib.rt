@@ -4,6 +4,7 @@ ghost use Rattle.reader.specs.Accept.{acceptOf, AcceptNumbers};
 
 pub mod answer;
 pub mod scan;
+mod step;
 mod stores;
 
 use answer::Accept;

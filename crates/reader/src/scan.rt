@@ -3,31 +3,26 @@
 ghost use mathlib.Core.Path.{_≡_};
 ghost use Prim.Native.Nat.{_<_, _≤_};
 ghost use lib.ListN.{length};
-ghost use Rattle.items.specs.declared.cursor.Row.the-variants.{Body};
-ghost use Rattle.items.specs.Item.{maxBytes, maxFacts};
+ghost use Rattle.cursors.specs.declared.cursor.Row.the-variants.{Body};
+ghost use Rattle.items.specs.Item.{narrow, maxFacts, maxBytes};
 ghost use Rattle.tables.specs.Layout.{tableCells};
 ghost use Rattle.reader.specs.Asked.{askedOf, countsOf, fileAsked};
 ghost use Rattle.reader.specs.Scanned.{Scanned};
 ghost use Rattle.reader.specs.BodyScanned.{programFrom, bodyNo, BodyScanned, Unmarked};
 use crate::answer::Asked;
-use crate::answer::FileCounts;
-use crate::stores;
-use items::cursor::Cursor;
-use items::cursor::Read;
-use items::cursor::Row;
+use crate::step::Progress;
+use crate::step::Step;
+use crate::step::scan_item;
+use cursors::cursor::Cursor;
+use cursors::cursor::Read;
+use cursors::cursor::Row;
 use items::item::Item;
 use items::item::MAX_BYTES;
 use items::item::MAX_FACTS;
-use items::item::MAX_RULES;
 use items::refusal::Refusal;
-use tables::layout::LAST_CELL;
-use tables::layout::OWN;
 use tables::layout::TABLE_CELLS;
 
 // Questions 3 to 10, of the items after the first.
-//
-// `filled` and `barred` count the premises and the constraints so far; `plain` is 1 while the rule last opened has no constraint; `found` counts
-// the facts that are marked as constraints.
 fn scan_body(
     file: &[u8],
     from: Cursor,
@@ -35,79 +30,35 @@ fn scan_body(
     tables: &mut [u16; TABLE_CELLS],
     marks: &mut [u8; MAX_FACTS],
 ) -> Asked
-    requires { ⌜ (from .row ≡ Body) × (length (now file) ≤ maxBytes) × (facts < maxFacts) × (length (now tables) ≡ tableCells) × Unmarked (now marks) ⌝ }
+    requires { ⌜ (from .row ≡ Body) × (length (now file) ≤ maxBytes) × (facts < maxFacts narrow) × (length (now tables) ≡ tableCells) × Unmarked (now marks) ⌝ }
     ensures { λ r. ⌜ r ≡ askedOf (bodyNo facts (now (file .entry)) from) (countsOf (programFrom facts (now (file .entry)) from)) ⌝ }
     ensures { λ _. ⌜ BodyScanned facts (now (file .entry)) from (now (tables .exit)) ⌝ }
 {
     let mut cursor = from;
-    let mut rules: usize = 0;
-    let mut filled: usize = 0;
-    let mut barred: usize = 0;
-    let mut exceptions: u16 = 0;
-    let mut plain: u16 = 0;
-    let mut found: u16 = 0;
+    let mut progress = Progress {
+        rules: 0,
+        filled: 0,
+        barred: 0,
+        exceptions: 0,
+        plain: 0,
+        found: 0,
+    };
     loop {
         match cursor.next_in_body(file) {
             Read::Refused(r, _) => {
                 return Asked::No(r);
             }
-            Read::Found(item, next) => match item {
-                Item::Opens(f) => {
-                    if facts <= f.0 {
-                        return Asked::No(Refusal::FactTooHigh);
+            Read::Found(item, next) => {
+                match scan_item(item, next, file.len(), facts, progress, tables, marks) {
+                    Step::On(after) => {
+                        progress = after;
+                        cursor = next;
                     }
-                    if MAX_RULES <= rules {
-                        return Asked::No(Refusal::TooManyRules);
+                    Step::Done(answer) => {
+                        return answer;
                     }
-                    stores::store_rule(tables, rules, f.0, next.at, filled, barred);
-                    rules += 1;
-                    plain = 1;
-                    cursor = next;
                 }
-                Item::Premise(f) => {
-                    if facts <= f.0 {
-                        return Asked::No(Refusal::FactTooHigh);
-                    }
-                    if rules == 0 {
-                        return Asked::No(Refusal::NoRuleOpened);
-                    }
-                    tables[OWN + filled] = f.0;
-                    filled += 1;
-                    cursor = next;
-                }
-                Item::Constraint(f) => {
-                    if facts <= f.0 {
-                        return Asked::No(Refusal::FactTooHigh);
-                    }
-                    if rules == 0 {
-                        return Asked::No(Refusal::NoRuleOpened);
-                    }
-                    tables[LAST_CELL - barred] = f.0;
-                    barred += 1;
-                    exceptions += plain;
-                    plain = 0;
-                    found += stores::mark_new(marks, f.0);
-                    cursor = next;
-                }
-                Item::Rules(n) => {
-                    if n as usize != rules {
-                        return Asked::No(Refusal::WrongRuleCount);
-                    }
-                    if next.at < file.len() {
-                        return Asked::No(Refusal::BytesAfterEnd);
-                    }
-                    stores::store_counts(tables, facts, n, filled, barred);
-                    return Asked::Yes(FileCounts {
-                        facts,
-                        rules: n,
-                        exceptions,
-                        constraints: found,
-                    });
-                }
-                _ => {
-                    return Asked::No(Refusal::UnknownKind);
-                }
-            },
+            }
             Read::Ended(_) => {
                 return Asked::No(Refusal::FileCutOff);
             }

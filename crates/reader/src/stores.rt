@@ -3,7 +3,7 @@ ghost use mathlib.Core.Path.{_≡_};
 ghost use mathlib.Core.Bool.{cond};
 ghost use Prim.Native.Nat.{_<_, _≤_};
 ghost use lib.ListN.{set};
-ghost use Rattle.items.specs.Item.{maxFacts, maxRules, maxBytes, has};
+ghost use Rattle.items.specs.Item.{narrow, maxFacts, maxRules, maxBytes, has};
 ghost use Rattle.tables.specs.Layout.{maxOwn};
 ghost use Rattle.reader.specs.Stores.{withStarts, withRule, withCounts};
 use items::item::MAX_FACTS;
@@ -59,7 +59,7 @@ pub fn store_counts(
 
 // Marks a fact with 1: 1 where it had no mark, else 0.
 pub fn mark_new(marks: &mut [u8; MAX_FACTS], fact: u16) -> u16
-    requires { ⌜ fact < maxFacts ⌝ }
+    requires { ⌜ fact < maxFacts narrow ⌝ }
     ensures { λ r. ⌜ r ≡ cond (has (now (marks .entry)) fact) 0 1 ⌝ }
     ensures { λ _. ⌜ now (marks .exit) ≡ set (now (marks .entry)) fact 1 ⌝ }
 {

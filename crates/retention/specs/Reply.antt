@@ -3,7 +3,7 @@ use Prim.Native.Nat.{ℕ}
 use mathlib.Core.List.{List}
 use Rattle.reader.specs.declared.answer.Accept.{Accept}
 use Rattle.reader.specs.declared.answer.Accept.the-variants.{Accepted, Refused}
-use Rattle.items.specs.Item.{stepWidth}
+use Rattle.items.specs.Item.{narrow, stepWidth}
 use Rattle.reader.specs.Accept as accept
 use Rattle.run.specs.declared.answer.Ran.{Ran}
 use Rattle.run.specs.Outcome as ran
@@ -19,7 +19,7 @@ use Rattle.retention.specs.declared.reply.Verdict.{Verdict}
 
 -- The bytes of one step.
 abbrev pub bytesOfStep : Accept → ℕ
-bytesOfStep (Accepted f r e k) = stepWidth
+bytesOfStep (Accepted f r e k) = stepWidth narrow
 bytesOfStep (Refused r) = 0
 
 unfoldable pub fileOf : Accept → FileReply

@@ -7,7 +7,7 @@ ghost use Rattle.run.specs.Outcome.{runOutcome};
 ghost use Rattle.judge.specs.Judged.{judged};
 ghost use Rattle.proofcheck.specs.Checked.{checked};
 ghost use Rattle.search.specs.Outcome.{searchOutcome};
-ghost use Rattle.panel_text.specs.Text.{panelText, shown};
+ghost use Rattle.panel_lines.specs.Text.{panelText, shown};
 ghost use Rattle.retention.specs.Reply.{fileOf, verdictOfJudged, verdictOfChecked, RunReply, runReply, SearchReply, searchReply};
 
 pub mod reply;

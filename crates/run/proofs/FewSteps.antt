@@ -1,18 +1,16 @@
 -- A run has no more steps than facts and no more stages than steps: each step derives a fact that was missing, each stage takes a step.
-use Prim.Native.Nat.{ℕ, suc, _+_, _*_, _≤_}
-use mathlib.Core.Path.{_≡_, refl, ap, _∙_}
-use mathlib.Core.Bool.{true, not}
+use Prim.Native.Nat.{ℕ, suc, _+_, _≤_, _<_}
+use mathlib.Core.Path.{_≡_, ap, _∙_}
+use mathlib.Core.Bool.{not}
 use mathlib.Core.List.{List, [], _∷_, _++_}
 use native.Mathlib.Omega.{arith}
 use lib.ListN.{length, length-append, length-map}
 use Rattle.theory.specs.Rule.{upTo, Program, Mask, FactSet, Bounded, nothing, plainRules}
-use Rattle.theory.specs.Derive.{conclude, derive, fired, steps, stepBy}
+use Rattle.theory.specs.Derive.{conclude, fired, steps, stepBy}
 use Rattle.theory.specs.Run.{Stand, stage, start, run, stageCount, stepCount}
 use Rattle.theory.proofs.Lists.{howMany-le, length-range}
-use Rattle.theory.proofs.Derive.{missing, trail-length, fired-trail}
+use Rattle.theory.proofs.Derive.{missing, missing-less, fired-missing}
 use Rattle.theory.proofs.Run.{Eligible, picked, exception-known, run-keeps}
-use Rattle.items.specs.Item.{stepWidth, has}
-use Rattle.closure.specs.Room.{Room}
 
 -- Each step so far is of a fact of its own, and so is each stage.
 pub record Paced (P : Program) (s : Stand) : Type 0 where
@@ -22,23 +20,12 @@ pub record Paced (P : Program) (s : Stand) : Type 0 where
 pub missing-most : (n : ℕ) (S : FactSet) → missing n S ≤ n
 missing-most n S = rw (length-range 0 n) at (howMany-le (λ f. not (S f)) (upTo n))
 
-pub steps-length : (P : Program) (on : Mask) (S : FactSet) → length (steps P on S) ≡ length (fired P on S)
+steps-length : (P : Program) (on : Mask) (S : FactSet) → length (steps P on S) ≡ length (fired P on S)
 unfolding steps
 steps-length P on S = length-map (fired P on S) (stepBy P)
 
 module _ (P : Program) (b : Bounded P) where
-  -- a fact is missing less for each rule that fires, and for a rule that is applied
-  pub fired-missing : (on : Mask) (S : FactSet) → length (fired P on S) + missing (P .facts) (derive P on S) ≤ missing (P .facts) S
-  unfolding derive
-  fired-missing on S = trail-length P on (P .facts) (b .conclusion-below) (fired P on S) S (fired-trail P on S)
-
   module _ (on : Mask) (s : Stand) (i : ℕ) (t : Eligible P on s i) where
-    pub applied-missing : suc (missing (P .facts) (conclude P (s .derived) i)) ≤ missing (P .facts) (s .derived)
-    applied-missing =
-        let l : length (i ∷ []) + missing (P .facts) (conclude P (s .derived) i) ≤ missing (P .facts) (s .derived) =
-        trail-length P (λ _. true) (P .facts) (b .conclusion-below) (i ∷ []) (s .derived) (record { known = exception-known P on i (t .excepted); is-on = refl; premises-in = t .premises-in; conclusion-out = t .conclusion-out }, tt) in
-        omega arith
-
     stage-length : length (stage P on s i .trace) ≡ length (s .trace) + suc (length (fired P (plainRules P on) (conclude P (s .derived) i)))
     stage-length =
         length-append (s .trace) (stepBy P i ∷ steps P (plainRules P on) (conclude P (s .derived) i))
@@ -46,13 +33,14 @@ module _ (P : Program) (b : Bounded P) where
 
     pub stage-paced : Paced P s → Paced P (stage P on s i)
     stage-paced v =
-        let more : length (fired P (plainRules P on) (conclude P (s .derived) i)) + missing (P .facts) (stage P on s i .derived) ≤ missing (P .facts) (conclude P (s .derived) i) = fired-missing (plainRules P on) (conclude P (s .derived) i) in
+        let less : missing (P .facts) (conclude P (s .derived) i) < missing (P .facts) (s .derived) = missing-less P (P .facts) (s .derived) i (b .conclusion-below i (exception-known P on i (t .excepted))) (t .conclusion-out) in
+        let more : length (fired P (plainRules P on) (conclude P (s .derived) i)) + missing (P .facts) (stage P on s i .derived) ≤ missing (P .facts) (conclude P (s .derived) i) = fired-missing P (plainRules P on) (conclude P (s .derived) i) (b .conclusion-below) in
         let one : length (s .applied ++ (i ∷ [])) ≡ length (s .applied) + 1 = length-append (s .applied) (i ∷ []) in
-        record { room = omega (arith, stage-length, applied-missing, v .room); staged = omega (arith, stage-length, v .staged) }
+        record { room = omega (arith, stage-length, v .room); staged = omega (arith, stage-length, v .staged) }
 
   pub start-paced : (on : Mask) → Paced P (start P on)
   start-paced on =
-      let more : length (fired P (plainRules P on) nothing) + missing (P .facts) (start P on .derived) ≤ missing (P .facts) nothing = fired-missing (plainRules P on) nothing in
+      let more : length (fired P (plainRules P on) nothing) + missing (P .facts) (start P on .derived) ≤ missing (P .facts) nothing = fired-missing P (plainRules P on) nothing (b .conclusion-below) in
       let same : length (start P on .trace) ≡ length (fired P (plainRules P on) nothing) = steps-length P (plainRules P on) nothing in
       record { room = omega (arith, missing-most (P .facts) nothing); staged = omega arith }
 
@@ -60,11 +48,3 @@ module _ (P : Program) (b : Bounded P) where
   pub run-paced : (on : Mask) (order : List ℕ) → Paced P (run P on order)
   run-paced on order =
       run-keeps P on order (Paced P) (start-paced on) (λ s i v e. stage-paced on s i (picked P on order s i e) v)
-
--- where there is room for each fact that is missing, there is room for each rule that fires
-pub fired-fits : {P : Program} {set row : List ℕ} (n : ℕ) → Bounded P → Room P set row (stepWidth * (n + 1)) → (on : Mask) → n + 1 + length (fired P on (has set)) ≤ length row
-fired-fits {P} {set} n b r on = omega (arith, r .steps-left, fired-missing P b on (has set))
-
--- Room is a matter of the set and of the length of the steps.
-pub room-kept : {P : Program} {set set′ steps steps′ : List ℕ} {at : ℕ} → Room P set steps at → set′ ≡ set → length steps′ ≡ length steps → Room P set′ steps′ at
-room-kept r e l = record { facts = rw e (r .facts); steps-left = rw (e, l) (r .steps-left) }

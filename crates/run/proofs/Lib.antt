@@ -1,8 +1,7 @@
-pub mod StepsWritten
 pub mod FewSteps
 pub mod MemoryShown
+pub mod NextLook
 pub mod StandsKept
-pub mod MarksWritten
 pub mod RunAsked
 pub mod Outcomes
 pub mod ReadMarks

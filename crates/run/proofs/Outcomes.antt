@@ -14,6 +14,7 @@ use Rattle.run.specs.declared.answer.Ran.the-variants.{Done, Refused}
 use Rattle.questions.specs.Questions.{runNo}
 use Rattle.run.specs.Outcome.{RunOutcome, runOf, runWritten, runOutcome, number, RunNumbers}
 use Rattle.items.specs.Write.{over}
+use Rattle.items.specs.Item.{narrow}
 
 module _ (file order facts rules steps : List ℕ) where
   pub outcome-refused : (r : Refusal) → runNo file order (length facts) (length rules) (length steps) ≡ some r → _≡_ {A = RunOutcome} (record { answer = Refused r; fact-marks = facts; rule-marks = rules; steps = steps }) (runOutcome file order facts rules steps)
@@ -42,6 +43,6 @@ module _ (file order facts rules steps : List ℕ) where
   run-answered o e = (e, rw e run-numbers)
 
 -- What was written where the run ended at s.
-pub written-there : (P : Program) (s : Stand) (facts rules row facts′ rules′ row′ : List ℕ) (stages steps : ℕ) → stages ≡ stageCount s → steps ≡ stepCount s → facts′ ≡ over (factMarks P s) facts → rules′ ≡ over (ruleMarks P (inForce P) s) rules → row′ ≡ over (stepBytes (s .trace)) row → _≡_ {A = RunOutcome} (record { answer = Done stages steps; fact-marks = facts′; rule-marks = rules′; steps = row′ }) (runWritten P s facts rules row)
+pub written-there : (P : Program) (s : Stand) (facts rules row facts′ rules′ row′ : List ℕ) (stages steps : ℕ) → stages ≡ stageCount s → steps ≡ stepCount s → facts′ ≡ over (factMarks P s) facts → rules′ ≡ over (ruleMarks P (inForce P) s) rules → row′ ≡ over (stepBytes narrow (s .trace)) row → _≡_ {A = RunOutcome} (record { answer = Done stages steps; fact-marks = facts′; rule-marks = rules′; steps = row′ }) (runWritten P s facts rules row)
 unfolding runWritten
 written-there P s facts rules row facts′ rules′ row′ stages steps a b c d e = rw (a, b, c, d, e)

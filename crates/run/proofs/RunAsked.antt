@@ -1,40 +1,30 @@
 -- The questions before a run, and what a yes to all of them tells.
-use Prim.Native.Nat.{ℕ, _*_}
-use mathlib.Core.Path.{_≡_, sym, ap, _∙_}
+use Prim.Native.Nat.{ℕ, _*_, _≤_}
+use mathlib.Core.Path.{_≡_, _∙_}
 use mathlib.Core.List.{List}
 use mathlib.Core.Option.{Option, none, some}
 use borrow.Author.Tests.{leb-true}
-use lib.ListN.{length}
 use lib.Dec.{leb}
 use Rattle.theory.specs.Rule.{Program, count, exception}
 use Rattle.items.specs.declared.refusal.Refusal.{Refusal}
-use Rattle.items.specs.Item.{stepWidth}
-use Rattle.items.proofs.FirstNo.{first-no, first-yes, both-yes}
+use Rattle.items.specs.Item.{narrow, stepWidth, maxRules}
+use Rattle.items.proofs.FirstNo.{both-yes}
 use Rattle.tables.specs.Layout.{programIn}
 use Rattle.reader.specs.declared.answer.Asked.the-variants as asked
-use Rattle.reader.specs.Questions.{programOf, fileNo}
+use Rattle.reader.specs.Questions.{programOf}
 use Rattle.reader.specs.Asked.{fileAsked}
 use Rattle.reader.specs.Scanned.{Tabled}
 use Rattle.reader.proofs.Accepted.{all-asked}
-use Rattle.questions.specs.declared.answer.Answer.{Answer}
 use Rattle.questions.specs.declared.answer.Answer.the-variants.{Yes, No}
-use Rattle.questions.specs.Questions.{namedIn, listQuestions, orderQuestions, orderNo, bufferQuestions, buffersNo, runQuestions, runNo}
+use Rattle.questions.specs.Questions.{namedIn, listQuestions, orderQuestions, bufferQuestions, tabledNo, runQuestions, runNo}
 use Rattle.questions.specs.Answer.{answerOf}
 use Rattle.questions.proofs.OperationAsked.{file-refused, file-accepted, yes-to-list, Passed}
 use Rattle.questions.proofs.NamesAsked.{said-yes, said-no}
+use Rattle.naming.proofs.FewNamed.{few-named}
 use Rattle.run.specs.Outcome.{RunOutcome, runOf, runWritten}
-use Rattle.run.specs.Stands.{MayRun, tabledNo, runIn}
+use Rattle.run.specs.Stands.{MayRun, runIn}
 
--- The ways of the questions behind those of the file.
-module _ (P : Program) (order : List ℕ) (facts rules steps : ℕ) where
-  pub order-no : (r : Refusal) → No r ≡ answerOf (orderNo (exception P) (count P) order) → No r ≡ answerOf (tabledNo P order facts rules steps)
-  order-no r e =
-      sym (ap answerOf (first-no (orderQuestions (exception P) (count P) order) _ r (said-no (orderNo (exception P) (count P) order) r e)))
-
-  pub buffers-asked : Yes ≡ answerOf (orderNo (exception P) (count P) order) → (answer : Answer) → answer ≡ answerOf (buffersNo P facts rules steps) → answer ≡ answerOf (tabledNo P order facts rules steps)
-  buffers-asked e answer q =
-      q ∙ sym (ap answerOf (first-yes (orderQuestions (exception P) (count P) order) _ (said-yes (orderNo (exception P) (count P) order) e)))
-
+module _ (P : Program) (few : count P ≤ maxRules) (order : List ℕ) (facts rules steps : ℕ) where
   -- what a run may rely on where all of them got yes
   pub may-run : Yes ≡ answerOf (tabledNo P order facts rules steps) → MayRun P (namedIn order) facts rules steps
   unfolding bufferQuestions orderQuestions
@@ -43,9 +33,10 @@ module _ (P : Program) (order : List ℕ) (facts rules steps : ℕ) where
       let l = both-yes (listQuestions (exception P) order) _ (a .0) in
       let f = all-asked _ (leb (P .facts) facts) _ (a .1) in
       let r = all-asked _ (leb (count P) rules) _ (f .1) in
-      let s = all-asked _ (leb (stepWidth * P .facts) steps) _ (r .1) in
+      let s = all-asked _ (leb (stepWidth narrow * P .facts) steps) _ (r .1) in
       record {
         names-only = yes-to-list (exception P) order (l .0);
+        names-few = few-named P few order (l .0);
         facts-fit = leb-true _ _ (f .0);
         rules-fit = leb-true _ _ (r .0);
         steps-fit = leb-true _ _ (s .0);

@@ -1,148 +1,205 @@
 -- Where a run stands between its stages.
-use Prim.Native.Nat.{ℕ, suc, _+_, _-_, _*_, _≤_, _<_}
+use Prim.Native.Nat.{ℕ, _+_, _-_, _≤_, _<_}
 use mathlib.Core.Path.{_≡_, refl, sym, ap, _∙_}
-use mathlib.Core.Bool.{Bool, true, false}
-use mathlib.Core.List.{List, [], _∷_}
+use mathlib.Core.Bool.{Bool, true}
+use mathlib.Core.List.{List, [], _∷_, map}
 use mathlib.Core.Logic.{⊎-elim}
-use mathlib.Core.Option.{some}
 use native.Mathlib.Omega.{arith}
-use borrow.Author.Tests.{eqb-true, eqb-false}
-use lib.ListN.{length, set, length-set, length-append}
-use lib.Dec.{eqb}
-use Rattle.theory.specs.Rule.{Program, Bounded, inForce, count, rule, plainRules}
-use Rattle.theory.specs.Derive.{conclude, stepBy, steps as stepsOf}
-use Rattle.theory.specs.Run.{Stand, eligible, stage, start, firstEligible, run, stageCount}
-use Rattle.theory.proofs.Bools.{either, never, false-of}
-use Rattle.theory.proofs.Lists.{all-mono, mem-left}
-use Rattle.theory.proofs.Derive.{missing}
-use Rattle.theory.proofs.Run.{Eligible, eligible-parts, exception-known, picked, trial-above, trial-has}
-use Rattle.theory.proofs.RunStable.{refused-stays}
+use borrow.Author.Tests.{lt-ltb}
+use lib.ListN.{length, getD, take, set, length-set, length-append, length-map}
+use lib.Seq.{slice, length-slice, length-take-le, getD-take}
+use lib.Dec.{ltb}
+use Rattle.theory.specs.Rule.{mem, Program, Bounded, FactSet, nothing, inForce, count, plainRules}
+use Rattle.theory.specs.Walk.{after}
+use Rattle.theory.specs.Derive.{conclude, stepBy, Fresh, fired as firedFrom, derive}
+use Rattle.theory.specs.Run.{Stand, stage, start, run, stageCount, stepCount}
+use Rattle.theory.proofs.Lists.{all-of, getD-mem, mem-cases}
+use Rattle.theory.proofs.Derive.{missing, fired-fresh, fired-known}
+use Rattle.theory.proofs.Run.{Eligible, exception-known, picked}
 use Rattle.theory.proofs.Stages.{finish, run-finish, finish-some, finish-none}
-use Rattle.items.specs.declared.item.RuleId.{RuleId}
-use Rattle.items.specs.Item.{maxFacts, stepWidth, has}
-use Rattle.tables.proofs.MarksPainted.{has-set}
-use Rattle.closure.specs.declared.found.Found.{Found}
-use Rattle.closure.specs.declared.found.Found.the-variants.{At, Nothing}
+use Rattle.items.specs.Item.{narrow, maxFacts, maxRules, has}
+use Rattle.items.specs.Write.{over}
+use Rattle.bits.specs.Flags.{Flags}
 use Rattle.closure.specs.Steps.{stepBytes}
-use Rattle.closure.proofs.LowestReady.{found-at, found-nothing}
-use Rattle.stage.specs.Refused.{Shows, RefusedAt, Refuses, RefusesBut, Finds}
-use Rattle.run.specs.Stands.{Holds, Advances}
-use Rattle.run.proofs.StepsWritten.{over-length, step-bytes-length}
-use Rattle.run.proofs.FewSteps.{Paced, start-paced, stage-paced, applied-missing}
+use Rattle.premises.specs.Premises.{ripe, roused, Asked, Counted}
+use Rattle.premises.specs.Filling.{Listed}
+use Rattle.premises.specs.Waking.{Span}
+use Rattle.stage.specs.Memory.{Holds}
+use Rattle.stage.specs.Look.{NamesOnly, Looking, Stands, Taken, Ended}
+use Rattle.run.specs.Stands.{Began, Held, Ordered}
+use Rattle.run.proofs.FewSteps.{Paced, start-paced, stage-paced}
+use Rattle.run.proofs.MemoryShown.{more-applied}
+use Rattle.run.proofs.NextLook.{next-awake, start-awake}
 
--- The memory holds a stand from which the run goes on to its end, with skip marking rules that are refused there for good.
-pub record Standing (P : Program) (order derived rejections applied skip steps room : List ℕ) (stages n : ℕ) : Type 0 where
+-- What is promised of waking: the facts of the rules from one place up to another enter the set.
+abbrev pub Wakes : Program → List ℕ → List ℕ → ℕ → ℕ → List ℕ → List ℕ → List ℕ → List ℕ → Type 0
+Wakes P asks fired from to missing awake missing′ awake′ = (row : List ℕ) (S : FactSet) (p : ℕ → Bool) → Asked P row asks → Counted P row S missing → Flags p awake → Fresh P S (slice from to fired) → Counted P row (after (conclude P) S (slice from to fired)) missing′ × Flags (roused P row S (after (conclude P) S (slice from to fired)) p) awake′
+
+-- The memory holds a stand from which the run goes on to its end, with the places that are awake there and the premises that each place lacks.
+pub record Standing (P : Program) (row order asks marks fired applied lacks awake : List ℕ) (stages n : ℕ) : Type 0 where
   pub at : Stand
-  pub held : Holds P at derived rejections applied steps room n
+  pub places : ℕ → Bool
+  pub looking : Looking P row order marks fired n awake at places
+  pub asked : Asked P order asks
+  pub lacking : Counted P order (at .derived) lacks
+  pub applied-shown : has applied ≡ (λ i. mem i (at .applied))
+  pub applied-places : length applied ≡ maxRules
   pub counted : stages ≡ stageCount at
-  pub refused : Refuses P at (has skip)
   pub paced : Paced P at
   pub onward : finish P (inForce P) order at ≡ run P (inForce P) order
 
--- a rule marked before is refused after a stage, and so is the rule that the stage applied
-refused-on : (P : Program) (s : Stand) (r : RuleId) (skip : ℕ → Bool) → Eligible P (inForce P) s (r .0) → RefusesBut P s (At r) skip → Refuses P (stage P (inForce P) s (r .0)) skip
-refused-on P s r skip t w j m = ⊎-elim now before (either (eqb j (r .0)))
-  where
-    next : Stand
-    next = stage P (inForce P) s (r .0)
+-- An order that was read into a row.
+pub order-read : {P : Program} {row order : List ℕ} {names : ℕ} → take names row ≡ order → names ≡ length order → length row ≡ maxRules → NamesOnly P order → length order ≤ maxRules → Ordered P row names
+order-read e n l only few = record { places = l; few = omega (arith, n, few); names-only = rw e only }
 
-    now : eqb j (r .0) ≡ true → RefusedAt P next j
-    now e =
-        let same : j ≡ r .0 = eqb-true j (r .0) e in
-        rw same (record {
-          premises-in = all-mono (s .derived) (next .derived) (rule P (r .0) .premises) (trial-above P (inForce P) (s .derived) (r .0)) (t .premises-in);
-          not-eligible = false-of (eligible P (inForce P) next (r .0)) (λ u. never (trial-has P (inForce P) (s .derived) (r .0)) (eligible-parts P (inForce P) next (r .0) u .conclusion-out));
-        })
+-- An order in a row is a row of rules, and its front is the order.
+module _ {P : Program} {row : List ℕ} {names : ℕ} (w : Ordered P row names) where
+  pub rules-listed : Listed P row names
+  rules-listed =
+      record {
+        places = w .places;
+        few = w .few;
+        known = all-of (λ i. ltb i (count P)) (take names row) (λ i m. lt-ltb i (count P) (exception-known P (inForce P) i (w .names-only i m)));
+      }
 
-    before : eqb j (r .0) ≡ false → RefusedAt P next j
-    before e =
-        let v : RefusedAt P s j = w j m (eqb-false j (r .0) e) in
+  pub order-in-row : take (length (take names row)) row ≡ take names row
+  order-in-row = ap (λ (n : ℕ). take n row) (length-take-le names row (omega (arith, w .places, w .few)))
+
+-- What a stand that is held tells of its steps.
+module _ {P : Program} {s : Stand} {marks fired : List ℕ} {n : ℕ} (few : P .facts < maxFacts narrow) (w : Holds P s marks fired n) where
+  inside : n ≤ length fired
+  inside = omega (arith, w .fits, w .fired-places)
+
+  pub steps-counted : n ≡ stepCount s
+  steps-counted = sym (ap length (w .traced) ∙ length-map (take n fired) (stepBy P) ∙ length-take-le n fired inside)
+
+  pub steps-there : (row : List ℕ) {row′ : List ℕ} → row′ ≡ over (stepBytes narrow (map (stepBy P) (take n fired))) row → row′ ≡ over (stepBytes narrow (s .trace)) row
+  steps-there row e = rw (w .traced) e
+
+  pub fired-below : (k : ℕ) → k < n → getD fired k 0 < count P
+  fired-below k h =
+      w .known (getD fired k 0)
+      (ap (λ (i : ℕ). mem i (take n fired)) (sym (getD-take n fired k 0 h)) ∙ getD-mem (take n fired) k (omega (arith, length-take-le n fired inside)))
+
+-- The start: D is closed, and the places whose premises are in D are awake.
+module _ {P : Program} {marks fired : List ℕ} {n : ℕ} (few : P .facts < maxFacts narrow) (g : Began P marks fired n) where
+  pub start-span : Span P fired 0 n
+  start-span =
+      record {
+        places = g .holds .fired-places;
+        low = omega arith;
+        high = omega (arith, g .holds .fits);
+        known = all-of (λ i. ltb i (count P)) (slice 0 n fired) (λ i m. lt-ltb i (count P) (g .holds .known i m));
+      }
+
+  same-set : after (conclude P) nothing (slice 0 n fired) ≡ start P (inForce P) .derived
+  unfolding derive
+  same-set = ap (after (conclude P) nothing) (g .rules)
+
+  pub standing-start : {row order asks applied lacks awake lacks′ awake′ : List ℕ} → Bounded P → take (length order) row ≡ order → NamesOnly P order → Asked P order asks → Counted P order nothing lacks → Flags (ripe P order nothing) awake → Wakes P asks fired 0 n lacks awake lacks′ awake′ → has applied ≡ (λ i. mem i []) → length applied ≡ maxRules → Standing P row order asks marks fired applied lacks′ awake′ 0 n
+  standing-start {order = order} b in-row only asked counts flags wakes shown places =
+      let woken = wakes order nothing (ripe P order nothing) asked counts flags (rw (g .rules) (fired-fresh P (plainRules P (inForce P)) nothing)) in
+      record {
+        at = start P (inForce P);
+        places = roused P order nothing (start P (inForce P) .derived) (ripe P order nothing);
+        looking =
+            record {
+              in-row = in-row;
+              names-only = only;
+              holds = g .holds;
+              flags = rw same-set at (woken .1);
+              waits = start-awake P order;
+            };
+        asked = asked;
+        lacking = rw same-set at (woken .0);
+        applied-shown = shown;
+        applied-places = places;
+        counted = refl;
+        paced = start-paced P b (inForce P);
+        onward = sym (run-finish P (inForce P) order);
+      }
+
+module _ {P : Program} {row order asks marks fired applied lacks awake : List ℕ} {stages n : ℕ} (w : Standing P row order asks marks fired applied lacks awake stages n) where
+  pub few-stages : stages ≤ P .facts
+  few-stages = omega (arith, w .paced .room, w .paced .staged, w .counted)
+
+  pub stands : Stands P row marks fired n awake
+  stands = record { order = order; at = w .at; places = w .places; looking = w .looking }
+
+  -- without an eligible rule the run has ended
+  module _ {marks′ fired′ : List ℕ} (ended : Ended P order (w .at) n marks′ fired′) where
+    ended-at : w .at ≡ run P (inForce P) order
+    ended-at = sym (finish-none P (inForce P) order (w .at) (ended .none-left)) ∙ w .onward
+
+    pub ended-held : Held P (run P (inForce P) order) marks′ fired′ applied n
+    ended-held = rw (← ended-at) (record { holds = ended .holds; applied-shown = w .applied-shown; applied-places = w .applied-places })
+
+    pub ended-stages : stages ≡ stageCount (run P (inForce P) order)
+    ended-stages = w .counted ∙ ap stageCount ended-at
+
+  -- rule i is taken
+  module _ (few : P .facts < maxFacts narrow) {i m : ℕ} {marks′ fired′ awake′ : List ℕ} (taken : Taken P order (w .at) n i marks′ fired′ awake′ m) where
+    abbrev next : Stand
+    next = stage P (inForce P) (w .at) i
+
+    chosen : Eligible P (inForce P) (w .at) i
+    chosen = picked P (inForce P) order (w .at) i (taken .first)
+
+    pub rule-known : i < count P
+    rule-known = exception-known P (inForce P) i (chosen .excepted)
+
+    last-inside : m ≤ length fired′
+    last-inside = omega (arith, taken .holds .fits, taken .holds .fired-places)
+
+    -- a stage takes at least one step
+    more-steps : n < m
+    more-steps = omega (arith, length-slice n m fired′ last-inside, ap length (taken .added))
+
+    fresh : Fresh P (w .at .derived) (slice n m fired′)
+    fresh = rw (taken .added) (rule-known, chosen .conclusion-out, fired-fresh P (plainRules P (inForce P)) (conclude P (w .at .derived) i))
+
+    added-known : (j : ℕ) → mem j (slice n m fired′) ≡ true → j < count P
+    added-known j u =
+        ⊎-elim (λ q. rw q rule-known) (fired-known P (plainRules P (inForce P)) (conclude P (w .at .derived) i) j)
+        (mem-cases j i (firedFrom P (plainRules P (inForce P)) (conclude P (w .at .derived) i)) (ap (mem j) (sym (taken .added)) ∙ u))
+
+    pub stage-span : Span P fired′ n m
+    stage-span =
         record {
-          premises-in = all-mono (s .derived) (next .derived) (rule P j .premises) (trial-above P (inForce P) (s .derived) (r .0)) (v .premises-in);
-          not-eligible = refused-stays P (inForce P) s next j (trial-above P (inForce P) (s .derived) (r .0)) (λ k u. mem-left k (s .applied) (r .0 ∷ []) u) (v .premises-in) (v .not-eligible);
+          places = taken .holds .fired-places;
+          low = omega (arith, more-steps);
+          high = omega (arith, taken .holds .fits);
+          known = all-of (λ j. ltb j (count P)) (slice n m fired′) (λ j u. lt-ltb j (count P) (added-known j u));
         }
 
--- The run stands at its start once D is closed for the first time.
-pub standing-start : (P : Program) (order derived rejections applied skip steps room : List ℕ) (n : ℕ) → Bounded P → Holds P (start P (inForce P)) derived rejections applied steps room n → ((i : ℕ) → has skip i ≡ false) → Standing P order derived rejections applied skip steps room 0 n
-standing-start P order derived rejections applied skip steps room n b w none-skipped =
-    record {
-      at = start P (inForce P);
-      held = w;
-      counted = refl;
-      refused = λ i m. never m (none-skipped i);
-      paced = start-paced P b (inForce P);
-      onward = sym (run-finish P (inForce P) order);
-    }
+    same-next : after (conclude P) (w .at .derived) (slice n m fired′) ≡ next .derived
+    unfolding derive
+    same-next = ap (after (conclude P) (w .at .derived)) (taken .added)
 
--- each step so far has a fact of its own, and so has each stage
-pub few-steps : {P : Program} {order derived rejections applied skip steps room : List ℕ} {stages n : ℕ} → Standing P order derived rejections applied skip steps room stages n → n ≤ P .facts
-few-steps w = omega (arith, w .paced .room, w .held .counted)
+    -- the facts of the stage entered: the run stands one stage further on
+    module _ (b : Bounded P) (small : count P ≤ maxRules) {lacks′ awake″ : List ℕ} (wakes : Wakes P asks fired′ n m lacks awake′ lacks′ awake″) where
+      pub standing-on : Standing P row order asks marks′ fired′ (set applied i 1) lacks′ awake″ (stages + 1) m
+      standing-on =
+          let woken = wakes order (w .at .derived) (taken .places) (w .asked) (w .lacking) (taken .flags) fresh in
+          record {
+            at = next;
+            places = roused P order (w .at .derived) (next .derived) (taken .places);
+            looking =
+                record {
+                  in-row = w .looking .in-row;
+                  names-only = w .looking .names-only;
+                  holds = taken .holds;
+                  flags = rw same-next at (woken .1);
+                  waits = next-awake P order (w .at) i (taken .places) chosen (taken .waits);
+                };
+            asked = w .asked;
+            lacking = rw same-next at (woken .0);
+            applied-shown = more-applied applied (w .at .applied) i (omega (arith, rule-known, w .applied-places)) (w .applied-shown);
+            applied-places = length-set applied i 1 ∙ w .applied-places;
+            counted = omega (arith, w .counted, length-append (w .at .applied) (i ∷ []));
+            paced = stage-paced P b (inForce P) (w .at) i chosen (w .paced);
+            onward = sym (finish-some P (inForce P) order (w .at) i (taken .first)) ∙ w .onward;
+          }
 
-pub few-stages : {P : Program} {order derived rejections applied skip steps room : List ℕ} {stages n : ℕ} → Standing P order derived rejections applied skip steps room stages n → stages ≤ P .facts
-few-stages w = omega (arith, w .paced .room, w .paced .staged, w .counted)
-
-module _ {P : Program} {order derived rejections applied skip steps room : List ℕ} {stages n : ℕ} (w : Standing P order derived rejections applied skip steps room stages n) where
-  -- the steps keep their length, since there is room for each fact
-  pub steps-kept : stepWidth * P .facts ≤ length room → length steps ≡ length room
-  steps-kept h = ap length (w .held .steps-shown) ∙ over-length (stepBytes (w .at .trace)) room (omega (arith, step-bytes-length (w .at .trace), w .held .counted, few-steps w))
-
-  -- what a search for an eligible rule tells
-  module _ {found : Found} (skip′ : List ℕ) (h : (s : Stand) → Shows P derived rejections s → Refuses P s (has skip) → Finds P order s found (has skip′)) where
-    told : Finds P order (w .at) found (has skip′)
-    told = h (w .at) (w .held .sets) (w .refused)
-
-    -- without an eligible rule the run has ended
-    ended-at : found ≡ Nothing → w .at ≡ run P (inForce P) order
-    ended-at e =
-        sym (finish-none P (inForce P) order (w .at) (found-nothing (firstEligible P (inForce P) order (w .at)) (sym e ∙ told .first))) ∙ w .onward
-
-    pub ended-shown : found ≡ Nothing → Holds P (run P (inForce P) order) derived rejections applied steps room n
-    ended-shown e = rw (← ended-at e) (w .held)
-
-    pub ended-stages : found ≡ Nothing → stages ≡ stageCount (run P (inForce P) order)
-    ended-stages e = w .counted ∙ ap stageCount (ended-at e)
-
-    module _ {r : RuleId} (e : found ≡ At r) where
-      first : firstEligible P (inForce P) order (w .at) ≡ some (r .0)
-      first = found-at (firstEligible P (inForce P) order (w .at)) r (sym e ∙ told .first)
-
-      chosen : Eligible P (inForce P) (w .at) (r .0)
-      chosen = picked P (inForce P) order (w .at) (r .0) first
-
-      pub rule-known : r .0 < count P
-      rule-known = exception-known P (inForce P) (r .0) (chosen .excepted)
-
-      module _ (b : Bounded P) where
-        fits : n + suc (missing (P .facts) (conclude P (w .at .derived) (r .0))) ≤ P .facts
-        fits = omega (arith, applied-missing P b (inForce P) (w .at) (r .0) chosen, w .paced .room, w .held .counted)
-
-        -- there is room for the step of the rule, and for each fact that it leaves missing
-        pub stage-room : P .facts ≤ maxFacts → stepWidth * P .facts ≤ length room → (P .facts ≤ length (set derived (rule P (r .0) .conclusion) 1)) × (stepWidth * (n + 1) + stepWidth * missing (P .facts) (has (set derived (rule P (r .0) .conclusion) 1)) ≤ length steps)
-        stage-room narrow l =
-            let same : has (set derived (rule P (r .0) .conclusion) 1) ≡ conclude P (w .at .derived) (r .0) =
-            has-set derived (rule P (r .0) .conclusion) (omega (arith, b .conclusion-below (r .0) rule-known, w .held .derived-places)) ∙ rw (w .held .sets .d) in
-            (omega (arith, length-set derived (rule P (r .0) .conclusion) 1, w .held .derived-places), rw same (omega (arith, fits, steps-kept l)))
-
-        -- the stage is made: the run stands one stage further on
-        module _ {derived′ rejections′ applied′ steps′ : List ℕ} {n′ : ℕ} (k : Advances P (r .0) derived rejections applied steps n derived′ rejections′ applied′ steps′ n′) where
-          next : Holds P (stage P (inForce P) (w .at) (r .0)) derived′ rejections′ applied′ steps′ room n′
-          next = k .holds (w .at) room (w .held)
-
-          pub standing-on : Standing P order derived′ rejections′ applied′ skip′ steps′ room (stages + 1) n′
-          standing-on =
-              record {
-                at = stage P (inForce P) (w .at) (r .0);
-                held = next;
-                counted = omega (arith, w .counted, length-append (w .at .applied) (r .0 ∷ []));
-                refused = refused-on P (w .at) r (has skip′) chosen (rw e at (told .refuses));
-                paced = stage-paced P b (inForce P) (w .at) (r .0) chosen (w .paced);
-                onward = sym (finish-some P (inForce P) order (w .at) (r .0) first) ∙ w .onward;
-              }
-
-          -- a stage takes at least one step
-          more-steps : n < n′
-          more-steps =
-              omega (arith, w .held .counted, next .counted, length-append (w .at .trace) (stepBy P (r .0) ∷ stepsOf P (plainRules P (inForce P)) (conclude P (w .at .derived) (r .0))))
-
-          pub stage-closer : P .facts - n′ < P .facts - n
-          stage-closer = omega (arith, more-steps, few-steps standing-on)
+      pub stage-closer : P .facts - m < P .facts - n
+      stage-closer = omega (arith, more-steps, taken .holds .fits)

@@ -12,6 +12,7 @@ use Rattle.items.specs.Question.{noNumber}
 use Rattle.reader.specs.Questions.{programOf}
 use Rattle.questions.specs.Questions.{namedIn, runNo}
 use Rattle.items.specs.Write.{over}
+use Rattle.items.specs.Item.{narrow}
 use Rattle.closure.specs.Steps.{stepBytes}
 use Rattle.run.specs.declared.answer.Ran.{Ran}
 use Rattle.run.specs.declared.answer.Ran.the-variants.{Done, Refused}
@@ -34,7 +35,7 @@ runWritten P s facts rules steps =
       answer = Done (stageCount s) (stepCount s);
       fact-marks = over (factMarks P s) facts;
       rule-marks = over (ruleMarks P (inForce P) s) rules;
-      steps = over (stepBytes (s .trace)) steps;
+      steps = over (stepBytes narrow (s .trace)) steps;
     }
 
 -- What a run answers and leaves. A refusal alters no byte.

@@ -5,8 +5,6 @@ ghost use Rattle.questions.specs.Questions.{runNo};
 ghost use lib.ListN.{length};
 
 pub mod answer;
-mod asked;
-mod marks;
 mod stages;
 
 use answer::Ran;
@@ -32,7 +30,7 @@ pub fn run(
         Asked::Yes(_) => {
             let facts = fact_marks.len();
             let rules = rule_marks.len();
-            match asked::ask_tabled(&tables, order, facts, rules, steps.len()) {
+            match naming::asked::ask_tabled(&tables, order, facts, rules, steps.len()) {
                 Answer::No(r) => Ran::Refused(r),
                 Answer::Yes => stages::run_tabled(&tables, order, fact_marks, rule_marks, steps),
             }

@@ -1,22 +1,28 @@
 // The stages of a run on the tables of an accepted file, under an accepted order. Internal.
-ghost use Prim.Native.Nat.{_+_, _*_, _<_, _≤_};
 ghost use mathlib.Core.Path.{_≡_};
-ghost use lib.ListN.{length, set};
-ghost use Rattle.theory.specs.Rule.{count as countOf, inForce, rule as ruleOf, plainRules};
-ghost use Rattle.theory.specs.Run.{stageCount};
-ghost use Rattle.items.specs.Item.{maxFacts, stepWidth, has};
+ghost use lib.ListN.{length, take};
+ghost use Rattle.theory.specs.Rule.{inForce, plainRules};
+ghost use Rattle.theory.specs.Run.{run, stageCount};
+ghost use Rattle.items.specs.Item.{has};
 ghost use Rattle.tables.specs.Layout.{programIn, WellFormed};
 ghost use Rattle.questions.specs.Questions.{namedIn};
-ghost use Rattle.closure.specs.Room.{Room};
-ghost use Rattle.stage.specs.Refused.{NamesOnly};
+ghost use Rattle.stage.specs.Memory.{Holds};
 ghost use Rattle.run.specs.Outcome.{RunOutcome, runWritten};
-ghost use Rattle.run.specs.Stands.{Holds, Advances, MayRun, outset, runIn};
+ghost use Rattle.run.specs.Stands.{outset, Began, Held, Ordered, MayRun, runIn};
 use crate::answer::Ran;
-use closure::found::Found;
+use bits::matrix::MATRIX_WORDS;
+use bits::row::ROW_WORDS;
+use closure::derivation::Derivation;
 use items::item::MAX_FACTS;
 use items::item::MAX_RULES;
-use items::item::RuleId;
-use items::write::STEP_WIDTH;
+use naming::row::order_row;
+use premises::index::index_row;
+use premises::wake::wake;
+use results::marks::write_fact_marks;
+use results::marks::write_rule_marks;
+use results::steps::write_steps;
+use stage::eligible::first_eligible;
+use stage::staged::Staged;
 use tables::layout::TABLE_CELLS;
 
 // How many stages and steps a run has.
@@ -25,75 +31,62 @@ pub struct RunCounts {
     pub steps: usize,
 }
 
-// A stage applies a rule: its conclusion enters D by a step, D is closed, its constraints enter R. Answers the number of steps by then.
-fn apply(
+// D is closed for the first time. Answers the number of steps; no fact is barred yet.
+fn begin(
     tables: &[u16; TABLE_CELLS],
     plain: &[u8; MAX_RULES],
-    rule: RuleId,
-    derived: &mut [u8; MAX_FACTS],
-    rejected: &mut [u8; MAX_FACTS],
-    applied: &mut [u8; MAX_RULES],
-    steps: &mut [u8],
-    count: usize,
+    marks: &mut [u8; MAX_FACTS],
+    fired: &mut [u16; MAX_FACTS],
 ) -> usize
-    requires { ⌜ WellFormed (now tables) × (rule .0 < countOf (programIn (now tables))) ⌝ }
+    requires { ⌜ WellFormed (now tables) ⌝ }
     requires { ⌜ has (now plain) ≡ plainRules (programIn (now tables)) (inForce (programIn (now tables))) ⌝ }
-    requires { ⌜ length (now rejected) ≡ maxFacts ⌝ }
-    requires { ⌜ Room (programIn (now tables)) (set (now derived) (ruleOf (programIn (now tables)) (rule .0) .conclusion) 1) (now steps) (stepWidth * (count + 1)) ⌝ }
-    ensures { λ r. ⌜ Advances (programIn (now (tables .entry))) (rule .0) (now (derived .entry)) (now (rejected .entry)) (now (applied .entry)) (now (steps .entry)) count (now (derived .exit)) (now (rejected .exit)) (now (applied .exit)) (now (steps .exit)) r ⌝ }
+    requires { ⌜ Holds (programIn (now tables)) outset (now marks) (now fired) 0 ⌝ }
+    ensures { λ r. ⌜ Began (programIn (now (tables .entry))) (now (marks .exit)) (now (fired .exit)) r ⌝ }
 {
-    let number = rule.0 as usize;
-    let fact = tables::rule::conclusion(tables, rule);
-    let f = fact.0 as usize;
-    derived[f] = 1;
-    items::write::write_step_item(steps, STEP_WIDTH * count, fact, rule);
-    let more = closure::least::derive(tables, plain, derived, steps, STEP_WIDTH * (count + 1));
-    tables::marks::mark_own(tables, rule, rejected);
-    applied[number] = 1;
-    count + 1 + more
+    match closure::least::derive(tables, plain, marks, fired, 0) {
+        Derivation::Closed(steps) => steps,
+        Derivation::Barred => 0,
+    }
 }
 
-// All stages, from working memory that is empty. A stage stops at the first rule in the order that is eligible; skip marks the rules that
-// need no further trial.
+// All stages along the order that stands in a row, from working memory that is empty. A stage takes the first eligible rule among the places that
+// are awake; the facts that it derives wake the places whose premises they complete.
 pub fn all_stages(
     tables: &[u16; TABLE_CELLS],
-    order: &[u8],
+    row: &[u16; MAX_RULES],
+    names: usize,
     plain: &[u8; MAX_RULES],
-    derived: &mut [u8; MAX_FACTS],
-    rejected: &mut [u8; MAX_FACTS],
+    marks: &mut [u8; MAX_FACTS],
+    fired: &mut [u16; MAX_FACTS],
     applied: &mut [u8; MAX_RULES],
-    steps: &mut [u8],
 ) -> RunCounts
     requires { ⌜ WellFormed (now tables) ⌝ }
     requires { ⌜ has (now plain) ≡ plainRules (programIn (now tables)) (inForce (programIn (now tables))) ⌝ }
-    requires { ⌜ NamesOnly (programIn (now tables)) (namedIn (now order)) ⌝ }
-    requires { ⌜ Holds (programIn (now tables)) outset (now derived) (now rejected) (now applied) (now steps) (now steps) 0 ⌝ }
-    requires { ⌜ stepWidth * programIn (now tables) .facts ≤ length (now steps) ⌝ }
-    ensures { λ r. ⌜ Holds (programIn (now (tables .entry))) (runIn (now (tables .entry)) (now (order .entry))) (now (derived .exit)) (now (rejected .exit)) (now (applied .exit)) (now (steps .exit)) (now (steps .entry)) (r .steps) ⌝ }
-    ensures { λ r. ⌜ r .stages ≡ stageCount (runIn (now (tables .entry)) (now (order .entry))) ⌝ }
+    requires { ⌜ Ordered (programIn (now tables)) (now row) names ⌝ }
+    requires { ⌜ Held (programIn (now tables)) outset (now marks) (now fired) (now applied) 0 ⌝ }
+    ensures { λ r. ⌜ Held (programIn (now (tables .entry))) (run (programIn (now (tables .entry))) (inForce (programIn (now (tables .entry)))) (take names (now (row .entry)))) (now (marks .exit)) (now (fired .exit)) (now (applied .exit)) (r .steps) ⌝ }
+    ensures { λ r. ⌜ r .stages ≡ stageCount (run (programIn (now (tables .entry))) (inForce (programIn (now (tables .entry)))) (take names (now (row .entry)))) ⌝ }
 {
-    let mut skip = [0u8; MAX_RULES];
+    let mut asks = [0u64; MATRIX_WORDS];
+    let mut missing = [0u16; MAX_RULES];
+    let mut awake = [0u64; ROW_WORDS];
+    index_row(tables, row, names, &mut asks, &mut missing, &mut awake);
     let mut stages: usize = 0;
-    let mut count = closure::least::derive(tables, plain, derived, steps, 0);
+    let mut count = begin(tables, plain, marks, fired);
+    wake(tables, &asks, fired, 0, count, &mut missing, &mut awake);
     loop {
-        match stage::eligible::first_eligible(tables, order, plain, derived, rejected, &mut skip) {
-            Found::Nothing => {
+        match first_eligible(tables, row, plain, marks, fired, count, &mut awake) {
+            Staged::Nothing => {
                 return RunCounts {
                     stages,
                     steps: count,
                 };
             }
-            Found::At(rule) => {
-                count = apply(
-                    tables,
-                    plain,
-                    rule,
-                    derived,
-                    rejected,
-                    applied,
-                    steps,
-                    count,
-                );
+            Staged::Took { rule, steps } => {
+                wake(tables, &asks, fired, count, steps, &mut missing, &mut awake);
+                let number = rule.0 as usize;
+                applied[number] = 1;
+                count = steps;
                 stages += 1;
             }
         }
@@ -113,22 +106,25 @@ pub fn run_tabled(
     ensures { λ r. ⌜ _≡_ {A = RunOutcome} (record { answer = r; fact-marks = now («fact_marks» .exit); rule-marks = now («rule_marks» .exit); steps = now (steps .exit) }) (runWritten (programIn (now (tables .entry))) (runIn (now (tables .entry)) (now (order .entry))) (now («fact_marks» .entry)) (now («rule_marks» .entry)) (now (steps .entry))) ⌝ }
 {
     let mut plain = [0u8; MAX_RULES];
-    tables::marks::mark_plain(tables, &mut plain);
-    let mut derived = [0u8; MAX_FACTS];
-    let mut rejected = [0u8; MAX_FACTS];
+    marking::marks::mark_plain(tables, &mut plain);
+    let mut row = [0u16; MAX_RULES];
+    let names = order_row(order, &mut row);
+    let mut marks = [0u8; MAX_FACTS];
+    let mut fired = [0u16; MAX_FACTS];
     let mut applied = [0u8; MAX_RULES];
     let taken = all_stages(
         tables,
-        order,
+        &row,
+        names,
         &plain,
-        &mut derived,
-        &mut rejected,
+        &mut marks,
+        &mut fired,
         &mut applied,
-        steps,
     );
     let facts = tables::layout::facts_of(tables);
-    crate::marks::write_fact_marks(&derived, &rejected, facts, fact_marks);
-    crate::marks::write_rule_marks(tables, &applied, &derived, rule_marks);
+    write_fact_marks(&marks, facts, fact_marks);
+    write_rule_marks(tables, &applied, &marks, rule_marks);
+    write_steps(tables, &fired, taken.steps, steps);
     Ran::Done {
         stages: taken.stages as u16,
         steps: taken.steps as u16,

@@ -6,6 +6,7 @@ use mathlib.Core.List.{List}
 use mathlib.Core.Option.{some}
 use Rattle.items.specs.declared.refusal.Refusal.{Refusal}
 use Rattle.items.specs.Question as refusal
+use Rattle.items.specs.Item.{narrow}
 use Rattle.reader.specs.Questions.{programOf, fileQuestions}
 use Rattle.reader.proofs.FileRefusals.{each-first, each-append, FileRefusals, each-file}
 use Rattle.questions.specs.Questions.{bufferQuestions, limitQuestions, earlyQuestions, earlyNo}
@@ -34,7 +35,7 @@ unfolding earlyQuestions bufferQuestions limitQuestions
 early-numbers file facts rules steps order r e =
     each-first Early (earlyQuestions file facts rules steps order) r
     (each-append Early (fileQuestions file) _ (each-file Early file-early file)
-    (each-append Early (bufferQuestions (programOf file) facts rules steps) (limitQuestions (programOf file) order)
+    (each-append Early (bufferQuestions narrow (programOf file) facts rules steps) (limitQuestions (programOf file) order)
     ((omega arith, omega arith), ((omega arith, omega arith), ((omega arith, omega arith), tt)))
     ((omega arith, omega arith), ((omega arith, omega arith), tt))))
     e

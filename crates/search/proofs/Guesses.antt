@@ -7,23 +7,23 @@ use lib.ListN.{replicate}
 use Rattle.theory.specs.Rule.{keep, howMany, upTo, downFrom, Program, inForce, constraintFact}
 use Rattle.theory.specs.Search.{guessed}
 use Rattle.theory.proofs.Lists.{mem-downFrom, keep-same}
-use Rattle.items.specs.Item.{maxFacts, has}
+use Rattle.items.specs.Item.{narrow, maxFacts, has}
 use Rattle.reader.specs.Questions.{constraintFacts}
 use Rattle.reader.proofs.RulesCounted.{painted-count}
-use Rattle.tables.specs.Marks.{paint}
-use Rattle.tables.proofs.MarksPainted.{painted}
+use Rattle.marking.specs.Marks.{paint}
+use Rattle.marking.proofs.MarksPainted.{painted}
 
 -- The constraint facts, as marked.
-module _ (P : Program) (h : P .facts ≤ maxFacts) (marks : List ℕ) (m : marks ≡ paint (constraintFact P (inForce P)) (replicate maxFacts 0)) (n : ℕ) (f : n ≡ P .facts) where
+module _ (P : Program) (h : P .facts ≤ maxFacts narrow) (marks : List ℕ) (m : marks ≡ paint (constraintFact P (inForce P)) (replicate (maxFacts narrow) 0)) (n : ℕ) (f : n ≡ P .facts) where
   pub guesses-counted : howMany (has marks) (upTo n) ≡ constraintFacts P
   unfolding has
-  guesses-counted = ap₂ (λ (l : List ℕ) (k : ℕ). howMany (has l) (upTo k)) m f ∙ painted-count P maxFacts h
+  guesses-counted = ap₂ (λ (l : List ℕ) (k : ℕ). howMany (has l) (upTo k)) m f ∙ painted-count P (maxFacts narrow) h
 
   pub guesses-listed : keep (has marks) (downFrom n) ≡ guessed P (inForce P)
   unfolding has guessed
   guesses-listed =
       ap₂ (λ (l : List ℕ) (k : ℕ). keep (has l) (downFrom k)) m f
-      ∙ keep-same _ (constraintFact P (inForce P)) (downFrom (P .facts)) (λ k d. painted maxFacts (constraintFact P (inForce P)) k (below (mem-downFrom (P .facts) k d)))
+      ∙ keep-same _ (constraintFact P (inForce P)) (downFrom (P .facts)) (λ k d. painted (maxFacts narrow) (constraintFact P (inForce P)) k (below (mem-downFrom (P .facts) k d)))
     where
-      below : {k : ℕ} → k < P .facts → k < maxFacts
+      below : {k : ℕ} → k < P .facts → k < maxFacts narrow
       below l = omega arith

@@ -1,22 +1,17 @@
 -- The outcome of a search, by what its questions came to and by the set that was found.
-use Prim.Native.Nat.{ℕ, _≤_, _<_}
-use native.Mathlib.Omega.{arith}
-use mathlib.Core.Path.{_≡_, refl, sym, ap, ap₂, _∙_}
+use Prim.Native.Nat.{ℕ}
+use mathlib.Core.Path.{_≡_, refl, sym, ap, _∙_}
 use mathlib.Core.Bool.{Bool, true, false}
 use mathlib.Core.List.{List, [], _∷_}
 use mathlib.Core.Option.{Option, none, some}
-use lib.ListN.{length, replicate}
-use Rattle.theory.specs.Rule.{keep, howMany, upTo, downFrom, Program, FactSet, inForce, constraintFact}
-use Rattle.theory.specs.Search.{guessed, search}
+use lib.ListN.{length}
+use Rattle.theory.specs.Rule.{FactSet, inForce}
+use Rattle.theory.specs.Search.{search}
 use Rattle.theory.proofs.Bools.{never}
-use Rattle.theory.proofs.Lists.{mem-downFrom, keep-same}
 use Rattle.items.specs.declared.refusal.Refusal.{Refusal}
 use Rattle.items.specs.declared.refusal.Refusal.the-variants.{NoStableSet}
-use Rattle.items.specs.Item.{maxFacts, has}
-use Rattle.reader.specs.Questions.{programOf, constraintFacts}
-use Rattle.tables.specs.Marks.{paint}
-use Rattle.reader.proofs.RulesCounted.{painted-count}
-use Rattle.tables.proofs.MarksPainted.{painted}
+use Rattle.items.specs.Item.{has}
+use Rattle.reader.specs.Questions.{programOf}
 use Rattle.questions.specs.Questions.{someStable, stableQuestion, earlyQuestions, searchQuestions, earlyNo, searchNo}
 use Rattle.earliest.specs.Branch.{Shown}
 use Rattle.items.specs.Question.{firstNo}

@@ -24,6 +24,7 @@ use Rattle.run.specs.declared.answer.Ran.{Ran}
 use Rattle.run.specs.declared.answer.Ran.the-variants.{Done, Refused}
 use Rattle.run.specs.Outcome.{RunOutcome, runWritten, runOutcome}
 use Rattle.items.specs.Write.{over}
+use Rattle.items.specs.Item.{narrow}
 use Rattle.run.proofs.Outcomes.{outcome-written}
 use Rattle.search.specs.declared.answer.Searched.the-variants.{Found}
 use Rattle.search.specs.Outcome.{SearchOutcome, searchWritten, foundAt}
@@ -56,7 +57,7 @@ module _ (file facts rules steps order : List ℕ) (y : AllYesses file (length f
   run-yes =
       let P = programOf file in
       all-yes (fileQuestions file) _ (y .accepted)
-      (all-yes (orderQuestions (exception P) (count P) (naming (orderFor P (inForce P) M))) (bufferQuestions P (length facts) (length rules) (length steps)) (search-order-yes P M) (y .buffers-fit))
+      (all-yes (orderQuestions (exception P) (count P) (naming (orderFor P (inForce P) M))) (bufferQuestions narrow P (length facts) (length rules) (length steps)) (search-order-yes P M) (y .buffers-fit))
 
   -- the order as it was written, and the answer and the buffers as the run left them
   module _ (order′ : List ℕ) (n : ℕ) (o : (order′ ≡ over (naming (orderFor (programOf file) (inForce (programOf file)) M)) order) × (n ≡ length (naming (orderFor (programOf file) (inForce (programOf file)) M)))) (answer : Ran) (facts′ rules′ steps′ : List ℕ) (e : _≡_ {A = RunOutcome} (record { answer = answer; fact-marks = facts′; rule-marks = rules′; steps = steps′ }) (runOutcome file (take n order′) facts rules steps)) where

@@ -9,7 +9,7 @@ use lib.Dec.{leb}
 use Rattle.theory.specs.Rule.{Program}
 use Rattle.items.specs.declared.refusal.Refusal.{Refusal}
 use Rattle.items.specs.declared.refusal.Refusal.the-variants.{OrderShort, TooManyConstraints}
-use Rattle.items.specs.Item.{nameWidth, maxGuessed}
+use Rattle.items.specs.Item.{narrow, nameWidth, maxGuessed}
 use Rattle.items.specs.Question.{firstNo}
 use Rattle.items.proofs.FirstNo.{first-no, first-yes, both-yes}
 use Rattle.tables.specs.Layout.{programIn}
@@ -18,7 +18,6 @@ use Rattle.reader.specs.Questions.{programOf, fileQuestions, fileNo, exceptions
 use Rattle.reader.specs.declared.answer.Asked.the-variants as asked
 use Rattle.reader.specs.Asked.{countsOf, fileAsked}
 use Rattle.reader.proofs.Accepted.{all-asked}
-use Rattle.questions.specs.declared.answer.Answer.{Answer}
 use Rattle.questions.specs.declared.answer.Answer.the-variants.{Yes, No}
 use Rattle.questions.specs.Answer.{answerOf}
 use Rattle.questions.specs.Questions.{bufferQuestions, buffersNo, limitQuestions, earlyQuestions, limitsNo, earlyNo}
@@ -49,18 +48,18 @@ module _ (P : Program) (counts : FileCounts) (order : ℕ) (e : counts ≡ count
 -- The questions of the buffers, then of the limits.
 module _ (P : Program) (facts rules steps order : ℕ) where
   abbrev pub laterNo : Option Refusal
-  laterNo = firstNo (bufferQuestions P facts rules steps ++ limitQuestions P order)
+  laterNo = firstNo (bufferQuestions narrow P facts rules steps ++ limitQuestions P order)
 
-  pub buffers-refuse : (r : Refusal) → No r ≡ answerOf (buffersNo P facts rules steps) → No r ≡ answerOf laterNo
-  buffers-refuse r e = sym (ap answerOf (first-no (bufferQuestions P facts rules steps) (limitQuestions P order) r (said-no _ r e)))
+  pub buffers-refuse : (r : Refusal) → No r ≡ answerOf (buffersNo narrow P facts rules steps) → No r ≡ answerOf laterNo
+  buffers-refuse r e = sym (ap answerOf (first-no (bufferQuestions narrow P facts rules steps) (limitQuestions P order) r (said-no _ r e)))
 
-  pub limits-decide : Yes ≡ answerOf (buffersNo P facts rules steps) → answerOf (limitsNo P order) ≡ answerOf laterNo
-  limits-decide e = sym (ap answerOf (first-yes (bufferQuestions P facts rules steps) (limitQuestions P order) (said-yes _ e)))
+  pub limits-decide : Yes ≡ answerOf (buffersNo narrow P facts rules steps) → answerOf (limitsNo P order) ≡ answerOf laterNo
+  limits-decide e = sym (ap answerOf (first-yes (bufferQuestions narrow P facts rules steps) (limitQuestions P order) (said-yes _ e)))
 
 -- What a search may rely on where all questions but the last got yes.
 pub record AllYesses (file : List ℕ) (facts rules steps order : ℕ) : Type 0 where
   pub accepted : _≡_ {A = Option Refusal} (fileNo file) none
-  pub buffers-fit : _≡_ {A = Option Refusal} (buffersNo (programOf file) facts rules steps) none
+  pub buffers-fit : _≡_ {A = Option Refusal} (buffersNo narrow (programOf file) facts rules steps) none
   pub order-fits : nameWidth * exceptions (programOf file) ≤ order
   pub few-guesses : constraintFacts (programOf file) ≤ maxGuessed
 
@@ -87,7 +86,7 @@ module _ (file : List ℕ) (facts rules steps order : ℕ) where
   all-yes e =
       let P = programOf file in
       let t = both-yes (fileQuestions file) _ e in
-      let b = both-yes (bufferQuestions P facts rules steps) _ (t .1) in
+      let b = both-yes (bufferQuestions narrow P facts rules steps) _ (t .1) in
       let o = all-asked _ (leb (nameWidth * exceptions P) order) _ (b .1) in
       let k = all-asked _ (leb (constraintFacts P) maxGuessed) _ (o .1) in
       record {

@@ -12,7 +12,7 @@ use Rattle.items.specs.declared.refusal.Refusal.{Refusal}
 use Rattle.items.specs.Question as refusal
 use Rattle.items.specs.Question.{noNumber}
 use Rattle.reader.specs.Questions.{programOf}
-use Rattle.items.specs.Item.{marked}
+use Rattle.items.specs.Item.{narrow, marked}
 use Rattle.questions.specs.Questions.{naming, searchNo}
 use Rattle.closure.specs.Steps.{stepBytes}
 use Rattle.items.specs.Write.{over}
@@ -34,7 +34,7 @@ searchWritten P row s facts rules steps order =
       answer = Found (stageCount s) (stepCount s);
       fact-marks = over (factMarks P s) facts;
       rule-marks = over (ruleMarks P (inForce P) s) rules;
-      steps = over (stepBytes (s .trace)) steps;
+      steps = over (stepBytes narrow (s .trace)) steps;
       order = over (naming row) order;
     }
 

@@ -3,6 +3,7 @@ ghost use mathlib.Core.Path.{_≡_};
 ghost use mathlib.Core.List.{_++_};
 ghost use Rattle.theory.specs.Rule.{Program};
 ghost use Rattle.items.specs.Question.{firstNo};
+ghost use Rattle.items.specs.Item.{narrow};
 ghost use Rattle.tables.specs.Layout.{programIn, WellFormed};
 ghost use Rattle.reader.specs.Asked.{countsOf};
 ghost use Rattle.questions.specs.Answer.{answerOf};
@@ -37,7 +38,7 @@ pub fn ask_search(
     order: usize,
 ) -> Answer
     requires { ⌜ WellFormed (now tables) × (counts ≡ countsOf (programIn (now tables))) ⌝ }
-    ensures { λ r. ⌜ r ≡ answerOf (firstNo (bufferQuestions (programIn (now (tables .entry))) facts rules steps ++ limitQuestions (programIn (now (tables .entry))) order)) ⌝ }
+    ensures { λ r. ⌜ r ≡ answerOf (firstNo (bufferQuestions narrow (programIn (now (tables .entry))) facts rules steps ++ limitQuestions (programIn (now (tables .entry))) order)) ⌝ }
 {
     match questions::buffers::ask_buffers(tables, facts, rules, steps) {
         Answer::No(r) => Answer::No(r),

@@ -5,7 +5,7 @@ ghost use mathlib.Core.Option.{none};
 ghost use lib.ListN.{length};
 ghost use Rattle.theory.specs.Rule.{inForce};
 ghost use Rattle.theory.specs.Search.{search};
-ghost use Rattle.items.specs.Item.{maxFacts, has, maxGuessed};
+ghost use Rattle.items.specs.Item.{narrow, maxFacts, has, maxGuessed};
 ghost use Rattle.tables.specs.Layout.{programIn, WellFormed};
 ghost use Rattle.reader.specs.Questions.{programOf, constraintFacts};
 ghost use Rattle.reader.specs.Scanned.{Tabled};
@@ -49,11 +49,11 @@ fn run_to(
 
 // Looks for the earliest stable set of a program with few constraint facts. Answers whether there is one, and then marks its facts.
 fn find_set(tables: &[u16; TABLE_CELLS], set: &mut [u8; MAX_FACTS]) -> bool
-    requires { ⌜ WellFormed (now tables) × (constraintFacts (programIn (now tables)) ≤ maxGuessed) × (length (now set) ≡ maxFacts) ⌝ }
+    requires { ⌜ WellFormed (now tables) × (constraintFacts (programIn (now tables)) ≤ maxGuessed) × (length (now set) ≡ maxFacts narrow) ⌝ }
     ensures { λ r. ⌜ Shown (search (programIn (now (tables .entry))) (inForce (programIn (now (tables .entry))))) r (now (set .exit)) ⌝ }
 {
     let mut marks = [0u8; MAX_FACTS];
-    tables::marks::mark_constraint_facts(tables, &mut marks);
+    marking::marks::mark_constraint_facts(tables, &mut marks);
     let mut row = [0u16; MAX_GUESSED];
     let n = earliest::guessed::list_down(&marks, facts_of(tables), &mut row);
     // By way of a reference to the array the check learns that it is as long as it was.

@@ -1,156 +1,172 @@
--- The search for the first eligible rule of an order: what is to come finds what the whole finds, at every stand that the marks show.
-use Prim.Native.Nat.{ℕ, _<_}
+-- The look along an order: the places taken so far have no eligible rule, so the first that has one is the first of the order.
+use Prim.Native.Nat.{ℕ, zero, suc, _+_, _<_}
 use mathlib.Core.Path.{_≡_, refl, sym, ap, _∙_}
-use mathlib.Core.Bool.{Bool, true, false}
+use mathlib.Core.Bool.{Bool, true, false, not, _&&_, _||_}
 use mathlib.Core.List.{List, [], _∷_}
-use mathlib.Core.Logic.{_⊎_, ⊎-elim}
+use mathlib.Core.Logic.{_⊎_, inl, inr, ⊎-elim}
+use mathlib.Core.Option.{Option, none, some}
 use native.Mathlib.Omega.{arith}
-use borrow.Author.Tests.{eqb-true, eqb-false, eq-eqb}
-use lib.ListN.{length, getD, set}
-use lib.Seq.{getD-set-other}
+use native.Mathlib.Nat.{zero-add}
+use borrow.Author.Tests.{eqb-true, eq-eqb, ne-eqb}
+use lib.ListN.{length, getD, take, drop}
+use lib.Seq.{getD-take, drop-at, length-take-le}
 use lib.Dec.{eqb}
-use Rattle.theory.specs.Rule.{all, clear, mem, Program, Bounded, FactSet, inForce, count, rule, exception}
-use Rattle.theory.specs.Run.{Stand, spares, trial, eligible}
-use Rattle.theory.proofs.Bools.{either, never, false-of}
-use Rattle.theory.proofs.Lists.{mem-here, mem-there}
-use Rattle.theory.proofs.Run.{Eligible, eligible-parts, eligible-whole, exception-known}
-use Rattle.items.specs.Item.{maxFacts, ruleId, has}
-use Rattle.closure.specs.declared.found.Found.the-variants.{At, Nothing}
-use Rattle.closure.specs.Steps.{foundOf}
-use Rattle.theory.proofs.ListWalks.{Seeking, whole-seeking, seek-along, seek-ended, seek-passes, seek-fails}
-use Rattle.stage.specs.Refused.{Shows, RefusedAt, Refuses, Finds, apartBelow, NamesOnly}
-use Rattle.stage.proofs.SetsApart.{spares-apart}
-use Rattle.stage.proofs.TrialClosed.{trial-past}
+use Rattle.theory.specs.Rule.{all, clear, mem, seek, range, upTo, Program, FactSet, inForce, count, rule, exception}
+use Rattle.theory.specs.Run.{Stand, rejected, eligible, firstEligible}
+use Rattle.theory.proofs.Bools.{never, or-right, and-right, false-of}
+use Rattle.theory.proofs.Lists.{Found, getD-mem, length-range, clear-anti}
+use Rattle.theory.proofs.Run.{eligible-parts, exception-known, trial-above}
+use Rattle.theory.proofs.Barred.{conclusion-barred}
+use Rattle.items.specs.declared.item.FactId.{FactId}
+use Rattle.items.specs.Item.{narrow, maxFacts, maxRules, factId, has}
+use Rattle.marking.specs.Marks.{barred, barredIn}
+use Rattle.closure.specs.Room.{Room}
+use Rattle.bits.specs.declared.row.Lowest.{Lowest}
+use Rattle.bits.specs.declared.row.Lowest.the-variants.{At, Nothing}
+use Rattle.bits.specs.Flags.{Flags, without, lowestOf, Taken as LowestTaken}
+use Rattle.bits.proofs.RowTaken.{lowest-is, nothing-left}
+use Rattle.stage.specs.Memory.{Holds, Passes}
+use Rattle.stage.specs.Look.{Awake, AwakeBut, Looking, Taken, Ended}
 
--- What a stand tells of the search: it goes on where the whole order would, and the marks are those of refused rules.
-pub record Goes (P : Program) (order rest skip : List ℕ) (s : Stand) : Type 0 where
-  pub seeking : Seeking (eligible P (inForce P) s) order rest
-  pub refuses : Refuses P s (has skip)
+-- The first element that passes, by its place.
+seek-at : (q : ℕ → Bool) (xs : List ℕ) (k : ℕ) → k < length xs → ((j : ℕ) → j < k → q (getD xs j 0) ≡ false) → q (getD xs k 0) ≡ true → seek q xs ≡ some (getD xs k 0)
+seek-at q [] k h out t = absurd (omega arith)
+seek-at q (x ∷ xs) zero h out t = rw (t, seek)
+seek-at q (x ∷ xs) (suc k) h out t = rw (out 0 (omega arith), seek) (seek-at q xs k (omega arith) (λ j l. out (suc j) (omega arith)) t)
 
--- The names to come, and the marks now, beside the order and the marks at entry.
-pub record Looking (P : Program) (order inD inR skip₀ rest skip : List ℕ) : Type 0 where
-  pub named : (i : ℕ) → mem i rest ≡ true → mem i order ≡ true
-  pub goes : (s : Stand) → Shows P inD inR s → Refuses P s (has skip₀) → Goes P order rest skip s
+none-passes : (q : ℕ → Bool) (xs : List ℕ) → ((k : ℕ) → k < length xs → q (getD xs k 0) ≡ false) → _≡_ {A = Option ℕ} (seek q xs) none
+none-passes q [] out = refl
+none-passes q (x ∷ xs) out = rw (out 0 (omega arith), seek) (none-passes q xs (λ k l. out (suc k) (omega arith)))
 
-pub none-looked : (P : Program) (order inD inR skip : List ℕ) → Looking P order inD inR skip order skip
-none-looked P order inD inR skip =
-    record { named = λ i m. m; goes = λ s v q. record { seeking = whole-seeking _ _; refuses = q } }
+getD-upTo : (a n j : ℕ) → j < n → getD (range a n) j 0 ≡ a + j
+getD-upTo a zero j h = absurd (omega arith)
+getD-upTo a (suc n) zero h = omega arith
+getD-upTo a (suc n) (suc j) h = let e : getD (range (suc a) n) j 0 ≡ suc a + j = getD-upTo (suc a) n j (omega arith) in omega arith
 
--- A mark more: it is the rule's, or it was there.
-one-more : (skip : List ℕ) (i j : ℕ) → has (set skip i 1) j ≡ true → (j ≡ i → ⊥) → has skip j ≡ true
-unfolding has
-one-more skip i j m other = sym (ap (λ (x : ℕ). eqb x 1) (getD-set-other skip i j 1 0 other)) ∙ m
+-- None below the lowest number of a set is in it.
+none-lower : (p : ℕ → Bool) (k : ℕ) → lowestOf p ≡ some k → (j : ℕ) → j < k → p j ≡ false
+none-lower p k e j h =
+    let w : Found p (upTo maxRules) k = lowest-is p k e in
+    let in-list : w .place < maxRules = rw (length-range 0 maxRules) at (w .inside) in
+    let there : getD (upTo maxRules) (w .place) 0 ≡ 0 + w .place = getD-upTo 0 maxRules (w .place) in-list in
+    let lower : j < w .place = omega (arith, w .is) in
+    let here : getD (upTo maxRules) j 0 ≡ 0 + j = getD-upTo 0 maxRules j (omega arith) in
+    ap p (sym (here ∙ zero-add j)) ∙ w .none-before j lower
 
-module _ {P : Program} {order inD inR skip₀ rest skip : List ℕ} (w : Looking P order inD inR skip₀ rest skip) where
-  pub none-eligible : rest ≡ [] → (s : Stand) → Shows P inD inR s → Refuses P s (has skip₀) → Finds P order s Nothing (has skip)
-  none-eligible e s v q =
-      record { first = sym (ap foundOf (seek-ended (w .goes s v q .seeking) e)); refuses = w .goes s v q .refuses }
+-- The memory has room for a trial.
+pub held-room : {P : Program} {s : Stand} {marks fired : List ℕ} {n : ℕ} → P .facts < maxFacts narrow → Holds P s marks fired n → Room P marks n
+held-room few w = record { places = w .marks-places; cells-left = rw (w .shows .d) (omega (arith, w .fits)) }
 
-  pub no-name-here : (more : List ℕ) → rest ≡ more → Looking P order inD inR skip₀ more skip
-  no-name-here more e =
+-- The rule at place k is on its turn.
+pub record Turn (P : Program) (row order marks fired : List ℕ) (n : ℕ) (awake : List ℕ) (s : Stand) (k : ℕ) : Type 0 where
+  pub known : getD row k 0 < count P
+  pub excepted : exception P (getD row k 0) ≡ true
+  pub premises-in : all (s .derived) (rule P (getD row k 0) .premises) ≡ true
+  pub holds : Holds P s marks fired n
+  -- where it is refused, the look goes on; where it is not, it is the first
+  pub refused : eligible P (inForce P) s (getD row k 0) ≡ false → (marks′ fired′ : List ℕ) → Holds P s marks′ fired′ n → (p : ℕ → Bool) × Looking P row order marks′ fired′ n awake s p
+  pub passes : (marks′ fired′ : List ℕ) (m : ℕ) → Passes P s (getD row k 0) fired n marks′ fired′ m → Taken P order s n (getD row k 0) marks′ fired′ awake m
+
+module _ {P : Program} {row order marks fired : List ℕ} {n : ℕ} {awake : List ℕ} {s : Stand} {p : ℕ → Bool} (w : Looking P row order marks fired n awake s p) where
+  pub none-found : {r : Lowest} (after : List ℕ) → LowestTaken p r after → r ≡ Nothing → Ended P order s n marks fired
+  none-found after t e =
       record {
-        named = λ i m. w .named i (ap (mem i) e ∙ m);
-        goes = λ s v q. record { seeking = seek-along (w .goes s v q .seeking) more e; refuses = w .goes s v q .refuses };
+        none-left = none-passes (eligible P (inForce P) s) order (λ k h. w .waits .asleep k h (nothing-left (w .flags) (t .none-left e) k));
+        holds = w .holds;
       }
 
-  module _ (i : ℕ) (more : List ℕ) (e : rest ≡ i ∷ more) where
-    pub is-named : mem i order ≡ true
-    is-named = w .named i (ap (mem i) e ∙ mem-here i more)
+  module _ (few : P .facts < maxFacts narrow) (k : ℕ) (e : lowestOf p ≡ some k) (awake′ : List ℕ) (f : Flags (without p k) awake′) where
+    here : k < length order
+    here = w .waits .roused k (lowest-is p k e .passes) .0
 
-    later : (j : ℕ) → mem j more ≡ true → mem j order ≡ true
-    later j m = w .named j (ap (mem j) e ∙ mem-there j i more m)
+    same : getD row k 0 ≡ getD order k 0
+    same = sym (getD-take (length order) row k 0 here) ∙ ap (λ (l : List ℕ). getD l k 0) (w .in-row)
 
-    pub passed-over : ((s : Stand) → Shows P inD inR s → Refuses P s (has skip) → eligible P (inForce P) s i ≡ false) → Looking P order inD inR skip₀ more skip
-    passed-over out =
-        record {
-          named = later;
-          goes = λ s v q. record { seeking = seek-fails (w .goes s v q .seeking) i more e (out s v (w .goes s v q .refuses)); refuses = w .goes s v q .refuses };
-        }
+    other : (j : ℕ) → without p k j ≡ true → p j ≡ true
+    other j t = and-right (not (eqb j k)) (p j) t
 
-    pub refused-now : ((s : Stand) → Shows P inD inR s → RefusedAt P s i) → Looking P order inD inR skip₀ more (set skip i 1)
-    refused-now out =
-        record {
-          named = later;
-          goes = λ s v q. record { seeking = seek-fails (w .goes s v q .seeking) i more e (out s v .not-eligible); refuses = λ j m. mark s v q j m (either (eqb j i)) };
-        }
+    gone : (j : ℕ) → without p k j ≡ false → (j ≡ k) ⊎ (p j ≡ false)
+    gone j t = go (eqb j k) refl t
       where
-        mark : (s : Stand) → Shows P inD inR s → Refuses P s (has skip₀) → (j : ℕ) → has (set skip i 1) j ≡ true → (eqb j i ≡ true) ⊎ (eqb j i ≡ false) → RefusedAt P s j
-        mark s v q j m =
-            ⊎-elim
-            (λ t. let same : j ≡ i = eqb-true j i t in rw same (out s v))
-            (λ t. w .goes s v q .refuses j (one-more skip i j m (eqb-false j i t)))
+        go : (b : Bool) → eqb j k ≡ b → not b && p j ≡ false → (j ≡ k) ⊎ (p j ≡ false)
+        go true q u = inl (eqb-true j k q)
+        go false q u = inr u
 
-    pub found-first : ((s : Stand) → Shows P inD inR s → eligible P (inForce P) s i ≡ true) → (s : Stand) → Shows P inD inR s → Refuses P s (has skip₀) → Finds P order s (At (ruleId i)) (has (set skip i 1))
-    found-first in-it s v q =
+    refused-there : eligible P (inForce P) s (getD row k 0) ≡ false → Awake P order s (without p k)
+    refused-there out =
         record {
-          first = sym (ap foundOf (seek-passes (w .goes s v q .seeking) i more e (in-it s v)));
-          refuses = λ j m other. w .goes s v q .refuses j (one-more skip i j m other);
+          roused = λ j t. w .waits .roused j (other j t);
+          asleep = λ j h t. ⊎-elim (λ q. ap (λ (i : ℕ). eligible P (inForce P) s (getD order i 0)) q ∙ ap (eligible P (inForce P) s) (sym same) ∙ out) (λ q. w .waits .asleep j h q) (gone j t);
         }
 
--- What the trial closure T of rule i decides, with the rule's own constraints.
-pub record Tried (P : Program) (inD inR T own : List ℕ) (i : ℕ) : Type 0 where
-  pub meets-own : clear (has T) own ≡ false → (s : Stand) → Shows P inD inR s → RefusedAt P s i
-  pub meets-rejected : apartBelow maxFacts (has T) (has inR) ≡ false → (s : Stand) → Shows P inD inR s → RefusedAt P s i
-  pub meets-neither : clear (has T) own ≡ true → apartBelow maxFacts (has T) (has inR) ≡ true → (s : Stand) → Shows P inD inR s → eligible P (inForce P) s i ≡ true
-
--- A marked rule is not eligible.
-pub skipped : (P : Program) (skip : List ℕ) (i : ℕ) → getD skip i 0 ≡ 1 → (s : Stand) → Refuses P s (has skip) → eligible P (inForce P) s i ≡ false
-unfolding has
-skipped P skip i m s q = q i (eq-eqb _ _ m) .not-eligible
-
--- A rule of the order is one of the program.
-pub named-known : (P : Program) (order : List ℕ) → NamesOnly P order → (i : ℕ) → mem i order ≡ true → i < count P
-named-known P order n i m = exception-known P (inForce P) i (n i m)
-
--- The tests on one rule.
-module _ (P : Program) (inD inR : List ℕ) (i : ℕ) where
-  -- the premises and the conclusion at any stand that is shown
-  premises-shown : (b : Bool) → all (has inD) (rule P i .premises) ≡ b → (s : Stand) → Shows P inD inR s → all (s .derived) (rule P i .premises) ≡ b
-  premises-shown b p s v = ap (λ (S : FactSet). all S (rule P i .premises)) (sym (v .d)) ∙ p
-
-  conclusion-shown : (b : Bool) → has inD (rule P i .conclusion) ≡ b → (s : Stand) → Shows P inD inR s → s .derived (rule P i .conclusion) ≡ b
-  conclusion-shown b q s v = ap (λ (S : FactSet). S (rule P i .conclusion)) (sym (v .d)) ∙ q
-
-  pub unfounded : all (has inD) (rule P i .premises) ≡ false → (s : Stand) → Shows P inD inR s → eligible P (inForce P) s i ≡ false
-  unfounded p s v = false-of _ (λ u. never (eligible-parts P (inForce P) s i u .premises-in) (premises-shown false p s v))
-
-  pub concluded : has inD (rule P i .conclusion) ≡ true → (s : Stand) → Shows P inD inR s → eligible P (inForce P) s i ≡ false
-  concluded q s v = false-of _ (λ u. never (conclusion-shown true q s v) (eligible-parts P (inForce P) s i u .conclusion-out))
-
-  -- with its premises in D and its conclusion not, and its trial closure
-  module _ (bounds : Bounded P) (few : P .facts < maxFacts) (full : length inD ≡ maxFacts) (h : i < count P) (p : all (has inD) (rule P i .premises) ≡ true) (T : List ℕ) (t : has T ≡ trial P (inForce P) (has inD) i) where
-    trial-shown : (s : Stand) → Shows P inD inR s → has T ≡ trial P (inForce P) (s .derived) i
-    trial-shown s v = t ∙ ap (λ (D : FactSet). trial P (inForce P) D i) (v .d)
-
-    rejected-shown : (s : Stand) → Shows P inD inR s → apartBelow maxFacts (has T) (has inR) ≡ spares P (trial P (inForce P) (s .derived) i) (s .applied)
-    rejected-shown s v =
-        ap (apartBelow maxFacts (has T)) (v .r)
-        ∙ spares-apart P (has T) (s .applied) maxFacts (λ f l. ap (λ (S : FactSet). S f) t ∙ trial-past bounds few inD full i h f l)
-        ∙ ap (λ (S : FactSet). spares P S (s .applied)) (trial-shown s v)
-
-    own-shown : (s : Stand) → Shows P inD inR s → clear (has T) (rule P i .constraints) ≡ clear (trial P (inForce P) (s .derived) i) (rule P i .constraints)
-    own-shown s v = ap (λ (S : FactSet). clear S (rule P i .constraints)) (trial-shown s v)
-
-    pub tried : exception P i ≡ true → has inD (rule P i .conclusion) ≡ false → Tried P inD inR T (rule P i .constraints) i
-    tried x q =
+    taken-there : AwakeBut P order s (getD row k 0) (without p k)
+    taken-there =
         record {
-          meets-own = λ m s v. refused s v (λ u. never (u .spares-own) (sym (own-shown s v) ∙ m));
-          meets-rejected = λ m s v. refused s v (λ u. never (u .spares-rejected) (sym (rejected-shown s v) ∙ m));
-          meets-neither = λ m n s v.
-              eligible-whole P (inForce P) s i
-              (record {
-                excepted = x;
-                in-force = refl;
-                conclusion-out = conclusion-shown false q s v;
-                premises-in = premises-shown true p s v;
-                spares-own = sym (own-shown s v) ∙ m;
-                spares-rejected = sym (rejected-shown s v) ∙ n;
-              });
+          roused = λ j t. w .waits .roused j (other j t);
+          asleep = λ j h t. ⊎-elim (λ q. inr (ap (λ (i : ℕ). getD order i 0) q ∙ sym same)) (λ q. inl (w .waits .asleep j h q)) (gone j t);
         }
-      where
-        refused : (s : Stand) → Shows P inD inR s → (Eligible P (inForce P) s i → ⊥) → RefusedAt P s i
-        refused s v out =
-            record {
-              premises-in = premises-shown true p s v;
-              not-eligible = false-of _ (λ u. out (eligible-parts P (inForce P) s i u));
-            }
+
+    first-there : eligible P (inForce P) s (getD row k 0) ≡ true → firstEligible P (inForce P) order s ≡ some (getD row k 0)
+    first-there t =
+        seek-at (eligible P (inForce P) s) order k here (λ j h. w .waits .asleep j (omega (arith, here)) (none-lower p k e j h)) (ap (eligible P (inForce P) s) (sym same) ∙ t)
+        ∙ ap (λ (i : ℕ). some i) (sym same)
+
+    is-exception : exception P (getD row k 0) ≡ true
+    is-exception = ap (exception P) same ∙ w .names-only (getD order k 0) (getD-mem order k here)
+
+    turn-at : Turn P row order marks fired n awake′ s k
+    turn-at =
+        record {
+          known = exception-known P (inForce P) (getD row k 0) is-exception;
+          excepted = is-exception;
+          premises-in = ap (λ (i : ℕ). all (s .derived) (rule P i .premises)) same ∙ w .waits .roused k (lowest-is p k e .passes) .1;
+          holds = w .holds;
+          refused = λ out marks′ fired′ h. (without p k, record { in-row = w .in-row; names-only = w .names-only; holds = h; flags = f; waits = refused-there out });
+          passes = λ marks′ fired′ m t.
+              record {
+                first = first-there (t .is-eligible);
+                holds = t .holds;
+                added = ap (drop n) (t .added) ∙ drop-at (take n fired) _ n (length-take-le n fired (omega (arith, w .holds .fits, w .holds .fired-places, few)));
+                places = without p k;
+                flags = f;
+                waits = taken-there;
+              };
+        }
+
+  pub turn : P .facts < maxFacts narrow → {r : Lowest} {k : ℕ} {after : List ℕ} → LowestTaken p r after → r ≡ At k → Turn P row order marks fired n after s k
+  turn few {r} {k} {after} t e = turn-at few k (t .lowest k e) after (t .rest k e)
+
+-- The look so far: wherever the memory held a stand at entry, it holds that stand still.
+abbrev pub Onward : Program → List ℕ → List ℕ → List ℕ → ℕ → List ℕ → List ℕ → List ℕ → List ℕ → Type 0
+Onward P row marks₀ fired₀ n awake₀ marks fired awake = (order : List ℕ) (s : Stand) (p : ℕ → Bool) → Looking P row order marks₀ fired₀ n awake₀ s p → (q : ℕ → Bool) × Looking P row order marks fired n awake s q
+
+-- What the mark of a fact that was read tells.
+module _ (marks : List ℕ) {f : FactId} {g : ℕ} (e : f ≡ factId g) where
+  pub mark-in : getD marks (f .0) 0 ≡ 1 → has marks g ≡ true
+  unfolding has
+  mark-in t = eq-eqb _ _ (ap (λ (h : FactId). getD marks (h .0) 0) (sym e) ∙ t)
+
+  pub mark-out : (getD marks (f .0) 0 ≡ 1 → ⊥) → has marks g ≡ false
+  unfolding has
+  mark-out t = ne-eqb _ _ (λ u. t (ap (λ (h : FactId). getD marks (h .0) 0) e ∙ u))
+
+  pub mark-barred : getD marks (f .0) 0 ≡ barred → barredIn marks g ≡ true
+  unfolding barredIn
+  mark-barred t = eq-eqb _ _ (ap (λ (h : FactId). getD marks (h .0) 0) (sym e) ∙ t)
+
+-- What refuses a rule before a trial.
+module _ {P : Program} {s : Stand} {marks fired : List ℕ} {n : ℕ} (w : Holds P s marks fired n) (i : ℕ) where
+  pub concluded : has marks (rule P i .conclusion) ≡ true → eligible P (inForce P) s i ≡ false
+  concluded t =
+      false-of _ (λ u. never (ap (λ (S : FactSet). S (rule P i .conclusion)) (sym (w .shows .d)) ∙ t) (eligible-parts P (inForce P) s i u .conclusion-out))
+
+  pub rejected-already : barredIn marks (rule P i .conclusion) ≡ true → eligible P (inForce P) s i ≡ false
+  rejected-already t =
+      conclusion-barred P (inForce P) s i (λ f. mem f (rule P i .constraints) || rejected P (s .applied) f) (λ f. refl)
+      (or-right (mem (rule P i .conclusion) (rule P i .constraints)) _ (ap (λ (R : FactSet). R (rule P i .conclusion)) (sym (w .shows .r)) ∙ t))
+
+  pub constraint-met : clear (has marks) (rule P i .constraints) ≡ false → eligible P (inForce P) s i ≡ false
+  constraint-met t =
+      false-of _ (λ u. never
+      (clear-anti (s .derived) _ (rule P i .constraints) (trial-above P (inForce P) (s .derived) i) (eligible-parts P (inForce P) s i u .spares-own))
+      (ap (λ (S : FactSet). clear S (rule P i .constraints)) (sym (w .shows .d)) ∙ t))

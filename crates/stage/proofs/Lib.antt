@@ -1,3 +1,2 @@
-pub mod SetsApart
-pub mod TrialClosed
+pub mod TrialMade
 pub mod FirstFound

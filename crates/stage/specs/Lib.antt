@@ -1,2 +1,3 @@
 -- What only code and proofs use.
-pub mod Refused
+pub mod Memory
+pub mod Look

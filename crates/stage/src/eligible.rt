@@ -1,80 +1,74 @@
-// The first eligible rule of an order. Internal.
+// The first eligible rule of an order, and its stage. Internal.
+ghost use Prim.Native.Nat.{ℕ};
 ghost use mathlib.Core.Path.{_≡_};
-ghost use lib.ListN.{length};
+ghost use mathlib.Core.Bool.{Bool};
+ghost use mathlib.Core.List.{List};
 ghost use Rattle.theory.specs.Rule.{inForce, plainRules};
 ghost use Rattle.theory.specs.Run.{Stand};
-ghost use Rattle.items.specs.Item.{maxFacts, has};
+ghost use Rattle.items.specs.Item.{has};
 ghost use Rattle.tables.specs.Layout.{programIn, WellFormed};
-ghost use Rattle.questions.specs.Questions.{namedIn};
-ghost use Rattle.stage.specs.Refused.{Shows, Refuses, Finds, NamesOnly};
-use closure::found::Found;
-use items::cursor::Cursor;
-use items::cursor::Read;
-use items::cursor::Row;
-use items::item::Item;
+ghost use Rattle.stage.specs.Look.{Looking, Stands, Looked};
+use crate::staged::Staged;
+use crate::trial::trial;
+use bits::row::Lowest;
+use bits::row::ROW_WORDS;
+use bits::row::take;
+use closure::derivation::Derivation;
 use items::item::MAX_FACTS;
 use items::item::MAX_RULES;
+use items::item::RuleId;
+use marking::marks::BARRED;
+use marking::marks::IN;
 use tables::layout::TABLE_CELLS;
 use tables::own::constraint_at;
 use tables::own::constraint_span;
-use tables::rule::conclusion_in;
-use tables::rule::premises_in;
+use tables::rule::conclusion;
 
-// The first rule in the order that is eligible. A rule is tried once: skip marks those tried, since a rule that was refused with its premises
-// in D stays refused, and one that was found is applied.
+// Takes the awake places of the order in turn, up to the first whose rule is eligible, and makes its stage.
 pub fn first_eligible(
     tables: &[u16; TABLE_CELLS],
-    order: &[u8],
+    row: &[u16; MAX_RULES],
     plain: &[u8; MAX_RULES],
-    derived: &[u8; MAX_FACTS],
-    rejected: &[u8; MAX_FACTS],
-    skip: &mut [u8; MAX_RULES],
-) -> Found
+    marks: &mut [u8; MAX_FACTS],
+    fired: &mut [u16; MAX_FACTS],
+    count: usize,
+    awake: &mut [u64; ROW_WORDS],
+) -> Staged
     requires { ⌜ WellFormed (now tables) ⌝ }
     requires { ⌜ has (now plain) ≡ plainRules (programIn (now tables)) (inForce (programIn (now tables))) ⌝ }
-    requires { ⌜ length (now derived) ≡ maxFacts ⌝ }
-    requires { ⌜ NamesOnly (programIn (now tables)) (namedIn (now order)) ⌝ }
-    ensures { λ r. ⌜ ((s : Stand) → Shows (programIn (now (tables .entry))) (now (derived .entry)) (now (rejected .entry)) s → Refuses (programIn (now (tables .entry))) s (has (now (skip .entry))) → Finds (programIn (now (tables .entry))) (namedIn (now (order .entry))) s r (has (now (skip .exit)))) ⌝ }
+    requires { ⌜ Stands (programIn (now tables)) (now row) (now marks) (now fired) count (now awake) ⌝ }
+    ensures { λ r. ⌜ ((order : List ℕ) (s : Stand) (p : ℕ → Bool) → Looking (programIn (now (tables .entry))) (now (row .entry)) order (now (marks .entry)) (now (fired .entry)) count (now (awake .entry)) s p → Looked (programIn (now (tables .entry))) order s count r (now (marks .exit)) (now (fired .exit)) (now (awake .exit))) ⌝ }
 {
-    let mut cursor = Cursor {
-        at: 0,
-        row: Row::Order,
-    };
     let found = 'rules: loop {
-        let read = cursor.next_name(order);
-        let Read::Found(item, next) = read else {
-            break 'rules Found::Nothing;
+        let lowest = take(awake);
+        let Lowest::At(place) = lowest else {
+            break 'rules Staged::Nothing;
         };
-        cursor = next;
-        let Item::Names(rule) = item else {
-            continue 'rules;
-        };
-        let number = rule.0 as usize;
-        if skip[number] == 1 {
+        let rule = RuleId(row[place]);
+        let fact = conclusion(tables, rule);
+        let f = fact.0 as usize;
+        if marks[f] == IN {
             continue 'rules;
         }
-        if conclusion_in(tables, rule, derived) {
+        if marks[f] == BARRED {
             continue 'rules;
         }
-        if !premises_in(tables, rule, derived) {
-            continue 'rules;
-        }
-        skip[number] = 1;
-        let closed = crate::trial::trial(tables, plain, derived, rule);
-        let trial = &closed;
-        // The rule's own constraints, then R: both against the closure with its conclusion, which may hold more than D.
         let own = constraint_span(tables, rule);
         let end = own.end;
-        let mut place = own.from;
-        while place < end {
-            let fact = constraint_at(tables, place);
-            if trial[fact] == 1 {
+        let mut at = own.from;
+        while at < end {
+            let constraint = constraint_at(tables, at);
+            if marks[constraint] == IN {
                 continue 'rules;
             }
-            place += 1;
+            at += 1;
         }
-        if crate::trial::apart(trial, rejected) {
-            break 'rules Found::At(rule);
+        // Its constraints may still be met by the closure with its conclusion, which holds more than D.
+        match trial(tables, plain, rule, marks, fired, count) {
+            Derivation::Closed(steps) => {
+                break 'rules Staged::Took { rule, steps };
+            }
+            Derivation::Barred => {}
         }
     };
     found

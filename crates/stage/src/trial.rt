@@ -1,55 +1,58 @@
-// Trial closures, on scratch memory. Internal.
-ghost use mathlib.Core.Path.{_≡_};
+// The trial of a rule. Internal.
 ghost use Prim.Native.Nat.{_<_};
+ghost use mathlib.Core.Path.{_≡_};
+ghost use mathlib.Core.Bool.{true, false};
 ghost use lib.ListN.{length};
-ghost use Rattle.theory.specs.Rule.{count, inForce, plainRules};
-ghost use Rattle.theory.specs.Run.{trial as trialOf};
-ghost use Rattle.items.specs.Item.{maxFacts, has};
+ghost use Rattle.theory.specs.Rule.{all, clear, count as countOf, exception, inForce, plainRules, rule as ruleOf};
+ghost use Rattle.theory.specs.Run.{Stand};
+ghost use Rattle.items.specs.Item.{narrow, maxFacts, has};
 ghost use Rattle.tables.specs.Layout.{programIn, WellFormed};
-ghost use Rattle.stage.specs.Refused.{apartBelow};
+ghost use Rattle.closure.specs.declared.derivation.Derivation.the-variants.{Barred};
+ghost use Rattle.closure.specs.Room.{Room};
+ghost use Rattle.stage.specs.Memory.{Holds, Tried};
+use closure::derivation::Derivation;
+use closure::least::derive;
 use items::item::MAX_FACTS;
 use items::item::MAX_RULES;
 use items::item::RuleId;
-use items::write::STEP_WIDTH;
+use marking::marks::BARRED;
+use marking::marks::IN;
+use marking::marks::mark_own;
 use tables::layout::TABLE_CELLS;
+use tables::rule::conclusion;
 
-// Room for a step for each fact; the steps of a trial are not read.
-const TRIAL_ROOM: usize = MAX_FACTS * STEP_WIDTH;
-
-// The closure of D with the conclusion of a rule.
+// Tries a rule whose conclusion and constraints are not in D, on a copy of the marks: its constraints are barred as R is, its conclusion enters,
+// and the set is closed. Where that meets no barred fact the copy is the new D and R, and the rules fired follow the count of before.
 pub fn trial(
     tables: &[u16; TABLE_CELLS],
     plain: &[u8; MAX_RULES],
-    derived: &[u8; MAX_FACTS],
     rule: RuleId,
-) -> [u8; MAX_FACTS]
-    requires { ⌜ WellFormed (now tables) ⌝ }
-    requires { ⌜ rule .0 < count (programIn (now tables)) ⌝ }
-    requires { ⌜ length (now derived) ≡ maxFacts ⌝ }
+    marks: &mut [u8; MAX_FACTS],
+    fired: &mut [u16; MAX_FACTS],
+    count: usize,
+) -> Derivation
+    requires { ⌜ WellFormed (now tables) × (rule .0 < countOf (programIn (now tables))) ⌝ }
     requires { ⌜ has (now plain) ≡ plainRules (programIn (now tables)) (inForce (programIn (now tables))) ⌝ }
-    ensures { λ r. ⌜ has r ≡ trialOf (programIn (now (tables .entry))) (inForce (programIn (now (tables .entry)))) (has (now (derived .entry))) (rule .0) ⌝ }
+    requires { ⌜ Room (programIn (now tables)) (now marks) count × (length (now fired) ≡ maxFacts narrow) ⌝ }
+    requires { ⌜ (has (now marks) (ruleOf (programIn (now tables)) (rule .0) .conclusion) ≡ false) × (clear (has (now marks)) (ruleOf (programIn (now tables)) (rule .0) .constraints) ≡ true) ⌝ }
+    ensures { λ r. ⌜ ((s : Stand) → Holds (programIn (now (tables .entry))) s (now (marks .entry)) (now (fired .entry)) count → all (s .derived) (ruleOf (programIn (now (tables .entry))) (rule .0) .premises) ≡ true → exception (programIn (now (tables .entry))) (rule .0) ≡ true → Tried (programIn (now (tables .entry))) s (rule .0) (now (fired .entry)) count r (now (marks .exit)) (now (fired .exit))) ⌝ }
+    ensures { λ r. ⌜ (r ≡ Barred → now (marks .exit) ≡ now (marks .entry)) ⌝ }
+    ensures { λ _. ⌜ length (now (fired .exit)) ≡ maxFacts narrow ⌝ }
 {
-    let fact = tables::rule::conclusion(tables, rule);
-    let mut set = *derived;
-    let mut steps = [0u8; TRIAL_ROOM];
+    let mut set = *marks;
+    mark_own(tables, rule, BARRED, &mut set);
+    let fact = conclusion(tables, rule);
     let f = fact.0 as usize;
-    set[f] = 1;
-    closure::least::derive(tables, plain, &mut set, &mut steps, 0);
-    set
-}
-
-// Do two sets have no fact in common?
-pub fn apart(a: &[u8; MAX_FACTS], b: &[u8; MAX_FACTS]) -> bool
-    ensures { λ r. ⌜ r ≡ apartBelow maxFacts (has (now (a .entry))) (has (now (b .entry))) ⌝ }
-{
-    let mut i: usize = 0;
-    while i < MAX_FACTS {
-        if a[i] == 1 {
-            if b[i] == 1 {
-                return false;
-            }
-        }
-        i += 1;
+    if set[f] == BARRED {
+        return Derivation::Barred;
     }
-    true
+    set[f] = IN;
+    fired[count] = rule.0;
+    match derive(tables, plain, &mut set, fired, count + 1) {
+        Derivation::Closed(steps) => {
+            *marks = set;
+            Derivation::Closed(steps)
+        }
+        Derivation::Barred => Derivation::Barred,
+    }
 }

@@ -1,4 +1,2 @@
-pub mod MarksPainted
 pub mod ProgramHeld
 pub mod PartsSpanned
-pub mod RulesMarked

@@ -1,21 +1,20 @@
 -- The premises and the constraints of a rule, element by element along their row.
 use Prim.Native.Nat.{ℕ, zero, suc, _+_, _-_, _<_, _≤_}
 use mathlib.Core.Path.{_≡_, refl, sym, ap, _∙_}
-use mathlib.Core.Bool.{Bool, true, false, not, _&&_}
+use mathlib.Core.Bool.{Bool, true, false, not}
 use mathlib.Core.List.{List, [], _∷_}
 use mathlib.Core.Logic.{⊎-elim}
 use native.Mathlib.Omega.{arith}
 use native.Mathlib.Numerals.{add-one}
-use borrow.Author.Tests.{lt-ltb, le-ltb, ltb-true, ltb-false, eq-eqb, ne-eqb}
-use lib.ListN.{length, getD}
-use lib.Dec.{ltb, eqb}
-use Rattle.theory.specs.Rule.{all, clear, mem, Rule, Program, count, rule, null, exception}
+use borrow.Author.Tests.{lt-ltb, ltb-true, ltb-false}
+use lib.ListN.{length}
+use lib.Dec.{ltb}
+use Rattle.theory.specs.Rule.{all, mem, Rule, Program, count, rule, null, exception}
 use Rattle.theory.proofs.Bools.{either}
 use Rattle.theory.proofs.Lists.{all-elem, mem-here, mem-there}
 use Rattle.theory.proofs.ListWalks.{Decides, whole-decides, not-tested, all-pass, one-fails, one-passes}
-use Rattle.items.specs.Item.{maxFacts, maxRules, has}
-use Rattle.tables.specs.Layout.{maxOwn, factsIn, rulesIn, premiseStart, constraintStart, premiseAt, constraintAt, listed, span, ruleIn, programIn, Spanned, WellFormed}
-use Rattle.tables.proofs.ProgramHeld.{facts-held, rule-held, known}
+use Rattle.tables.specs.Layout.{premiseStart, constraintStart, premiseAt, constraintAt, listed, span, ruleIn, programIn, Spanned, WellFormed}
+use Rattle.tables.proofs.ProgramHeld.{rule-held, known}
 
 pub span-cons : (row : ℕ → ℕ) (a b : ℕ) → a < b → span row a b ≡ row a ∷ span row (a + 1) b
 span-cons row a b h =

@@ -1,17 +1,14 @@
 -- The program that the tables hold, rule by rule.
 use Prim.Native.Nat.{ℕ, zero, suc, _+_, _-_, _<_, _≤_}
-use mathlib.Core.Path.{_≡_, refl, sym, ap, _∙_}
-use mathlib.Core.Bool.{Bool, true, false, not, _&&_}
-use mathlib.Core.List.{List, [], _∷_, map}
+use mathlib.Core.Path.{_≡_, refl, ap, _∙_}
+use mathlib.Core.List.{List, map}
 use native.Mathlib.Omega.{arith}
 use native.Mathlib.Nat.{add-zero, zero-add}
-use borrow.Author.Tests.{lt-ltb}
-use lib.ListN.{length, getD, length-map}
-use lib.Dec.{ltb}
-use Rattle.theory.specs.Rule.{all, range, upTo, Rule, Program, blank, count, rule, null, exception, Bounded}
-use Rattle.theory.proofs.Lists.{length-range, all-elem}
-use Rattle.items.specs.Item.{maxFacts, maxRules}
-use Rattle.tables.specs.Layout.{maxOwn, factsIn, rulesIn, premiseStart, constraintStart, premiseAt, constraintAt, listed, span, ruleIn, programIn, Spans, WellFormed}
+use lib.ListN.{getD, length-map}
+use Rattle.theory.specs.Rule.{range, upTo, Rule, blank, count, rule}
+use Rattle.theory.proofs.Lists.{length-range}
+use Rattle.items.specs.Item.{narrow, maxFacts, maxRules}
+use Rattle.tables.specs.Layout.{factsIn, rulesIn, ruleIn, programIn, WellFormed}
 
 -- its counts
 pub facts-held : (T : List ℕ) → programIn T .facts ≡ factsIn T
@@ -33,7 +30,7 @@ unfolding programIn
 rule-held T i h = mapped (ruleIn T) 0 (rulesIn T) i h ∙ ap (ruleIn T) (zero-add i)
 
 module _ {T : List ℕ} (w : WellFormed T) where
-  pub facts-below : programIn T .facts < maxFacts
+  pub facts-below : programIn T .facts < maxFacts narrow
   facts-below = rw (facts-held T) (w .facts-few)
 
   pub rules-below : count (programIn T) ≤ maxRules

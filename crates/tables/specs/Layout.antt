@@ -9,11 +9,11 @@ use mathlib.Core.Path.{_≡_}
 use mathlib.Core.List.{List, [], _∷_, map}
 use lib.ListN.{getD}
 use Rattle.theory.specs.Rule.{upTo, Rule, Program, Bounded}
-use Rattle.items.specs.Item.{maxFacts, maxRules, maxBytes, itemWidth}
+use Rattle.items.specs.Item.{narrow, maxFacts, itemWidth, maxRules, maxBytes}
 
 -- The most premises and constraints of all rules of a file together: each has an item of its own.
 abbrev pub maxOwn : ℕ
-maxOwn = suc maxBytes / itemWidth
+maxOwn = suc maxBytes / itemWidth narrow
 
 -- Where each part of the array begins.
 abbrev pub factsCell : ℕ
@@ -104,7 +104,7 @@ pub record Spans (start : ℕ → ℕ) (n : ℕ) : Type 0 where
 
 -- The tables hold a program within the limits of a file.
 pub record WellFormed (T : List ℕ) : Type 0 where
-  pub facts-few : factsIn T < maxFacts
+  pub facts-few : factsIn T < maxFacts narrow
   pub rules-few : rulesIn T ≤ maxRules
   pub premise-spans : Spans (premiseStart T) (rulesIn T)
   pub constraint-spans : Spans (constraintStart T) (rulesIn T)

@@ -1,3 +1,2 @@
 -- What only code and proofs use.
 pub mod Layout
-pub mod Marks

@@ -1,5 +1,4 @@
 // The tables of a program, and what a rule says of a set. Internal: every function answers for tables that hold a program.
 pub mod layout;
-pub mod marks;
 pub mod own;
 pub mod rule;

@@ -11,9 +11,9 @@ use lib.ListN.{length}
 use lib.Dec.{eqb}
 use Rattle.theory.specs.Rule.{all, mem, upTo, howMany, Program, Mask, FactSet, Sub, Same, adjoin, count, rule, Closed, Least}
 use Rattle.theory.specs.Walk.{picks, after}
-use Rattle.theory.specs.Derive.{ready, lowest, conclude, fired, derive}
+use Rattle.theory.specs.Derive.{ready, lowest, conclude, Fresh, fired, derive}
 use Rattle.theory.proofs.Bools.{never, and-left, and-right, and-both, or-left, or-right, or-cases, not-of-false, false-of-not, false-of, either, both-ways}
-use Rattle.theory.proofs.Lists.{eqb-self, Found, seek-some, seek-none, all-mono, upTo-mem, mem-upTo, length-range, howMany-le, howMany-less}
+use Rattle.theory.proofs.Lists.{eqb-self, mem-cases, Found, seek-some, seek-none, all-mono, upTo-mem, mem-upTo, length-range, howMany-le, howMany-less}
 use Rattle.theory.proofs.Walk as walk
 
 -- rule i is one that `derive` may take at S
@@ -125,6 +125,20 @@ module _ (P : Program) (on : Mask) where
   unfolding fired
   fired-trail S = picks-trail (count P) S
 
+  trail-fresh : (is : List ℕ) (S : FactSet) → Trail P on S is → Fresh P S is
+  trail-fresh [] S t = tt
+  trail-fresh (i ∷ is) S t = (t .0 .known, t .0 .conclusion-out, trail-fresh is (conclude P S i) (t .1))
+
+  pub fired-fresh : (S : FactSet) → Fresh P S (fired P on S)
+  fired-fresh S = trail-fresh (fired P on S) S (fired-trail S)
+
+  fresh-known : (is : List ℕ) (S : FactSet) → Fresh P S is → (i : ℕ) → mem i is ≡ true → i < count P
+  fresh-known [] S t i m = never m refl
+  fresh-known (j ∷ is) S t i m = ⊎-elim (λ e. rw e (t .0)) (fresh-known is (conclude P S j) (t .2) i) (mem-cases i j is m)
+
+  pub fired-known : (S : FactSet) (i : ℕ) → mem i (fired P on S) ≡ true → i < count P
+  fired-known S = fresh-known (fired P on S) S (fired-fresh S)
+
 -- larger sets and larger masks have larger least sets
 pub least-mono : (P : Program) (on on′ : Mask) (S S′ M M′ : FactSet) → ((i : ℕ) → i < count P → on i ≡ true → on′ i ≡ true) → Sub S S′ → Least P on S M → Least P on′ S′ M′ → Sub M M′
 least-mono P on on′ S S′ M M′ o s l l′ =
@@ -178,15 +192,22 @@ derive-facts P on S f = after-facts P (fired P on S) S f
 abbrev pub missing : ℕ → FactSet → ℕ
 missing n S = howMany (λ f. not (S f)) (upTo n)
 
+-- a fact that was not in S is missing no more once it is
+pub missing-less : (P : Program) (n : ℕ) (S : FactSet) (i : ℕ) → rule P i .conclusion < n → S (rule P i .conclusion) ≡ false → missing n (conclude P S i) < missing n S
+missing-less P n S i c out =
+    howMany-less (λ f. not (S f)) (λ f. not (conclude P S i f)) (upTo n)
+    (λ f h. out-below S (conclude P S i) f (adjoin-above S (rule P i .conclusion)) h)
+    (rule P i .conclusion) (upTo-mem n _ c) (not-of-false out) (rw (adjoin-has S (rule P i .conclusion)) refl)
+
 -- as many facts are missing less as rules were taken
 pub trail-length : (P : Program) (on : Mask) (n : ℕ) → ((i : ℕ) → i < count P → rule P i .conclusion < n) → (is : List ℕ) (S : FactSet) → Trail P on S is → length is + missing n (after (conclude P) S is) ≤ missing n S
 trail-length P on n b [] S t = omega arith
 trail-length P on n b (i ∷ is) S t =
     let r : length is + missing n (after (conclude P) (conclude P S i) is) ≤ missing n (conclude P S i) = trail-length P on n b is (conclude P S i) (t .1) in
-    let c : rule P i .conclusion < n = b i (t .0 .known) in
-    let l : missing n (conclude P S i) < missing n S =
-    howMany-less (λ f. not (S f)) (λ f. not (conclude P S i f)) (upTo n)
-    (λ f h. out-below S (conclude P S i) f (adjoin-above S (rule P i .conclusion)) h)
-    (rule P i .conclusion) (upTo-mem n _ c) (not-of-false (t .0 .conclusion-out)) (rw (adjoin-has S (rule P i .conclusion)) refl)
-    in
+    let l : missing n (conclude P S i) < missing n S = missing-less P n S i (b i (t .0 .known)) (t .0 .conclusion-out) in
     omega arith
+
+-- for the rules that fire
+pub fired-missing : (P : Program) (on : Mask) (S : FactSet) → ((i : ℕ) → i < count P → rule P i .conclusion < P .facts) → length (fired P on S) + missing (P .facts) (derive P on S) ≤ missing (P .facts) S
+unfolding derive
+fired-missing P on S b = trail-length P on (P .facts) b (fired P on S) S (fired-trail P on S)

@@ -1,13 +1,16 @@
 pub mod Examples
 pub mod Bools
 pub mod Lists
+pub mod ByKey
 pub mod ListWalks
 pub mod Walk
 pub mod Derive
 pub mod Grounds
 pub mod Run
+pub mod Barred
 pub mod RunStable
 pub mod Rows
+pub mod Counted
 pub mod Counts
 pub mod Order
 pub mod Stages

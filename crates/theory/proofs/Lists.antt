@@ -8,7 +8,7 @@ use mathlib.Core.List.{List, [], _∷_, _++_}
 use mathlib.Core.Logic.{_⊎_, inl, inr, ⊎-elim, _≢_}
 use mathlib.Core.Option.{Option, none, some}
 use borrow.Author.Tests.{eqb-true, eq-eqb}
-use lib.ListN.{length, getD}
+use lib.ListN.{length, getD, replicate}
 use lib.Dec.{eqb}
 use Rattle.theory.specs.Rule.{all, clear, any, mem, keep, seek, range, upTo, downFrom, howMany}
 use Rattle.theory.proofs.Bools.{either, never, and-left, and-right, and-both, or-left, or-right, or-cases, or-false-left, or-false-right, not-of-false, false-of-not, false-of, both-ways}
@@ -84,12 +84,6 @@ any-of p (y ∷ ys) x m h =
     (λ e. or-left (p y) _ (rw (← e) h))
     (λ e. or-right (p y) _ (any-of p ys x e h))
     (mem-cases x y ys m)
-
-pub any-ext : (p q : ℕ → Bool) (xs : List ℕ) → ((x : ℕ) → mem x xs ≡ true → p x ≡ q x) → any p xs ≡ any q xs
-any-ext p q xs h =
-    both-ways _ _
-    (λ a. any-of q xs (any-witness p xs a .0) (any-witness p xs a .1) (sym (h _ (any-witness p xs a .1)) ∙ any-witness p xs a .2))
-    (λ a. any-of p xs (any-witness q xs a .0) (any-witness q xs a .1) (h _ (any-witness q xs a .1) ∙ any-witness q xs a .2))
 
 pub all-append : (p : ℕ → Bool) (xs ys : List ℕ) → all p (xs ++ ys) ≡ all p xs && all p ys
 all-append p [] ys = refl
@@ -221,6 +215,11 @@ pub getD-mem : (xs : List ℕ) (k : ℕ) → k < length xs → mem (getD xs k 0)
 getD-mem [] k l = absurd (omega arith)
 getD-mem (x ∷ xs) zero l = mem-here x xs
 getD-mem (x ∷ xs) (suc k) l = mem-there _ x xs (getD-mem xs k (omega arith))
+
+pub zeros : (n i : ℕ) → _≡_ {A = ℕ} (getD (replicate n 0) i 0) 0
+zeros zero i = refl
+zeros (suc n) zero = refl
+zeros (suc n) (suc i) = zeros n i
 
 pub length-range : (a n : ℕ) → length (range a n) ≡ n
 length-range a zero = refl

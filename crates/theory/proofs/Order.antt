@@ -1,21 +1,22 @@
 -- For every stable set M, the run under the search's order for M ends at M and sets nothing aside (document 000, theorem 3.8).
-use Prim.Native.Nat.{ℕ, _<_}
+use Prim.Native.Nat.{ℕ, _-_, _<_}
 use mathlib.Core.Path.{_≡_, refl, sym, _∙_, fun-ext}
-use mathlib.Core.Bool.{true, false, not, _&&_}
-use mathlib.Core.List.{List, _++_}
+use mathlib.Core.Bool.{Bool, true, false, not, _&&_}
+use mathlib.Core.List.{List, [], _∷_, _++_}
 use mathlib.Core.Logic.{_⊎_, inl, inr, ⊎-elim}
 use mathlib.Core.Option.{Option, none, some}
 use borrow.Author.Tests.{lt-ltb, ltb-true}
-use lib.Dec.{ltb}
-use Rattle.theory.specs.Rule.{all, clear, mem, keep, seek, upTo, Program, Mask, FactSet, Sub, Same, null, nothing, count, rule, plain, exception, Closed, plainRules}
+use lib.Dec.{eqb, ltb}
+use Rattle.theory.specs.Rule.{all, clear, mem, keep, seek, upTo, Program, Mask, FactSet, Sub, Same, null, nothing, count, rule, plain, exception, Closed, plainRules, byKey, firstCase}
 use Rattle.theory.specs.Derive.{conclude}
 use Rattle.theory.specs.Run.{Stand, spares, trial, eligible, stage, firstEligible, run, setAside}
-use Rattle.theory.specs.Stable.{reduct, Stable, upheld, orderFor}
+use Rattle.theory.specs.Stable.{reduct, Stable, upheld, groupFor, orderGroups, orderFor}
 use Rattle.theory.proofs.Bools.{either, never, and-left, and-right, and-both, not-of-false, false-of-not, false-of, both-ways}
-use Rattle.theory.proofs.Lists.{seek-some, seek-none, seek-append, all-of, all-mono, clear-anti, mem-keep, mem-left, upTo-mem}
+use Rattle.theory.proofs.Lists.{seek-some, seek-none, seek-append, all-of, all-mono, clear-anti, mem-keep, upTo-mem}
 use Rattle.theory.proofs.Derive.{derive-below, adjoin-sub}
 use Rattle.theory.proofs.Run.{Sound, Eligible, eligible-parts, eligible-whole, exception-known, applied-cases, start-sound, stage-sound, trial-above, run-keeps, run-ends}
 use Rattle.theory.proofs.RunStable.{plain-clear}
+use Rattle.theory.proofs.Search.{order-names}
 
 -- a rule of the program is plain or an exception rule
 pub plain-or-exception : (P : Program) (i : ℕ) → i < count P → (plain P i ≡ true) ⊎ (exception P i ≡ true)
@@ -28,10 +29,10 @@ plain-or-exception P i k =
 
 module _ (P : Program) (on : Mask) (M : FactSet) (m : Stable P on M) where
   -- D is a part of M, and R is disjoint from M
-  record Inside (s : Stand) : Type 0 where
-    sound : Sound P on s
-    inside : Sub (s .derived) M
-    apart : (i : ℕ) → mem i (s .applied) ≡ true → clear M (rule P i .constraints) ≡ true
+  pub record Inside (s : Stand) : Type 0 where
+    pub sound : Sound P on s
+    pub inside : Sub (s .derived) M
+    pub apart : (i : ℕ) → mem i (s .applied) ≡ true → clear M (rule P i .constraints) ≡ true
 
   -- M is closed under the plain rules in force
   closed-plain : Closed P (plainRules P on) M
@@ -87,22 +88,59 @@ module _ (P : Program) (on : Mask) (M : FactSet) (m : Stable P on M) where
           held : upheld P on M i ≡ true
           held = and-both (and-left (on i) _ r) (and-both (all-mono (s .derived) M (rule P i .premises) (v .inside) p) (and-right (on i) _ r))
 
-  first : List ℕ
-  first = keep (λ i. exception P i && upheld P on M i) (upTo (count P))
+  -- An order that names every upheld exception rule, and whose first eligible rule is always upheld.
+  module _ (order : List ℕ) (names : (i : ℕ) → exception P i ≡ true → upheld P on M i ≡ true → mem i order ≡ true) (takes : (s : Stand) (i : ℕ) → Inside s → firstEligible P on order s ≡ some i → upheld P on M i ≡ true) where
+    stage-inside : (s : Stand) (i : ℕ) → Inside s → firstEligible P on order s ≡ some i → Inside (stage P on s i)
+    stage-inside s i v e =
+        record {
+          sound = stage-sound P on s i (v .sound) t;
+          inside = trial-inside (s .derived) i (v .inside) (exception-known P on i (t .excepted)) u;
+          apart = λ j a. ⊎-elim (λ h. v .apart j h) (λ q. rw q (and-right (all M (rule P i .premises)) _ (and-right (on i) _ u))) (applied-cases P on (s .applied) i j a);
+        }
+      where
+        t : Eligible P on s i
+        t = eligible-parts P on s i (seek-some (eligible P on s) order i e .passes)
 
-  second : List ℕ
-  second = keep (λ i. exception P i && not (upheld P on M i)) (upTo (count P))
+        u : upheld P on M i ≡ true
+        u = takes s i v e
+
+    end-inside : Inside (run P on order)
+    end-inside =
+        run-keeps P on order Inside
+        (record { sound = start-sound P on; inside = derive-below P (plainRules P on) nothing M (λ f t. never t refl) closed-plain; apart = λ i a. never a refl })
+        stage-inside
+
+    -- The run under it ends at M.
+    pub ends-at : Same (run P on order .derived) M
+    ends-at =
+        reached (run P on order) end-inside
+        (λ i x u. seek-none (eligible P on (run P on order)) order (run-ends P on order) i (names i x u))
+
+  -- the upheld exception rules are the first group of the order for M
+  first : List ℕ
+  first = keep (λ i. exception P i && eqb (groupFor P on M i) 0) (upTo (count P))
+
+  later : List ℕ
+  later = byKey (exception P) (groupFor P on M) (count P) 1 (orderGroups - 1)
+
+  first-upheld : (i : ℕ) → eqb (groupFor P on M i) 0 ≡ upheld P on M i
+  first-upheld i = go (upheld P on M i)
+    where
+      go : (u : Bool) → eqb (firstCase ((u, 0) ∷ []) 1) 0 ≡ u
+      go true = refl
+      go false = refl
 
   first-member : (i : ℕ) → exception P i ≡ true → upheld P on M i ≡ true → mem i first ≡ true
   unfolding first
   first-member i x u =
-      rw (mem-keep (λ j. exception P j && upheld P on M j) (upTo (count P)) i)
-      (and-both (upTo-mem (count P) i (exception-known P on i x)) (and-both x u))
+      rw (mem-keep (λ j. exception P j && eqb (groupFor P on M j) 0) (upTo (count P)) i)
+      (and-both (upTo-mem (count P) i (exception-known P on i x)) (and-both x (first-upheld i ∙ u)))
 
   member-first : (i : ℕ) → mem i first ≡ true → upheld P on M i ≡ true
   unfolding first
   member-first i e =
-      and-right (exception P i) _ (and-right (mem i (upTo (count P))) _ (rw (mem-keep (λ j. exception P j && upheld P on M j) (upTo (count P)) i) at e))
+      sym (first-upheld i)
+      ∙ and-right (exception P i) _ (and-right (mem i (upTo (count P))) _ (rw (mem-keep (λ j. exception P j && eqb (groupFor P on M j) 0) (upTo (count P)) i) at e))
 
   -- where no rule of the first group is eligible, none is
   none-left : (s : Stand) → Inside s → ((i : ℕ) → mem i first ≡ true → eligible P on s i ≡ false) → (i : ℕ) → eligible P on s i ≡ true → ⊥
@@ -119,42 +157,20 @@ module _ (P : Program) (on : Mask) (M : FactSet) (m : Stable P on M) where
       grown f h = trial-above P on (s .derived) i f (reached s v (λ j x u. n j (first-member j x u)) f ∙ h)
 
   -- the rule that a stage takes is of the first group
-  taken-upheld : (s : Stand) (i : ℕ) → Inside s → firstEligible P on (first ++ second) s ≡ some i → upheld P on M i ≡ true
+  taken-upheld : (s : Stand) (i : ℕ) → Inside s → firstEligible P on (orderFor P on M) s ≡ some i → upheld P on M i ≡ true
+  unfolding orderFor first later
   taken-upheld s i v e = go (seek (eligible P on s) first) refl
     where
       go : (o : Option ℕ) → seek (eligible P on s) first ≡ o → upheld P on M i ≡ true
-      go none q = absurd (none-left s v (seek-none (eligible P on s) first q) i (seek-some (eligible P on s) (first ++ second) i e .passes))
+      go none q = absurd (none-left s v (seek-none (eligible P on s) first q) i (seek-some (eligible P on s) (first ++ later) i e .passes))
       go (some j) q =
-          let r : some j ≡ some i = sym (seek-append (eligible P on s) first second j q) ∙ e in
+          let r : some j ≡ some i = sym (seek-append (eligible P on s) first later j q) ∙ e in
           let w : j ≡ i = cc in
           rw (← w) (member-first j (seek-some (eligible P on s) first j q .element))
 
-  stage-inside : (s : Stand) (i : ℕ) → Inside s → firstEligible P on (first ++ second) s ≡ some i → Inside (stage P on s i)
-  stage-inside s i v e =
-      record {
-        sound = stage-sound P on s i (v .sound) t;
-        inside = trial-inside (s .derived) i (v .inside) (exception-known P on i (t .excepted)) u;
-        apart = λ j a. ⊎-elim (λ h. v .apart j h) (λ q. rw q (and-right (all M (rule P i .premises)) _ (and-right (on i) _ u))) (applied-cases P on (s .applied) i j a);
-      }
-    where
-      t : Eligible P on s i
-      t = eligible-parts P on s i (seek-some (eligible P on s) (first ++ second) i e .passes)
-
-      u : upheld P on M i ≡ true
-      u = taken-upheld s i v e
-
-  end-inside : Inside (run P on (first ++ second))
-  end-inside =
-      run-keeps P on (first ++ second) Inside
-      (record { sound = start-sound P on; inside = derive-below P (plainRules P on) nothing M (λ f t. never t refl) closed-plain; apart = λ i a. never a refl })
-      stage-inside
-
   -- The run under the order for M ends at M.
   pub order-reaches : Same (run P on (orderFor P on M) .derived) M
-  unfolding orderFor first second
-  order-reaches =
-      reached (run P on (first ++ second)) end-inside
-      (λ i x u. seek-none (eligible P on (run P on (first ++ second))) (first ++ second) (run-ends P on (first ++ second)) i (mem-left i first second (first-member i x u)))
+  order-reaches = ends-at (orderFor P on M) (λ i x u. order-names P on M i x (and-left (on i) _ u)) taken-upheld
 
   -- A set that is stable leaves no rule to be set aside.
   pub stable-none-aside : (i : ℕ) → setAside P on M i ≡ false

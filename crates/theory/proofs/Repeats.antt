@@ -11,12 +11,12 @@ use mathlib.Core.Option.{Option, none, some}
 use borrow.Author.Tests.{eqb-true}
 use lib.ListN.{take, length-map, List·getD-map, List·getD-eq-default}
 use lib.Dec.{eqb, ltb}
-use Rattle.theory.specs.Rule.{all, any, clear, mem, keep, seek, upTo, downFrom, howMany, Rule, Program, Mask, FactSet, nothing, adjoin, count, rule, blank, null, plain, exception, constraintFact, Step, Closed, Least, plainRules, Alike}
+use Rattle.theory.specs.Rule.{all, any, clear, mem, keep, seek, upTo, downFrom, howMany, Rule, Program, Mask, FactSet, nothing, adjoin, count, rule, blank, null, plain, exception, constraintFact, Step, Closed, Least, plainRules, Alike, byKey, firstCase}
 use Rattle.theory.specs.Walk.{picks, after}
 use Rattle.theory.specs.Derive.{lowest, conclude, fired, derive, stepBy, steps, closure}
 use Rattle.theory.specs.Run.{Stand, rejected, spares, trial, eligible, stage, start, run, setAside, factMark, ruleMark, factMarks, ruleMarks}
 use Rattle.theory.specs.Check.{leastOf, isStable, stepHolds, stepsHold, rowClear, endsWith, isProof}
-use Rattle.theory.specs.Stable.{reduct, Stable, stepAt, factsOf, Proof, Admits, Earlier, Earliest, upheld, orderFor}
+use Rattle.theory.specs.Stable.{reduct, Stable, stepAt, factsOf, Proof, Admits, Earlier, Earliest, upheld, orderGroups, orderFor}
 use Rattle.theory.specs.Search.{guessed, fits, hunt, search}
 use Rattle.theory.specs.Repeats.{once, withoutRepeats}
 use Rattle.theory.proofs.Bools.{either, never, both-ways}
@@ -177,7 +177,8 @@ module _ {P Q : Program} (a : Alike P Q) where
 
   pub alike-ruleMark : (on : Mask) → ruleMark P on ≡ ruleMark Q on
   unfolding ruleMark
-  alike-ruleMark on t s i = cond (alike-plain t i) 0 (cond (mem i (s .applied)) 1 (cond (alike-aside on t (s .derived) i) 2 3))
+  alike-ruleMark on t s i =
+      firstCase ((alike-plain t i, 0) ∷ (mem i (s .applied), 1) ∷ (alike-aside on t (s .derived) i, 2) ∷ []) 3
 
   pub alike-factMarks : (s : Stand) → factMarks P s ≡ factMarks Q s
   alike-factMarks s t = map (alike-factMark t s) (upTo (a .same-facts t))
@@ -223,8 +224,7 @@ module _ {P Q : Program} (a : Alike P Q) where
   pub alike-orderFor : (on : Mask) (M : FactSet) → orderFor P on M ≡ orderFor Q on M
   unfolding orderFor
   alike-orderFor on M t =
-      keep (λ i. alike-exception t i && upheld-alike i t) (upTo (a .same-count t))
-      ++ keep (λ i. alike-exception t i && not (upheld-alike i t)) (upTo (a .same-count t))
+      byKey (alike-exception t) (λ i. firstCase ((upheld-alike i t, 0) ∷ []) 1) (a .same-count t) 0 orderGroups
     where
       upheld-alike : (i : ℕ) → upheld P on M i ≡ upheld Q on M i
       upheld-alike i t = on i && (premises-alike M i t && constraints-alike M i t)

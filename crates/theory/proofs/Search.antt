@@ -6,17 +6,19 @@ use mathlib.Core.Bool.{Bool, true, false, cond, _&&_, Bool·beq}
 use mathlib.Core.List.{List, [], _∷_}
 use mathlib.Core.Logic.{_⊎_, inl, inr, ⊎-elim, _↔_}
 use mathlib.Core.Option.{Option, none, some}
-use borrow.Author.Tests.{eqb-true, ltb-true}
+use borrow.Author.Tests.{eqb-true}
 use lib.ListN.{length}
-use lib.Dec.{eqb, ltb}
-use Rattle.theory.specs.Rule.{mem, keep, upTo, downFrom, howMany, Program, Mask, FactSet, Same, nothing, adjoin, count, rule, exception, constraintFact, Bounded}
+use lib.Dec.{eqb}
+use Rattle.theory.specs.Rule.{mem, keep, upTo, downFrom, howMany, Program, Mask, FactSet, Same, nothing, adjoin, count, exception, constraintFact, Bounded}
 use Rattle.theory.specs.Check.{leastOf}
-use Rattle.theory.specs.Stable.{reduct, Stable, Earlier, Earliest, anySet, upheld, orderFor}
+use Rattle.theory.specs.Stable.{reduct, Stable, Earlier, Earliest, anySet, upheld, groupFor, orderGroups, orderFor}
 use Rattle.theory.specs.Search.{guessed, fits, hunt, search}
 use Rattle.theory.specs.Chaining.{Names}
-use Rattle.theory.proofs.Bools.{either, never, and-left, and-right, and-both, and-true, and-false, or-left, or-false, or-false-left, or-false-right, false-of, beq-true, beq-refl}
-use Rattle.theory.proofs.Lists.{all-elem, all-of, mem-cases, mem-here, mem-there, mem-keep, mem-downFrom, downFrom-mem, howMany-ext, howMany-split, howMany-keep, howMany-every, howMany-none, howMany-upTo}
+use Rattle.theory.proofs.Bools.{either, never, and-left, and-right, and-both, and-true, or-left, or-false, or-false-left, or-false-right, false-of, beq-true, beq-refl}
+use Rattle.theory.proofs.Lists.{all-elem, all-of, mem-cases, mem-here, mem-there, mem-keep, mem-downFrom, downFrom-mem}
+use Rattle.theory.proofs.ByKey.{case-below, key-once, key-only, key-length, key-names}
 use Rattle.theory.proofs.Derive.{adjoin-has}
+use Rattle.theory.proofs.Run.{exception-known}
 use Rattle.theory.proofs.Stable.{Agree, constraint-below, least-mask, reduct-agrees, leastOf-least, leastOf-same, leastOf-agrees, stable-agree}
 
 -- each number of the list is below those before it
@@ -339,44 +341,25 @@ module _ (P : Program) (on : Mask) where
       go e (some N) q = let n : N ≡ M = fun-ext (earliest-unique anySet N M (search-earliest b N q) e) in rw n at q
       go e none q = absurd (search-none b q M (e .stable))
 
-  exception-known : (r : ℕ) → exception P r ≡ true → r < count P
-  unfolding exception
-  exception-known r e = ltb-true r (count P) (and-left _ _ e)
-
-  -- The search's order has, of each number, what the ascending row of the exception rules has.
-  order-counts : (p : ℕ → Bool) (M : FactSet) → howMany p (orderFor P on M) ≡ howMany p (keep (exception P) (upTo (count P)))
-  unfolding orderFor
-  order-counts p M = sym (howMany-split p (exception P) (upheld P on M) (upTo (count P)))
+  -- every rule is of one of the groups of the order
+  group-below : (M : FactSet) (i : ℕ) → groupFor P on M i < orderGroups
+  group-below M i = case-below orderGroups ((upheld P on M i, 0) ∷ []) 1 refl (omega arith)
 
   -- It names each exception rule once, and no other.
   pub order-once : (M : FactSet) (r : ℕ) → exception P r ≡ true → howMany (eqb r) (orderFor P on M) ≡ 1
-  order-once M r e =
-      order-counts (eqb r) M
-      ∙ howMany-keep (eqb r) (exception P) (upTo (count P))
-      ∙ howMany-ext (λ i. exception P i && eqb r i) (eqb r) (upTo (count P)) (λ i m. same i (either (eqb r i)))
-      ∙ howMany-upTo (count P) r (exception-known r e)
-    where
-      same : (i : ℕ) → (eqb r i ≡ true) ⊎ (eqb r i ≡ false) → exception P i && eqb r i ≡ eqb r i
-      same i (inl q) = rw (← eqb-true r i q, e) refl
-      same i (inr q) = rw q (and-false (exception P i))
+  unfolding orderFor
+  order-once M r e = key-once (exception P) (groupFor P on M) (count P) orderGroups (group-below M) r (exception-known P on r e) e
 
   pub order-only : (M : FactSet) (r : ℕ) → exception P r ≡ false → howMany (eqb r) (orderFor P on M) ≡ 0
-  order-only M r e =
-      order-counts (eqb r) M
-      ∙ howMany-none (eqb r) (keep (exception P) (upTo (count P)))
-      (false-of (mem r (keep (exception P) (upTo (count P)))) (λ m. never (and-right (mem r (upTo (count P))) _ (sym (mem-keep (exception P) (upTo (count P)) r) ∙ m)) e))
+  unfolding orderFor
+  order-only M r e = key-only (exception P) (groupFor P on M) (count P) orderGroups (group-below M) r e
 
   -- It is as long as there are exception rules.
   pub order-length : (M : FactSet) → length (orderFor P on M) ≡ howMany (exception P) (upTo (count P))
-  order-length M =
-      sym (howMany-every (orderFor P on M))
-      ∙ order-counts (λ _. true) M
-      ∙ howMany-keep (λ _. true) (exception P) (upTo (count P))
-      ∙ howMany-ext (λ i. exception P i && true) (exception P) (upTo (count P)) (λ i m. and-true (exception P i))
+  unfolding orderFor
+  order-length M = key-length (exception P) (groupFor P on M) (count P) orderGroups (group-below M)
 
   -- It names every exception rule in force.
   pub order-names : (M : FactSet) → Names P on (orderFor P on M)
-  order-names M c e o =
-      ⊎-elim (λ t. t)
-      (λ t. let z : howMany (eqb c) (orderFor P on M) ≡ 0 = howMany-none (eqb c) (orderFor P on M) t in let w : howMany (eqb c) (orderFor P on M) ≡ 1 = order-once M c e in absurd (omega arith))
-      (either (mem c (orderFor P on M)))
+  unfolding orderFor
+  order-names M r e o = key-names (exception P) (groupFor P on M) (count P) orderGroups (group-below M) r (exception-known P on r e) e

@@ -2,7 +2,7 @@
 use Prim.Native.Nat.{ℕ}
 use mathlib.Core.Bool.{cond}
 use mathlib.Core.List.{List, [], _∷_, map}
-use Rattle.theory.specs.Rule.{mem, Program, rule}
+use Rattle.theory.specs.Rule.{mem, Program}
 
 -- each element once, where it stands last
 abbrev pub once : List ℕ → List ℕ

@@ -2,7 +2,7 @@
 -- over lists that the definitions use.
 use Prim.Native.Nat.{ℕ, zero, suc, _<_}
 use mathlib.Core.Bool.{Bool, true, false, cond, not, _&&_, _||_}
-use mathlib.Core.List.{List, [], _∷_}
+use mathlib.Core.List.{List, [], _∷_, _++_}
 use mathlib.Core.Option.{Option, none, some}
 use lib.Dec.{eqb, ltb}
 use mathlib.Core.Path.{_≡_}
@@ -53,6 +53,16 @@ downFrom (suc n) = n ∷ downFrom n
 abbrev pub howMany : (ℕ → Bool) → List ℕ → ℕ
 howMany p [] = 0
 howMany p (x ∷ xs) = cond (p x) (suc (howMany p xs)) (howMany p xs)
+
+-- The numbers below m that pass the test, by key: for each of the n keys from p on, in turn, those that have it, ascending.
+abbrev pub byKey : (ℕ → Bool) → (ℕ → ℕ) → ℕ → ℕ → ℕ → List ℕ
+byKey test key m p zero = []
+byKey test key m p (suc n) = keep (λ i. test i && eqb (key i) p) (upTo m) ++ byKey test key m (suc p) n
+
+-- The number of the first case whose test holds; where none does, the other number.
+abbrev pub firstCase : List (Bool × ℕ) → ℕ → ℕ
+firstCase [] other = other
+firstCase (c ∷ cases) other = cond (c .0) (c .1) (firstCase cases other)
 
 -- One conclusion, any number of premises, any number of constraints: all facts, by number.
 pub record Rule : Type 0 where

@@ -5,7 +5,7 @@ use mathlib.Core.List.{List, [], _∷_, _++_, map}
 use mathlib.Core.Option.{Option}
 use lib.ListN.{length}
 use lib.Dec.{ltb}
-use Rattle.theory.specs.Rule.{all, any, clear, mem, seek, upTo, Program, Mask, FactSet, nothing, count, rule, plain, exception, Step, plainRules}
+use Rattle.theory.specs.Rule.{all, any, clear, mem, seek, upTo, Program, Mask, FactSet, nothing, count, rule, plain, exception, Step, plainRules, firstCase}
 use Rattle.theory.specs.Walk.{picks, after}
 use Rattle.theory.specs.Derive.{stepBy, conclude, closure, steps}
 
@@ -75,12 +75,15 @@ kept P on D i = on i && not (setAside P on D i)
 unfoldable pub factMark : Program → Stand → ℕ → ℕ
 factMark P s f = cond (s .derived f) 1 (cond (rejected P (s .applied) f) 2 0)
 
--- Rule marks: 0 plain, 1 applied at a stage, 2 set aside, 3 other.
+-- Rule marks (document 01): "0 plain, 1 applied at a stage, 2 set aside, 3 other".
 unfoldable pub ruleMark : Program → Mask → Stand → ℕ → ℕ
 ruleMark P on s i =
-    cond (plain P i) 0
-    (cond (mem i (s .applied)) 1
-    (cond (setAside P on (s .derived) i) 2 3))
+    firstCase
+    ((plain P i, 0)
+    ∷ (mem i (s .applied), 1)
+    ∷ (setAside P on (s .derived) i, 2)
+    ∷ [])
+    3
 
 abbrev pub factMarks : Program → Stand → List ℕ
 factMarks P s = map (factMark P s) (upTo (P .facts))

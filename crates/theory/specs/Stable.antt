@@ -2,9 +2,9 @@
 -- stable set (document 01, "The search").
 use Prim.Native.Nat.{ℕ, _≤_, _<_, _-_}
 use mathlib.Core.Path.{_≡_}
-use mathlib.Core.Bool.{Bool, false, _&&_, true, cond, not}
-use Rattle.theory.specs.Rule.{all, clear, upTo, mem, Program, Mask, FactSet, nothing, rule, Rule, count, Same, constraintFact, Least, Step, keep, exception}
-use mathlib.Core.List.{List, [], _∷_, map, _++_}
+use mathlib.Core.Bool.{Bool, false, _&&_, true, cond}
+use Rattle.theory.specs.Rule.{all, clear, mem, Program, Mask, FactSet, nothing, rule, Rule, count, Same, constraintFact, Least, Step, exception, byKey, firstCase}
+use mathlib.Core.List.{List, [], _∷_, map}
 use lib.ListN.{length, getD, take}
 use lib.Dec.{eqb}
 use mathlib.Core.Logic.{_⊎_}
@@ -78,8 +78,19 @@ anySet M = true
 abbrev pub upheld : Program → Mask → FactSet → ℕ → Bool
 upheld P on M i = on i && (all M (rule P i .premises) && clear M (rule P i .constraints))
 
--- The search's order: ascending, the exception rules with premises in M and no constraint in M, then the others ascending.
+-- The group of a rule in the search's order: 0 upheld, 1 the others.
+abbrev pub groupFor : Program → Mask → FactSet → ℕ → ℕ
+groupFor P on M i =
+    firstCase
+    ((upheld P on M i, 0)
+    ∷ [])
+    1
+
+-- How many groups there are.
+abbrev pub orderGroups : ℕ
+orderGroups = 2
+
+-- The search's order (document 01) "names, ascending, the exception rules with premises in M and no constraint in M, then the others
+-- ascending".
 unfoldable pub orderFor : Program → Mask → FactSet → List ℕ
-orderFor P on M =
-    keep (λ i. exception P i && upheld P on M i) (upTo (count P))
-    ++ keep (λ i. exception P i && not (upheld P on M i)) (upTo (count P))
+orderFor P on M = byKey (exception P) (groupFor P on M) (count P) 0 orderGroups

@@ -3,11 +3,9 @@
 ghost use mathlib.Core.Path.{_≡_};
 ghost use lib.ListN.{length};
 
-mod call;
-mod read;
 mod report;
 
-use read::NEXT;
+use replay::read::NEXT;
 use report::COUNTS;
 
 // More than the file of cases has. What is past its end is 0, and ends it.
@@ -19,17 +17,17 @@ fn try_all(bytes: &[u8], counts: &mut [u32; COUNTS]) -> usize {
     let mut file: usize = 0;
     let mut turns: u32 = 65536;
     while turns > 0 {
-        let head = read::row(bytes, at);
+        let head = replay::read::row(bytes, at);
         if head.len() == 0 {
             return at;
         }
-        let places = read::places(bytes, at);
-        if read::number(head, 2) == 0 {
+        let places = replay::read::places(bytes, at);
+        if replay::read::number(head, 2) == 0 {
             file = places[2];
         }
-        let same = call::agrees(bytes, places, file);
-        report::verdict(read::row(bytes, places[1]), at, same);
-        let mut k = 2 * (read::number(head, 0) as usize);
+        let same = replay::call::agrees(bytes, places, file);
+        report::verdict(replay::read::row(bytes, places[1]), at, same);
+        let mut k = 2 * (replay::read::number(head, 0) as usize);
         if !same {
             k += 1;
         }

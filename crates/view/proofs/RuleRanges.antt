@@ -1,14 +1,12 @@
 -- The range of a rule by the tables has the rule's premises and constraints in the file.
-use Prim.Native.Nat.{ℕ, zero, suc, _+_, _-_, _*_, _<_, _≤_}
+use Prim.Native.Nat.{ℕ, zero, suc, _+_, _-_, _*_, _<_}
 use mathlib.Core.Path.{_≡_, refl, sym, ap, ap₂, subst, _∙_}
-use mathlib.Core.List.{List, []}
-use native.Mathlib.Omega.{arith}
+use mathlib.Core.List.{List}
 use lib.ListN.{length}
 use Rattle.theory.specs.Rule.{Rule, Program, count, rule}
-use Rattle.items.specs.Item.{itemWidth, maxBytes}
-use Rattle.items.specs.Cursor.{itemsAt, bodyAt}
-use Rattle.tables.specs.Layout.{maxOwn, placeIn, listed, span, programIn, Spanned}
-use Rattle.reader.specs.Questions.{premisesOf, constraintsOf, programOf}
+use Rattle.items.specs.Item.{narrow, itemWidth}
+use Rattle.tables.specs.Layout.{placeIn, listed, programIn, Spanned}
+use Rattle.reader.specs.Questions.{programOf}
 use Rattle.reader.specs.Scanned.{OwnAt, Tabled}
 use Rattle.view.specs.declared.range.Range.{Range}
 use Rattle.view.specs.View.{endOf, endAt, OwnRange}
@@ -21,11 +19,11 @@ length-listed row a (suc n) = ap suc (length-listed row (suc a) n)
 counted : {facts : ℕ} {row : ℕ → ℕ} {elements : List ℕ} {from end : ℕ} → Spanned facts row elements from end → length elements ≡ end - from
 counted {row = row} {from = from} {end} s = ap length (s .is) ∙ length-listed row from (end - from)
 
-pub own-range : {T : List ℕ} {i : ℕ} {r : Range} {n m : ℕ} {a b : ℕ → ℕ} {p e k l : ℕ} → Spanned n a (rule (programIn T) i .premises) p e → Spanned m b (rule (programIn T) i .constraints) k l → (r .at ≡ placeIn T i) × (r .end ≡ placeIn T i + itemWidth * ((e - p) + (l - k))) → OwnRange T i r
+pub own-range : {T : List ℕ} {i : ℕ} {r : Range} {n m : ℕ} {a b : ℕ → ℕ} {p e k l : ℕ} → Spanned n a (rule (programIn T) i .premises) p e → Spanned m b (rule (programIn T) i .constraints) k l → (r .at ≡ placeIn T i) × (r .end ≡ placeIn T i + itemWidth narrow * ((e - p) + (l - k))) → OwnRange T i r
 own-range {T} {i} x y q =
     record {
       begins = q .0;
-      ends = q .1 ∙ ap₂ (λ (u v : ℕ). placeIn T i + itemWidth * (u + v)) (sym (counted x)) (sym (counted y));
+      ends = q .1 ∙ ap₂ (λ (u v : ℕ). placeIn T i + itemWidth narrow * (u + v)) (sym (counted x)) (sym (counted y));
     }
 
 -- Where the tables are those of the file.

@@ -6,9 +6,9 @@ use mathlib.Core.List.{List, [], _∷_}
 use lib.ListN.{length}
 use lib.Dec.{ltb}
 use Rattle.theory.specs.Rule.{rule}
-use Rattle.items.specs.declared.item.Item.the-variants.{Facts, Opens, Premise, Constraint, Rules, Names, Step}
-use Rattle.items.specs.Item.{itemWidth}
-use Rattle.items.specs.Cursor.{Token, item, bad, itemsAt, bodyAt}
+use Rattle.items.specs.declared.item.FactId.{FactId}
+use Rattle.items.specs.Item.{narrow, Sign, asksIn, asksOut, classOf, whereSaid, itemWidth}
+use Rattle.cursors.specs.Cursor.{Token, item, bad, itemsAt, bodyAt}
 use Rattle.tables.specs.Layout.{placeIn, programIn}
 use Rattle.reader.specs.Questions.{premisesOf, constraintsOf}
 use Rattle.view.specs.declared.range.Own.{Own}
@@ -18,7 +18,7 @@ use Rattle.view.specs.declared.range.Range.{Range}
 
 -- The place where these premises and constraints end that stand one after another from a place on.
 abbrev pub endOf : ℕ → List ℕ → List ℕ → ℕ
-endOf at premises constraints = at + itemWidth * (length premises + length constraints)
+endOf at premises constraints = at + itemWidth narrow * (length premises + length constraints)
 
 -- Where those end that the file has from a place on, before an item of another kind.
 unfoldable pub endAt : List ℕ → ℕ → ℕ
@@ -29,17 +29,16 @@ pub record OwnRange (T : List ℕ) (i : ℕ) (r : Range) : Type 0 where
   pub begins : r .at ≡ placeIn T i
   pub ends : r .end ≡ endOf (placeIn T i) (rule (programIn T) i .premises) (rule (programIn T) i .constraints)
 
+-- An item of a rule's own, by what it asks of its fact.
+abbrev pub ownBy : Sign → FactId → Own
+ownBy asksIn f = own.Premise f
+ownBy asksOut f = own.Constraint f
+
 -- What the first of these items is to a rule.
 abbrev pub ownOf : List Token → Own
 ownOf [] = own.Ended
 ownOf (bad fault ∷ ts) = own.Ended
-ownOf (item (Premise f) ∷ ts) = own.Premise f
-ownOf (item (Constraint f) ∷ ts) = own.Constraint f
-ownOf (item (Facts n) ∷ ts) = own.Ended
-ownOf (item (Opens f) ∷ ts) = own.Ended
-ownOf (item (Rules n) ∷ ts) = own.Ended
-ownOf (item (Names r) ∷ ts) = own.Ended
-ownOf (item (Step f r) ∷ ts) = own.Ended
+ownOf (item i ∷ ts) = whereSaid (classOf i .own) (λ o. ownBy (o .sign) (o .fact)) own.Ended
 
 -- The premise or constraint at the front of a range; none where the range is empty.
 unfoldable pub ownAt : List ℕ → ℕ → ℕ → Own
@@ -47,8 +46,8 @@ ownAt s at end = cond (ltb at end) (ownOf (itemsAt s (bodyAt at))) own.Ended
 
 -- The place past an item of a rule's own, the end of the range where there is none.
 abbrev pub pastOwn : Own → ℕ → ℕ → ℕ
-pastOwn (own.Premise f) at end = at + itemWidth
-pastOwn (own.Constraint f) at end = at + itemWidth
+pastOwn (own.Premise f) at end = at + itemWidth narrow
+pastOwn (own.Constraint f) at end = at + itemWidth narrow
 pastOwn own.Ended at end = end
 
 -- The item at the front of a range, and where what is left begins.

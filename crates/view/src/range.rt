@@ -2,12 +2,12 @@
 ghost use Prim.Native.Nat.{_+_, _*_, _<_, _≤_};
 ghost use mathlib.Core.Path.{_≡_};
 ghost use Rattle.theory.specs.Rule.{count};
-ghost use Rattle.items.specs.Item.{itemWidth};
+ghost use Rattle.items.specs.Item.{narrow, itemWidth};
 ghost use Rattle.tables.specs.Layout.{maxOwn, programIn, WellFormed};
 ghost use Rattle.view.specs.View.{OwnRange, takenAt};
-use items::cursor::Cursor;
-use items::cursor::Read;
-use items::cursor::Row;
+use cursors::cursor::Cursor;
+use cursors::cursor::Read;
+use cursors::cursor::Row;
 use items::item::FactId;
 use items::item::ITEM_WIDTH;
 use items::item::Item;
@@ -39,7 +39,7 @@ pub struct Range {
 // The range that begins at a place and has so many items.
 fn range_at(place: u16, items: usize) -> Range
     requires { ⌜ items ≤ maxOwn + maxOwn ⌝ }
-    ensures { λ r. ⌜ (r .at ≡ place) × (r .end ≡ place + itemWidth * items) ⌝ }
+    ensures { λ r. ⌜ (r .at ≡ place) × (r .end ≡ place + itemWidth narrow * items) ⌝ }
 {
     let at = place as usize;
     Range {

@@ -5,15 +5,16 @@ use native.Mathlib.Omega.{arith}
 use lib.ListN.{length, take, length-replicate}
 use lib.Seq.{length-take-le}
 use denote.Ref.{now}
-use Rattle.panel_text.specs.Text.{panelText, textRoom}
+use Rattle.panel_lines.specs.Text.{panelText, textRoom}
 use Rattle.panel_text.proofs.TextShown.{front-text}
 use borrow.Author.Needs.{needs}
 use Rattle.panel_text.proofs.render.Statement.{statement}
 use Rattle.panel_text.proofs.render.Tie as tie
+use Rattle.items.specs.Item.{narrow}
 
 -- the text lies inside the room, at its front
 inside : (c : tie.After-put-text) → c .put-text .result ≤ length (c .put-text .last .1 .0)
-inside c = omega (arith, c .put-text .ensures .1, c .put-text .kept .1 .0, length-replicate {A = ℕ} textRoom 0)
+inside c = omega (arith, c .put-text .ensures .1, c .put-text .kept .1 .0, length-replicate {A = ℕ} (textRoom narrow) 0)
 
 text : (c : tie.After-put-text) → take (c .put-text .result) (c .put-text .last .1 .0) ≡ panelText (now (c .before .before .before .before .args .file))
 text c = front-text _ _ _ _ (c .put-text .ensures .0)

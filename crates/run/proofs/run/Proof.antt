@@ -3,6 +3,7 @@ use mathlib.Core.Path.{sym, _∙_}
 use borrow.Author.Needs.{needs}
 use denote.Ref.{now}
 use Rattle.tables.specs.Layout.{programIn}
+use Rattle.tables.proofs.ProgramHeld.{rules-below}
 use Rattle.questions.proofs.OperationAsked.{Passed, scan-passed}
 use Rattle.run.proofs.Outcomes.{outcome-refused, outcome-written, run-answered}
 use Rattle.run.proofs.RunAsked.{may-run, run-file-no, run-no, run-yes, run-there}
@@ -33,7 +34,7 @@ enum-told-2 c = search needs
 
 run-tabled-requires : tie.Need-run-tabled-requires
 run-tabled-requires c κs =
-    (passed (c .before .before .before .before .before .before .before .before) .tabled .well-formed, may-run (programIn (c .before .before .before .before .before .before .before .before .before .before .scan .last .1 .0)) _ _ _ _ (sym (c .before .before .before .before .enum-told2 .given .1) ∙ c .before .before .before .before .before .before .ask-tabled .ensures))
+    (passed (c .before .before .before .before .before .before .before .before) .tabled .well-formed, may-run (programIn (c .before .before .before .before .before .before .before .before .before .before .scan .last .1 .0)) (rules-below (passed (c .before .before .before .before .before .before .before .before) .tabled .well-formed)) _ _ _ _ (sym (c .before .before .before .before .enum-told2 .given .1) ∙ c .before .before .before .before .before .before .ask-tabled .ensures))
 
 returns : tie.Need-returns
 returns c =

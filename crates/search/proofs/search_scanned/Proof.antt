@@ -1,6 +1,5 @@
 -- `search_scanned`: a no changes no byte; where all questions but the last got yes, the search of the accepted file.
 use mathlib.Core.Path.{sym, ap, _∙_}
-use Rattle.theory.specs.Rule.{Program}
 use Rattle.reader.specs.Asked.{countsOf}
 use Rattle.reader.proofs.FileAsked.{told-counts}
 use Rattle.search.proofs.SearchAsked.{search-refused, search-asked}

@@ -6,7 +6,7 @@ use borrow.Author.Tests.{not-true, not-false}
 use lib.ListN.{getD, take, drop}
 use denote.Ref.{now}
 use Rattle.theory.specs.Rule.{all}
-use Rattle.items.specs.Item.{maxFacts}
+use Rattle.items.specs.Item.{narrow, maxFacts}
 use Rattle.earliest.proofs.FactsListed.{Alive, one-passes, one-fails, all-pass, row-below}
 use Rattle.earliest.proofs.hunt.is_alive.Statement.{statement}
 use Rattle.earliest.proofs.hunt.is_alive.Tie as tie
@@ -23,7 +23,7 @@ abbrev μ-loop : tie.MeasureT-loop
 loop-holds : tie.Need-loop-holds Inv-loop μ-loop
 loop-holds c = refl
 
-below : (c : lts.In-loop (stands-reads.Asked, stands-reads.Learnt) reads.Pre reads.Post Inv-loop μ-loop) → getD (c .before .before .before .args .row .now) (c .before .loop .n) 0 < maxFacts
+below : (c : lts.In-loop (stands-reads.Asked, stands-reads.Learnt) reads.Pre reads.Post Inv-loop μ-loop) → getD (c .before .before .before .args .row .now) (c .before .loop .n) 0 < maxFacts narrow
 below c = row-below (c .before .before .before .args .row .now) (c .before .loop .n) (c .before .before .before .pre .1) (omega (arith, c .before .before .before .pre .0))
 
 mul-stands : tie.Need-mul-stands Inv-loop μ-loop

@@ -1,7 +1,7 @@
 -- `keep_facts`: the facts below f are kept.
 use Prim.Native.Nat.{_-_}
 use native.Mathlib.Omega.{arith}
-use Rattle.items.specs.Item.{maxFacts}
+use Rattle.items.specs.Item.{narrow, maxFacts}
 use Rattle.earliest.proofs.FactsListed.{Keeping, none-kept, one-kept, all-kept}
 use Rattle.earliest.proofs.hunt.keep_facts.Statement.{statement}
 use Rattle.earliest.proofs.hunt.keep_facts.Tie as tie
@@ -12,7 +12,7 @@ abbrev Inv-loop : tie.InvT-loop
 Inv-loop marks found₀ f₀ found f = Keeping marks found f
 
 abbrev μ-loop : tie.MeasureT-loop
-μ-loop marks found₀ f₀ found f = maxFacts - f
+μ-loop marks found₀ f₀ found f = maxFacts narrow - f
 
 loop-holds : tie.Need-loop-holds Inv-loop μ-loop
 loop-holds c = none-kept _ _ (c .pre)

@@ -4,7 +4,6 @@ use mathlib.Core.Path.{ap, _∙_}
 use mathlib.Core.List.{map}
 use native.Mathlib.Omega.{arith}
 use denote.Ref.{now}
-use borrow.Author.Needs.{needs}
 use Rattle.tables.specs.Layout.{constraintAt}
 use Rattle.tables.proofs.ProgramHeld.{facts-below}
 use Rattle.index.specs.Literal.{outside, literals}

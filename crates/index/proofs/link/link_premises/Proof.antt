@@ -1,7 +1,6 @@
 -- `link_premises`: the premises to come from here give what all give from the start.
 use Prim.Native.Nat.{_-_, _<_}
 use native.Mathlib.Omega.{arith}
-use borrow.Author.Needs.{needs}
 use Rattle.tables.specs.Layout.{premiseAt}
 use Rattle.tables.proofs.ProgramHeld.{facts-below}
 use Rattle.index.specs.Literal.{literals}

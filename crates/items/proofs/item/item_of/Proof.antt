@@ -4,7 +4,7 @@ use mathlib.Core.Path.{_≡_, sym, ap, ap₂, _∙_}
 use native.Mathlib.Omega.{arith}
 use lib.ListN.{length}
 use denote.Ref.{now}
-use Rattle.items.specs.Item.{bodyLength, itemOf, factId, ruleId, stepKind}
+use Rattle.items.specs.Item.{narrow, bodyLength, itemOf, factId, ruleId, stepKind}
 use Rattle.items.specs.declared.item.Item.the-variants.{Facts, Opens, Premise, Constraint, Rules, Names, Step}
 use Rattle.items.proofs.Bodies.{a-step, step-at}
 use borrow.Author.Needs.{needs}
@@ -12,7 +12,7 @@ use Rattle.items.proofs.item.item_of.Statement.{statement}
 use Rattle.items.proofs.item.item_of.Tie as tie
 
 -- in the last arm the kind is a step's
-a-step-here : (c : tie.At-match-rest) → c .before .before .args .kind ≡ stepKind
+a-step-here : (c : tie.At-match-rest) → c .before .before .args .kind ≡ stepKind narrow
 a-step-here c =
     let r = c .match .rest in
     a-step (c .before .before .args .kind)

@@ -4,7 +4,7 @@ use native.Mathlib.Numerals.{add-one, add-two}
 use lib.ListN.{length-set}
 use denote.Ref.{now}
 use Rattle.items.specs.Write.{ruleItem}
-use Rattle.items.proofs.ReadBack.{stored}
+use Rattle.items.proofs.PlacedBytes.{stored}
 use borrow.Author.Needs.{needs}
 use Rattle.items.proofs.write.write_rule_item.Statement.{statement}
 use Rattle.items.proofs.write.write_rule_item.Tie as tie

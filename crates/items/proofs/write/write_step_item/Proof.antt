@@ -4,10 +4,11 @@ use native.Mathlib.Numerals.{add-one, add-two, add-three}
 use lib.ListN.{length-set}
 use denote.Ref.{now}
 use Rattle.items.specs.Write.{stepItem}
-use Rattle.items.proofs.ReadBack.{stored}
+use Rattle.items.proofs.PlacedBytes.{stored}
 use borrow.Author.Needs.{needs}
 use Rattle.items.proofs.write.write_step_item.Statement.{statement}
 use Rattle.items.proofs.write.write_step_item.Tie as tie
+use Rattle.items.specs.Item.{narrow}
 
 slice-write-out : tie.Need-slice-write-out
 slice-write-out c = search needs
@@ -45,7 +46,7 @@ same-length c = search needs
 returns : tie.Need-returns
 returns c =
     let a = c .before .args in
-    rw (add-one, add-two, add-three) (stored (stepItem (a .fact .0) (a .rule .0)) (now (a .out)) (a .at) (c .before .pre .1))
+    rw (add-one, add-two, add-three) (stored (stepItem narrow (a .fact .0) (a .rule .0)) (now (a .out)) (a .at) (c .before .pre .1))
 
 pub write-step-item-spec : {M : Type 1} → statement M
 write-step-item-spec =

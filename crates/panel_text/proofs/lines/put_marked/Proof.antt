@@ -2,7 +2,7 @@
 use Prim.Native.Nat.{_-_}
 use mathlib.Core.Logic.{⊎-elim}
 use native.Mathlib.Omega.{arith}
-use Rattle.panel_text.specs.Text.{line}
+use Rattle.panel_lines.specs.Text.{line}
 use Rattle.questions.proofs.MarkedPut.{Passing, none-passed, all-passed, mark-fits, mark-put, mark-passed}
 use Rattle.panel_text.proofs.lines.put_marked.Statement.{statement}
 use Rattle.panel_text.proofs.lines.put_marked.Tie as tie

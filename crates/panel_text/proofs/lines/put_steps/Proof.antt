@@ -4,10 +4,10 @@ use mathlib.Core.Path.{_≡_, refl, sym, _∙_}
 use denote.Ref.{now}
 use lib.ListN.{length}
 use borrow.Author.Needs.{needs}
-use Rattle.items.specs.declared.cursor.Row.the-variants.{Steps}
-use Rattle.items.specs.declared.cursor.Read.the-variants.{Found}
-use Rattle.items.specs.Cursor.{nextAt}
-use Rattle.items.proofs.Items.{found, closer}
+use Rattle.cursors.specs.declared.cursor.Row.the-variants.{Steps}
+use Rattle.cursors.specs.declared.cursor.Read.the-variants.{Found}
+use Rattle.cursors.specs.Cursor.{nextAt}
+use Rattle.cursors.proofs.Items.{found, closer}
 use Rattle.questions.proofs.BytesPut.{begun}
 use Rattle.questions.proofs.ItemWalks.{same-row}
 use Rattle.panel_text.proofs.StepLines.{Stepping, refused-put, ended-put, other-passed, step-fits, step-put}

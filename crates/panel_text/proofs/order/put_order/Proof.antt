@@ -4,7 +4,7 @@ use native.Mathlib.Omega.{arith}
 use denote.Ref.{now}
 use Rattle.tables.specs.Layout.{programIn}
 use Rattle.tables.proofs.ProgramHeld.{rules-below}
-use Rattle.panel_text.specs.Text.{ascending}
+use Rattle.panel_lines.specs.Text.{ascending}
 use Rattle.questions.specs.Orders.{placesMarked}
 use Rattle.panel_text.proofs.AscendingOrder.{unmarked-ascending}
 use borrow.Author.Needs.{needs}

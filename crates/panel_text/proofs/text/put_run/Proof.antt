@@ -1,5 +1,5 @@
 -- `put_run`: the order gets yes, so the run ends, and what it leaves gives the lines.
-use Prim.Native.Nat.{_*_}
+use Prim.Native.Nat.{_*_, _<_}
 use mathlib.Core.Path.{sym}
 use native.Mathlib.Omega.{arith}
 use lib.ListN.{replicate}
@@ -8,22 +8,21 @@ use denote.Ref.{now}
 use Rattle.theory.specs.Rule.{inForce}
 use Rattle.theory.specs.Run.{run}
 use Rattle.reader.specs.Questions.{programOf}
-use Rattle.items.specs.Item.{maxRules, nameWidth}
-use Rattle.items.proofs.EachKind.{Bytes}
+use Rattle.items.specs.Item.{narrow, maxFacts, nameWidth, maxRules}
 use Rattle.questions.specs.Questions.{naming}
 use Rattle.questions.specs.Put.{Put}
-use Rattle.panel_text.specs.Text.{ascending}
+use Rattle.panel_lines.specs.Text.{ascending}
 use Rattle.questions.proofs.BytesPut.{put-inside}
 use Rattle.panel_text.proofs.TextShown.{front-text}
-use Rattle.panel_text.proofs.Lengths.{order-fits, text-fits}
+use Rattle.panel_text.proofs.Lengths.{order-fits, few-tabled, text-fits}
 use Rattle.panel_text.proofs.RunLines.{RunEnded, ran-through, not-refused, tables, steps-inside, left-lines}
 use borrow.Author.Needs.{needs}
 use Rattle.panel_text.proofs.text.put_run.Statement.{statement}
 use Rattle.panel_text.proofs.text.put_run.Tie as tie
 
--- the bytes of the file
-bytes : (c : tie.After-shared-slice-known) → Bytes (now (c .before .args .file))
-bytes c j = c .shared-slice-known .given j .fits
+-- the facts of the file
+few : (c : tie.After-shared-slice-known) → programOf (now (c .before .args .file)) .facts < maxFacts narrow
+few c = few-tabled (c .before .pre .0 .1)
 
 -- the order, by the file
 order-written : (c : tie.After-put-order) → Put (naming (ascending (programOf (now (c .before .before .before .before .args .file))))) 0 (replicate (maxRules * nameWidth) 0) (c .put-order .result) (c .put-order .last .1 .0)
@@ -31,7 +30,7 @@ order-written c = rw (c .before .before .before .before .pre .0 .1 .program) at 
 
 -- what the run leaves
 ended : (c : tie.After-run) → RunEnded (programOf (now (c .before .before .before .before .before .before .before .before .before .before .args .file))) (run (programOf (now (c .before .before .before .before .before .before .before .before .before .before .args .file))) (inForce (programOf (now (c .before .before .before .before .before .before .before .before .before .before .args .file)))) (ascending (programOf (now (c .before .before .before .before .before .before .before .before .before .before .args .file))))) (c .run .result) (c .run .last .1 .1 .0) (c .run .last .1 .1 .1 .0) (c .run .last .1 .1 .1 .1 .0)
-ended c = ran-through _ _ (bytes (c .before .before .before .before .before .before .before .before .before)) (c .before .before .before .before .before .before .before .before .before .before .pre .0 .0 .accepted) (front-text _ _ _ _ (order-written (c .before .before .before .before .before .before))) _ _ _ _ (c .run .ensures .0)
+ended c = ran-through _ _ (few (c .before .before .before .before .before .before .before .before .before)) (c .before .before .before .before .before .before .before .before .before .before .pre .0 .0 .accepted) (front-text _ _ _ _ (order-written (c .before .before .before .before .before .before))) _ _ _ _ (c .run .ensures .0)
 
 slice-aggregate-put-order : tie.Need-slice-aggregate-put-order
 slice-aggregate-put-order c = search needs
@@ -76,17 +75,17 @@ slice-aggregate-put-left-2 : tie.Need-slice-aggregate-put-left-2
 slice-aggregate-put-left-2 c = search needs
 
 array-share-prefix-steps : tie.Need-array-share-prefix-steps
-array-share-prefix-steps c = steps-inside (c .before .before .before .before .before .before .before .before .before .before .before .before .before .before .before .before .before .before .before .pre .0 .0) (bytes (c .before .before .before .before .before .before .before .before .before .before .before .before .before .before .before .before .before .before)) _ _ _ _ _ (ended (c .before .before .before .before .before .before .before .before .before)) _ _ (c .before .before .before .before .stages .given .1)
+array-share-prefix-steps c = steps-inside (c .before .before .before .before .before .before .before .before .before .before .before .before .before .before .before .before .before .before .before .pre .0 .0) (few (c .before .before .before .before .before .before .before .before .before .before .before .before .before .before .before .before .before .before)) _ _ _ _ _ (ended (c .before .before .before .before .before .before .before .before .before)) _ _ (c .before .before .before .before .stages .given .1)
 
 slice-aggregate-put-left-3 : tie.Need-slice-aggregate-put-left-3
-slice-aggregate-put-left-3 c = sym (length-take-le _ _ (steps-inside (c .before .before .before .before .before .before .before .before .before .before .before .before .before .before .before .before .before .before .before .before .pre .0 .0) (bytes (c .before .before .before .before .before .before .before .before .before .before .before .before .before .before .before .before .before .before .before)) _ _ _ _ _ (ended (c .before .before .before .before .before .before .before .before .before .before)) _ _ (c .before .before .before .before .before .stages .given .1)))
+slice-aggregate-put-left-3 c = sym (length-take-le _ _ (steps-inside (c .before .before .before .before .before .before .before .before .before .before .before .before .before .before .before .before .before .before .before .before .pre .0 .0) (few (c .before .before .before .before .before .before .before .before .before .before .before .before .before .before .before .before .before .before .before)) _ _ _ _ _ (ended (c .before .before .before .before .before .before .before .before .before .before)) _ _ (c .before .before .before .before .before .stages .given .1)))
 
 put-left-requires : tie.Need-put-left-requires
 put-left-requires c κs =
     let p = c .before .before .before .before .before .before .before .before .before .before .before .before .before .before .before .before .before .before .before .before .pre in
-    let b = bytes (c .before .before .before .before .before .before .before .before .before .before .before .before .before .before .before .before .before .before .before) in
+    let f = few (c .before .before .before .before .before .before .before .before .before .before .before .before .before .before .before .before .before .before .before) in
     let run-ended = ended (c .before .before .before .before .before .before .before .before .before .before) in
-    (tables (p .0 .0) b _ _ _ _ _ run-ended, rw (left-lines (p .0 .0) b _ _ _ _ _ run-ended _ _ (c .before .before .before .before .before .stages .given .1)) (record { inside = omega (arith, p .1, text-fits _ b (p .0 .0 .accepted) (ascending (programOf (now (c .before .before .before .before .before .before .before .before .before .before .before .before .before .before .before .before .before .before .before .before .args .file))))) }))
+    (tables (p .0 .0) f _ _ _ _ _ run-ended, rw (left-lines (p .0 .0) f _ _ _ _ _ run-ended _ _ (c .before .before .before .before .before .stages .given .1)) (record { inside = omega (arith, p .1, text-fits _ f (p .0 .0 .accepted) (ascending (programOf (now (c .before .before .before .before .before .before .before .before .before .before .before .before .before .before .before .before .before .before .before .before .args .file))))) }))
 
 returns : tie.Need-returns
 returns c = absurd (not-refused _ _ _ _ _ _ (ended (c .before .before .before .before .before)) _ (c .enum-told .given .1))
@@ -95,7 +94,7 @@ same-length : tie.Need-same-length
 same-length c = search needs
 
 returns-2 : tie.Need-returns-2
-returns-2 c = rw (left-lines (c .before .before .before .before .before .before .before .before .before .before .before .before .before .before .before .before .before .before .before .before .before .before .before .pre .0 .0) (bytes (c .before .before .before .before .before .before .before .before .before .before .before .before .before .before .before .before .before .before .before .before .before .before)) _ _ _ _ _ (ended (c .before .before .before .before .before .before .before .before .before .before .before .before .before)) _ _ (c .before .before .before .before .before .before .before .before .stages .given .1)) at (c .before .before .put-left .ensures)
+returns-2 c = rw (left-lines (c .before .before .before .before .before .before .before .before .before .before .before .before .before .before .before .before .before .before .before .before .before .before .before .pre .0 .0) (few (c .before .before .before .before .before .before .before .before .before .before .before .before .before .before .before .before .before .before .before .before .before .before)) _ _ _ _ _ (ended (c .before .before .before .before .before .before .before .before .before .before .before .before .before)) _ _ (c .before .before .before .before .before .before .before .before .stages .given .1)) at (c .before .before .put-left .ensures)
 
 pub put-run-spec : {M : Type 1} → statement M
 put-run-spec =

@@ -5,8 +5,8 @@ use denote.Ref.{now}
 use Rattle.reader.specs.Questions.{programOf}
 use Rattle.reader.specs.Accepted.{Accepted}
 use Rattle.reader.proofs.FileAsked.{file-no, file-yes}
-use Rattle.panel_text.specs.Text.{line, ascending, panelText}
-use Rattle.panel_text.proofs.Lengths.{line-length, text-fits}
+use Rattle.panel_lines.specs.Text.{line, ascending, panelText}
+use Rattle.panel_text.proofs.Lengths.{line-length, few-tabled, text-fits}
 use Rattle.panel_text.proofs.RunLines.{refused-text, accepted-text}
 use borrow.Author.Needs.{needs}
 use Rattle.panel_text.proofs.text.put_text.Statement.{statement}
@@ -54,7 +54,7 @@ same-length-2 c = search needs
 returns-2 : tie.Need-returns-2
 returns-2 c =
     let p = accepted-there (c .before .before .before .before .before .before) in
-    (rw (accepted-text _ (p .accepted)) (c .before .before .put-run .ensures), omega (arith, c .before .before .put-run .ensures .behind, text-fits _ (λ j. c .before .before .before .before .before .before .before .before .before .before .before .shared-slice-known .given j .fits) (p .accepted) (ascending (programOf (now (c .before .before .before .before .before .before .before .before .before .before .before .before .args .file))))))
+    (rw (accepted-text _ (p .accepted)) (c .before .before .put-run .ensures), omega (arith, c .before .before .put-run .ensures .behind, text-fits _ (few-tabled (c .before .before .before .before .before .before .before .before .scan .ensures .1 (p .accepted))) (p .accepted) (ascending (programOf (now (c .before .before .before .before .before .before .before .before .before .before .before .before .args .file))))))
 
 pub put-text-spec : {M : Type 1} → statement M
 put-text-spec =

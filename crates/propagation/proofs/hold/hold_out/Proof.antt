@@ -4,7 +4,7 @@ use native.Mathlib.Omega.{arith}
 use lib.ListN.{length, getD, take, drop, replicate, length-replicate, drop-of-length-le}
 use lib.Seq.{length-take-le}
 use denote.Ref.{now}
-use Rattle.items.specs.Item.{maxFacts}
+use Rattle.items.specs.Item.{narrow, maxFacts}
 use Rattle.tables.specs.Layout.{programIn}
 use Rattle.index.specs.Literal.{literals}
 use Rattle.index.specs.Cells.{onIn}
@@ -21,7 +21,7 @@ abbrev μ-loop : tie.MeasureT-loop
     to - n
 
 -- the fact at place n
-small : (c : tie.In-loop Inv-loop μ-loop) → getD (now (c .before .before .before .args .facts)) (c .before .loop .n) 0 < maxFacts
+small : (c : tie.In-loop Inv-loop μ-loop) → getD (now (c .before .before .before .args .facts)) (c .before .loop .n) 0 < maxFacts narrow
 small c = fact-small (now (c .before .before .before .args .facts)) (c .before .before .before .args .to) (c .before .before .before .pre .1 .1 .0) (c .before .before .before .pre .1 .1 .1) (c .before .loop .n) (c .loop-test .taken)
 
 -- past the last place

@@ -1,7 +1,7 @@
 -- `in_set`: a place past the end holds no 1.
 use mathlib.Core.Path.{refl, sym}
 use Rattle.items.specs.Item.{has}
-use Rattle.tables.proofs.MarksPainted.{past-end}
+use Rattle.marking.proofs.MarksPainted.{past-end}
 use borrow.Author.Needs.{needs}
 use Rattle.questions.proofs.fact_set.in_set.Statement.{statement}
 use Rattle.questions.proofs.fact_set.in_set.Tie as tie

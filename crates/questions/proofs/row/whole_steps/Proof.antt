@@ -3,16 +3,16 @@ use borrow.Author.Needs.{needs}
 use Prim.Native.Nat.{_-_}
 use mathlib.Core.Path.{_≡_, refl, sym, ap, _∙_}
 use lib.ListN.{length}
-use Rattle.items.specs.declared.cursor.Row.the-variants.{Steps}
-use Rattle.items.specs.Cursor.{itemsAt, stepsStart}
-use Rattle.items.proofs.Items.{found, closer, row-ended}
+use Rattle.cursors.specs.declared.cursor.Row.the-variants.{Steps}
+use Rattle.cursors.specs.Cursor.{itemsAt, stepsStart}
+use Rattle.cursors.proofs.Items.{found, closer, row-ended}
 use Rattle.questions.specs.Questions.{whole}
 use Rattle.questions.proofs.ItemWalks.{headed, bad-read, same-row}
 use Rattle.questions.proofs.row.whole_steps.Statement.{statement}
 use Rattle.questions.proofs.row.whole_steps.Tie as tie
 use Rattle.questions.proofs.row.whole_steps.Reads as reads
 use Rattle.questions.proofs.row.whole_steps.Lts as lts
-use Rattle.items.proofs.cursor.Cursor.next_step.Reads as next-step-reads
+use Rattle.cursors.proofs.cursor.Cursor.next_step.Reads as next-step-reads
 
 abbrev Inv-loop : tie.InvT-loop
 Inv-loop row cursor₀ cursor = (cursor .row ≡ Steps) × (whole (itemsAt row stepsStart) ≡ whole (itemsAt row cursor))

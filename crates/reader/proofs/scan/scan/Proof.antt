@@ -3,10 +3,10 @@ use mathlib.Core.Path.{_≡_, refl, sym, _∙_}
 use borrow.Author.Needs.{needs}
 use denote.Ref.{now}
 use Rattle.items.specs.declared.item.Item.the-variants.{Facts}
-use Rattle.items.specs.declared.cursor.Read.the-variants.{Found}
-use Rattle.items.specs.Cursor.{nextAt, fileStart}
-use Rattle.items.proofs.Items.{ReadAt, found}
-use Rattle.items.proofs.EachKind.{narrow-item}
+use Rattle.cursors.specs.declared.cursor.Read.the-variants.{Found}
+use Rattle.cursors.specs.Cursor.{nextAt, fileStart}
+use Rattle.cursors.proofs.Items.{ReadAt, found}
+use Rattle.cursors.proofs.EachKind.{few-counted}
 use Rattle.reader.proofs.OpeningAsked.{too-long, no-first, none-first, not-counted, file-scanned}
 use Rattle.reader.proofs.FileAsked.{said-no}
 use Rattle.reader.proofs.BodyRead.{read-as}
@@ -38,7 +38,7 @@ enum-known-item-2 c = search needs
 scan-body-requires : tie.Need-scan-body-requires
 scan-body-requires c κs =
     let r = count-read (c .before .before .before) in
-    (r .row, c .before .before .before .before .before .before .before .before .before .if1 .left, narrow-item r (λ j. c .before .before .before .before .before .before .before .before .before .before .shared-slice-known .given j .fits), c .before .before .before .before .before .before .before .before .before .before .before .pre, record { zeros = refl })
+    (r .row, c .before .before .before .before .before .before .before .before .before .if1 .left, few-counted r (λ j. c .before .before .before .before .before .before .before .before .before .before .shared-slice-known .given j .fits), c .before .before .before .before .before .before .before .before .before .before .before .pre, record { zeros = refl })
 
 enum-told : tie.Need-enum-told
 enum-told c = search needs

@@ -1,87 +1,80 @@
 -- `all_stages`: between the stages the run stands where it goes on to its end.
-use Prim.Native.Nat.{ℕ, _-_, _≤_}
-use mathlib.Core.Path.{ap}
-use mathlib.Core.Bool.{Bool}
-use mathlib.Core.List.{List}
+use Prim.Native.Nat.{ℕ, _-_, _<_}
+use mathlib.Core.Path.{refl}
 use native.Mathlib.Omega.{arith}
 use borrow.Author.Needs.{needs}
 use denote.Ref.{now}
-use Rattle.theory.specs.Rule.{inForce}
-use Rattle.theory.specs.Run.{start}
-use Rattle.items.specs.Item.{maxFacts, maxRules, has}
+use lib.ListN.{take, length-replicate}
+use Rattle.items.specs.Item.{narrow, maxFacts, maxRules}
 use Rattle.tables.specs.Layout.{programIn}
-use Rattle.questions.specs.Questions.{namedIn}
-use Rattle.tables.proofs.ProgramHeld.{facts-below}
-use Rattle.tables.proofs.MarksPainted.{unmarked}
-use Rattle.run.specs.Stands.{Holds}
-use Rattle.run.proofs.FewSteps.{missing-most}
-use Rattle.run.proofs.MemoryShown.{start-shown}
-use Rattle.run.proofs.StandsKept.{Standing, standing-start, standing-on, few-stages, steps-kept, ended-shown, ended-stages, rule-known, stage-room, stage-closer}
+use Rattle.tables.proofs.ProgramHeld.{facts-below, rules-below, in-table}
+use Rattle.stage.specs.Look.{Taken}
+use Rattle.run.proofs.StandsKept.{Standing, rules-listed, order-in-row, start-span, standing-start, few-stages, stands, ended-held, ended-stages, rule-known, stage-span, standing-on, stage-closer}
 use Rattle.run.proofs.stages.all_stages.Statement.{statement}
 use Rattle.run.proofs.stages.all_stages.Tie as tie
 
 abbrev Inv-loop : tie.InvT-loop
-Inv-loop tables order plain derived₀ rejected₀ applied₀ steps₀ skip₀ stages₀ count₀ derived rejected applied steps skip stages count = (room : List ℕ) → Holds (programIn tables) (start (programIn tables) (inForce (programIn tables))) derived₀ rejected₀ applied₀ steps₀ room count₀ → Standing (programIn tables) (namedIn order) derived rejected applied skip steps room stages count
+Inv-loop tables row names plain marks₀ fired₀ applied₀ asks missing₀ awake₀ stages₀ count₀ marks fired applied missing awake stages count =
+    Standing (programIn tables) row (take names row) asks marks fired applied missing awake stages count
 
 abbrev μ-loop : tie.MeasureT-loop
-μ-loop tables order plain derived₀ rejected₀ applied₀ steps₀ skip₀ stages₀ count₀ derived rejected applied steps skip stages count = programIn tables .facts - count
+μ-loop tables row names plain marks₀ fired₀ applied₀ asks missing₀ awake₀ stages₀ count₀ marks fired applied missing awake stages count =
+    programIn tables .facts - count
 
-narrow : (c : tie.Start Inv-loop μ-loop) → programIn (now (c .args .tables)) .facts ≤ maxFacts
-narrow c = omega (arith, facts-below (c .pre .0))
+few-facts : (c : tie.Start Inv-loop μ-loop) → programIn (now (c .args .tables)) .facts < maxFacts narrow
+few-facts c = facts-below (c .pre .0)
 
--- the memory once D is closed for the first time
-began : (c : tie.After-slice-known2 Inv-loop μ-loop) → Holds (programIn (now (c .before .before .before .before .before .before .before .args .tables))) (start (programIn (now (c .before .before .before .before .before .before .before .args .tables))) (inForce (programIn (now (c .before .before .before .before .before .before .before .args .tables))))) (c .before .before .derive .last .1 .1 .0) (now (c .before .before .before .before .before .before .before .args .rejected)) (now (c .before .before .before .before .before .before .before .args .applied)) (c .before .before .derive .last .1 .1 .1 .0) (now (c .before .before .before .before .before .before .before .args .steps)) (c .before .before .derive .result)
-began c = start-shown _ (c .before .before .before .before .before .before .before .pre .0 .in-bounds) (narrow (c .before .before .before .before .before .before .before)) _ _ _ _ (c .before .before .before .before .before .before .before .pre .1 .1 .1 .0) _ (c .before .before .before .before .before .before .before .pre .1 .0) _ _ _ (c .before .before .derive .ensures)
+-- once a rule is taken
+took : (c : tie.After-known-told Inv-loop μ-loop) → Taken (programIn (now (c .before .before .before .before .before .before .before .before .before .before .before .before .before .before .before .before .before .before .before .before .args .tables))) (take (c .before .before .before .before .before .before .before .before .before .before .before .before .before .before .before .before .before .before .before .before .args .names) (now (c .before .before .before .before .before .before .before .before .before .before .before .before .before .before .before .before .before .before .before .before .args .row))) (c .before .before .before .before .before .before .before .loop .inv .at) (c .before .before .before .before .before .before .before .loop .count) (c .before .rule .given .0 .0 .0) (c .before .before .before .first-eligible .last .1 .1 .1 .0) (c .before .before .before .first-eligible .last .1 .1 .1 .1 .0) (c .before .before .before .first-eligible .last .1 .1 .1 .1 .1 .1 .0) (c .before .rule .given .0 .1 .0)
+took c = rw (c .before .rule .given .1) at (c .before .before .before .first-eligible .ensures _ _ _ (c .before .before .before .before .before .before .before .loop .inv .looking))
 
--- where the run stands at the loop's head
-standing : (c : tie.At-loop Inv-loop μ-loop) → Standing (programIn (now (c .before .before .before .before .before .before .before .before .args .tables))) (namedIn (now (c .before .before .before .before .before .before .before .before .args .order))) (c .loop .derived) (c .loop .rejected) (c .loop .applied) (c .loop .skip) (c .loop .steps) (now (c .before .before .before .before .before .before .before .before .args .steps)) (c .loop .stages) (c .loop .count)
-standing c = c .loop .inv _ (began (c .before))
+index-row-requires : tie.Need-index-row-requires Inv-loop μ-loop
+index-row-requires c κs = (c .before .before .before .pre .0, rules-listed (c .before .before .before .pre .1 .1 .0), record { asks-empty = refl; rule-places = length-replicate {A = ℕ} maxRules 0; awake-empty = refl })
 
-derive-requires : tie.Need-derive-requires Inv-loop μ-loop
-derive-requires c κs =
-    let p = c .before .before .before .before .pre in
-    (p .0, record { facts = omega (arith, p .1 .1 .1 .0 .derived-places, narrow (c .before .before .before .before)); steps-left = omega (arith, missing-most (programIn (now (c .before .before .before .before .args .tables)) .facts) (has (now (c .before .before .before .before .args .derived))), p .1 .1 .1 .1) })
+begin-requires : tie.Need-begin-requires Inv-loop μ-loop
+begin-requires c κs = let p = c .before .before .before .before .before .before .pre in (p .0, (p .1 .0, p .1 .1 .1 .holds))
+
+wake-requires : tie.Need-wake-requires Inv-loop μ-loop
+wake-requires c κs = (c .before .before .before .before .before .before .before .before .before .before .before .pre .0, start-span (few-facts (c .before .before .before .before .before .before .before .before .before .before .before)) (c .before .before .before .before .begin .ensures))
 
 loop-holds : tie.Need-loop-holds Inv-loop μ-loop
-loop-holds c = λ room w. standing-start _ _ _ _ _ _ _ room _ (c .before .before .before .before .before .before .before .pre .0 .in-bounds) w (λ i. ap (λ (A : ℕ → Bool). A i) (unmarked maxRules))
+loop-holds c =
+    let p = c .before .before .before .before .before .before .before .before .before .before .before .before .pre in
+    let indexed = c .before .before .before .before .before .before .before .before .index-row .ensures in
+    standing-start (few-facts (c .before .before .before .before .before .before .before .before .before .before .before .before)) (c .before .before .before .before .before .begin .ensures) (p .0 .in-bounds) (order-in-row (p .1 .1 .0)) (p .1 .1 .0 .names-only) (indexed .0) (indexed .1 .0) (indexed .1 .1) (c .wake .ensures) (p .1 .1 .1 .applied-shown) (p .1 .1 .1 .applied-places)
 
 first-eligible-requires : tie.Need-first-eligible-requires Inv-loop μ-loop
-first-eligible-requires c κs =
-    let p = c .before .before .before .before .before .before .before .before .before .before .before .pre in
-    (p .0, (p .1 .0, (standing (c .before .before .before) .held .derived-places, p .1 .1 .0)))
+first-eligible-requires c κs = let p = c .before .before .before .before .before .before .before .before .before .before .before .before .before .before .before .before .pre in (p .0, (p .1 .0, stands (c .before .before .before .loop .inv)))
 
 enum-told : tie.Need-enum-told Inv-loop μ-loop
 enum-told c = search needs
 
-same-length : tie.Need-same-length Inv-loop μ-loop
-same-length c = steps-kept (standing (c .before .before .before .before .before .before)) (c .before .before .before .before .before .before .before .before .before .before .before .before .before .before .pre .1 .1 .1 .1)
-
 returns : tie.Need-returns Inv-loop μ-loop
 returns c =
-    let found = c .before .before .first-eligible .ensures in
-    (ended-shown (standing (c .before .before .before .before .before .before)) _ found (c .enum-told .given .1), ended-stages (standing (c .before .before .before .before .before .before)) _ found (c .enum-told .given .1))
+    let w = c .before .before .before .before .before .before .loop .inv in
+    let ended = rw (c .enum-told .given .1) at (c .before .before .first-eligible .ensures _ _ _ (w .looking)) in
+    (ended-held w ended, ended-stages w ended)
 
 enum-known-rule : tie.Need-enum-known-rule Inv-loop μ-loop
 enum-known-rule c = search needs
 
-apply-requires : tie.Need-apply-requires Inv-loop μ-loop
-apply-requires c κs =
-    let p = c .before .before .before .before .before .before .before .before .before .before .before .before .before .before .before .before .before .before .before .pre in
-    let found = c .before .before .before .before .before .before .before .first-eligible .ensures in
-    let chosen = c .before .before .before .before .before .rule .given .1 in
-    let room = stage-room (standing (c .before .before .before .before .before .before .before .before .before .before .before)) _ found chosen (p .0 .in-bounds) (narrow (c .before .before .before .before .before .before .before .before .before .before .before .before .before .before .before .before .before .before .before)) (p .1 .1 .1 .1) in
-    ((p .0, rule-known (standing (c .before .before .before .before .before .before .before .before .before .before .before)) _ found chosen), (p .1 .0, (standing (c .before .before .before .before .before .before .before .before .before .before .before) .held .rejected-places, record { facts = room .0; steps-left = room .1 })))
+wake-requires-2 : tie.Need-wake-requires-2 Inv-loop μ-loop
+wake-requires-2 c κs = (c .before .before .before .before .before .before .before .before .before .before .before .before .before .before .before .before .before .before .before .before .before .before .before .before .pre .0, stage-span (c .before .before .before .before .before .before .before .before .before .before .before .loop .inv) (few-facts (c .before .before .before .before .before .before .before .before .before .before .before .before .before .before .before .before .before .before .before .before .before .before .before .before)) (took (c .before .before .before .before)))
+
+element-write-applied : tie.Need-element-write-applied Inv-loop μ-loop
+element-write-applied c = in-table (c .before .before .before .before .before .before .before .before .before .before .before .before .before .before .before .before .before .before .before .before .before .before .before .before .before .before .pre .0) (rule-known (c .before .before .before .before .before .before .before .before .before .before .before .before .before .loop .inv) (few-facts (c .before .before .before .before .before .before .before .before .before .before .before .before .before .before .before .before .before .before .before .before .before .before .before .before .before .before)) (took (c .before .before .before .before .before .before)))
+
+cast-number : tie.Need-cast-number Inv-loop μ-loop
+cast-number c = omega (arith, element-write-applied c)
 
 add-stages : tie.Need-add-stages Inv-loop μ-loop
-add-stages c = omega (arith, few-stages (standing (c .before .before .before .before .before .before .before .before .before .before .before .before .before .before)), narrow (c .before .before .before .before .before .before .before .before .before .before .before .before .before .before .before .before .before .before .before .before .before .before))
+add-stages c = omega (arith, few-stages (c .before .before .before .before .before .before .before .before .before .before .before .before .before .loop .inv), few-facts (c .before .before .before .before .before .before .before .before .before .before .before .before .before .before .before .before .before .before .before .before .before .before .before .before .before .before))
 
 loop-less : tie.Need-loop-less Inv-loop μ-loop
-loop-less c =
-    stage-closer (standing (c .before .before .before .before .before .before .before .before .before .before .before .before .before .before)) _ (c .before .before .before .before .before .before .before .before .before .before .first-eligible .ensures) (c .before .before .before .before .before .before .before .before .rule .given .1) (c .before .before .before .before .before .before .before .before .before .before .before .before .before .before .before .before .before .before .before .before .before .before .pre .0 .in-bounds) (c .before .before .apply .ensures)
+loop-less c = stage-closer (c .before .before .before .before .before .before .before .before .before .before .before .before .before .loop .inv) (few-facts (c .before .before .before .before .before .before .before .before .before .before .before .before .before .before .before .before .before .before .before .before .before .before .before .before .before .before)) (took (c .before .before .before .before .before .before)) (c .before .before .before .before .before .before .before .before .before .before .before .before .before .before .before .before .before .before .before .before .before .before .before .before .before .before .pre .0 .in-bounds) (rules-below (c .before .before .before .before .before .before .before .before .before .before .before .before .before .before .before .before .before .before .before .before .before .before .before .before .before .before .pre .0)) (c .before .wake2 .ensures)
 
 loop-again : tie.Need-loop-again Inv-loop μ-loop
-loop-again c =
-    λ room w. standing-on (c .before .before .before .before .before .before .before .before .before .before .before .before .before .before .loop .inv room w) _ (c .before .before .before .before .before .before .before .before .before .before .first-eligible .ensures) (c .before .before .before .before .before .before .before .before .rule .given .1) (c .before .before .before .before .before .before .before .before .before .before .before .before .before .before .before .before .before .before .before .before .before .before .pre .0 .in-bounds) (c .before .before .apply .ensures)
+loop-again c = standing-on (c .before .before .before .before .before .before .before .before .before .before .before .before .before .loop .inv) (few-facts (c .before .before .before .before .before .before .before .before .before .before .before .before .before .before .before .before .before .before .before .before .before .before .before .before .before .before)) (took (c .before .before .before .before .before .before)) (c .before .before .before .before .before .before .before .before .before .before .before .before .before .before .before .before .before .before .before .before .before .before .before .before .before .before .pre .0 .in-bounds) (rules-below (c .before .before .before .before .before .before .before .before .before .before .before .before .before .before .before .before .before .before .before .before .before .before .before .before .before .before .pre .0)) (c .before .wake2 .ensures)
 
 pub all-stages-spec : {M : Type 1} → statement M
 all-stages-spec =
@@ -89,14 +82,17 @@ all-stages-spec =
     (tie.spec
     Inv-loop
     μ-loop
-    derive-requires
+    index-row-requires
+    begin-requires
+    wake-requires
     loop-holds
     first-eligible-requires
     enum-told
-    same-length
     returns
     enum-known-rule
-    apply-requires
+    wake-requires-2
+    cast-number
+    element-write-applied
     add-stages
     loop-less
     loop-again)

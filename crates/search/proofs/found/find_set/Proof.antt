@@ -7,7 +7,7 @@ use lib.Seq.{length-take-le}
 use denote.Ref.{now}
 use Rattle.theory.specs.Rule.{inForce}
 use Rattle.theory.specs.Search.{guessed}
-use Rattle.items.specs.Item.{maxFacts}
+use Rattle.items.specs.Item.{narrow, maxFacts}
 use Rattle.tables.specs.Layout.{programIn}
 use Rattle.tables.proofs.ProgramHeld.{facts-below}
 use Rattle.search.proofs.Guesses.{guesses-counted, guesses-listed}
@@ -16,12 +16,12 @@ use Rattle.search.proofs.found.find_set.Statement.{statement}
 use Rattle.search.proofs.found.find_set.Tie as tie
 
 -- the facts fit
-narrow : (c : tie.Start) → programIn (now (c .args .tables)) .facts ≤ maxFacts
-narrow c = omega (arith, facts-below (c .pre .0))
+few-facts : (c : tie.Start) → programIn (now (c .args .tables)) .facts ≤ maxFacts narrow
+few-facts c = omega (arith, facts-below (c .pre .0))
 
 -- the row has the facts to guess
 listed : (c : tie.After-list-down) → take (c .list-down .result) (c .list-down .last .1 .1 .0) ≡ guessed (programIn (now (c .before .before .before .before .before .before .args .tables))) (inForce (programIn (now (c .before .before .before .before .before .before .args .tables))))
-listed c = c .list-down .ensures .1 ∙ guesses-listed _ (narrow (c .before .before .before .before .before .before)) _ (c .before .before .before .before .mark-constraint-facts .ensures) _ (c .before .before .facts-of .ensures)
+listed c = c .list-down .ensures .1 ∙ guesses-listed _ (few-facts (c .before .before .before .before .before .before)) _ (c .before .before .before .before .mark-constraint-facts .ensures) _ (c .before .before .facts-of .ensures)
 
 mark-constraint-facts-requires : tie.Need-mark-constraint-facts-requires
 mark-constraint-facts-requires c κs = search needs
@@ -31,7 +31,7 @@ facts-of-requires c κs = search needs
 
 list-down-requires : tie.Need-list-down-requires
 list-down-requires c κs =
-    (omega (arith, narrow (c .before .before .before .before .before), c .before .facts-of .ensures), omega (arith, guesses-counted _ (narrow (c .before .before .before .before .before)) _ (c .before .before .before .mark-constraint-facts .ensures) _ (c .before .facts-of .ensures), c .before .before .before .before .before .pre .1), refl)
+    (omega (arith, few-facts (c .before .before .before .before .before), c .before .facts-of .ensures), omega (arith, guesses-counted _ (few-facts (c .before .before .before .before .before)) _ (c .before .before .before .mark-constraint-facts .ensures) _ (c .before .facts-of .ensures), c .before .before .before .before .before .pre .1), refl)
 
 slice-aggregate-earliest : tie.Need-slice-aggregate-earliest
 slice-aggregate-earliest c = sym (length-take-le _ _ (omega (arith, c .before .before .before .list-down .ensures .0, c .before .facts .given .0)))

@@ -1,5 +1,5 @@
 -- `search_accepted`: where no set is found no byte is changed; where one is, the file is run to it.
-use mathlib.Core.Path.{_≡_, refl, _∙_}
+use mathlib.Core.Path.{refl, _∙_}
 use borrow.Author.Tests.{not-true, not-false}
 use denote.Ref.{now}
 use Rattle.theory.specs.Rule.{inForce}

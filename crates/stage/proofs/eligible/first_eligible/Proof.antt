@@ -1,135 +1,107 @@
--- Both loops: what is to come finds what the whole finds, and what is to come of a rule's constraints decides.
-use Prim.Native.Nat.{_-_, _<_}
-use mathlib.Core.Path.{_≡_, refl, sym, ap, _∙_}
-use mathlib.Core.Bool.{true, not}
-use mathlib.Core.List.{_∷_}
+-- Both loops: the stand at entry is held at each turn, with the places still awake, and what is to come of a rule's constraints decides.
+use Prim.Native.Nat.{ℕ, _-_, _<_}
+use mathlib.Core.Path.{_≡_, sym, ap, _∙_}
+use mathlib.Core.Bool.{Bool, false, not}
+use mathlib.Core.List.{List}
 use native.Mathlib.Omega.{arith}
 use denote.Ref.{now}
 use borrow.Author.Needs.{needs}
-use borrow.Author.Tests.{not-true, not-false, eq-eqb, ne-eqb}
-use lib.ListN.{length}
-use Rattle.theory.specs.Rule.{all, mem, count, rule}
-use Rattle.items.specs.declared.cursor.Read.the-variants as Read
-use Rattle.items.specs.declared.cursor.Row.the-variants.{Order}
-use Rattle.items.specs.Cursor.{rowAfter, nextAt, itemsAt}
-use Rattle.items.specs.Item.{maxFacts, maxRules, has}
-use Rattle.items.proofs.Items.{found, closer}
-use Rattle.items.proofs.NoItemRead.{nothing-read}
+use borrow.Author.Tests.{eq-eqb, ne-eqb}
+use lib.ListN.{getD}
+use Rattle.theory.specs.Rule.{all, clear, count, rule}
+use Rattle.theory.specs.Run.{Stand}
+use Rattle.items.specs.declared.item.FactId.{FactId}
+use Rattle.items.specs.Item.{narrow, maxFacts, maxRules, has}
 use Rattle.tables.specs.Layout.{constraintAt, span, programIn}
-use Rattle.tables.proofs.ProgramHeld.{facts-below, in-table}
+use Rattle.tables.proofs.ProgramHeld.{facts-below, conclusion-below}
 use Rattle.tables.proofs.PartsSpanned.{within, Testing, none-tested, all-tested, test-fails, test-passes}
-use Rattle.questions.specs.Questions.{namesOf, namedIn}
-use Rattle.questions.proofs.ItemWalks.{headed, past-names}
-use Rattle.stage.proofs.FirstFound.{Looking, none-looked, none-eligible, no-name-here, is-named, passed-over, refused-now, found-first, skipped, named-known, unfounded, concluded, Tried, tried}
+use Rattle.bits.specs.Flags.{total}
+use Rattle.stage.specs.Look.{Looking}
+use Rattle.stage.proofs.FirstFound.{Onward, Turn, turn, none-found, held-room, mark-in, mark-out, mark-barred, concluded, rejected-already, constraint-met}
 use Rattle.stage.proofs.eligible.first_eligible.Statement.{statement}
 use Rattle.stage.proofs.eligible.first_eligible.Tie as tie
 
 abbrev Inv-loop : tie.InvT-loop
-Inv-loop tables order plain derived rejected skip cursor rule number trial end place₀ place =
-    Testing (λ f. not (has trial f)) (span (constraintAt tables) place₀ end) (constraintAt tables) place₀ end place
+Inv-loop tables row plain marks fired count awake place rule f end at₀ at =
+    Testing (λ k. not (has marks k)) (span (constraintAt tables) at₀ end) (constraintAt tables) at₀ end at
 
 abbrev μ-loop : tie.MeasureT-loop
-μ-loop tables order plain derived rejected skip cursor rule number trial end place₀ place = end - place
+μ-loop tables row plain marks fired count awake place rule f end at₀ at = end - at
 
 abbrev Inv-rules : tie.InvT-rules
-Inv-rules tables order plain derived rejected skip₀ cursor₀ skip cursor =
-    (cursor .row ≡ Order) × Looking (programIn tables) (namedIn order) derived rejected skip₀ (namesOf (itemsAt order cursor)) skip
+Inv-rules tables row plain marks₀ fired₀ count awake₀ marks fired awake = Onward (programIn tables) row marks₀ fired₀ count awake₀ marks fired awake
 
 abbrev μ-rules : tie.MeasureT-rules
-μ-rules tables order plain derived rejected skip₀ cursor₀ skip cursor = length order - cursor .at
+μ-rules tables row plain marks₀ fired₀ count awake₀ marks fired awake = total awake
 
--- once an item of the order is read
-item-read : (c : tie.After-known-told Inv-loop μ-loop Inv-rules μ-rules) → nextAt (now (c .before .before .before .before .before .before .args .order)) (c .before .before .before .before .rules .cursor) ≡ Read.Found (c .before .read .given .0 .0) (c .before .read .given .0 .1 .0)
-item-read c = sym (c .before .before .before .next-name .ensures) ∙ c .before .read .given .1
+-- once a place is taken
+fell : (c : tie.After-known-told Inv-loop μ-loop Inv-rules μ-rules) → (c .before .lowest .given .0 .0 < maxRules) × (total (c .before .before .before .take .last .0) < total (c .before .before .before .before .before .rules .awake))
+fell c = let f = c .before .before .before .take .ensures .0 in (f .inside _ (c .before .lowest .given .1), f .less _ (c .before .lowest .given .1))
 
-onward : (c : tie.After-known-told Inv-loop μ-loop Inv-rules μ-rules) → length (now (c .before .before .before .before .before .before .args .order)) - c .before .read .given .0 .1 .0 .at < length (now (c .before .before .before .before .before .before .args .order)) - c .before .before .before .before .rules .cursor .at
-onward c = closer (found _ _ _ _ (item-read c))
+on-turn : (c : tie.After-known-told Inv-loop μ-loop Inv-rules μ-rules) (order : List ℕ) (s : Stand) (p : ℕ → Bool) → Looking (programIn (now (c .before .before .before .before .before .before .args .tables))) (now (c .before .before .before .before .before .before .args .row)) order (now (c .before .before .before .before .before .before .args .marks)) (now (c .before .before .before .before .before .before .args .fired)) (c .before .before .before .before .before .before .args .count) (now (c .before .before .before .before .before .before .args .awake)) s p → Turn (programIn (now (c .before .before .before .before .before .before .args .tables))) (now (c .before .before .before .before .before .before .args .row)) order (c .before .before .before .before .before .rules .marks) (c .before .before .before .before .before .rules .fired) (c .before .before .before .before .before .before .args .count) (c .before .before .before .take .last .0) s (c .before .lowest .given .0 .0)
+on-turn c order s p w =
+    let v = c .before .before .before .before .before .rules .inv order s p w in
+    turn (v .1) (facts-below (c .before .before .before .before .before .before .pre .0)) (c .before .before .before .take .ensures .1 (v .0) (v .1 .flags)) (c .before .lowest .given .1)
 
-same-row : (c : tie.After-known-told Inv-loop μ-loop Inv-rules μ-rules) → c .before .read .given .0 .1 .0 .row ≡ Order
-same-row c = found _ _ _ _ (item-read c) .row ∙ ap rowAfter (c .before .before .before .before .rules .inv .0)
+-- at the stand that is held
+here : (c : tie.After-known-told Inv-loop μ-loop Inv-rules μ-rules) → Turn (programIn (now (c .before .before .before .before .before .before .args .tables))) (now (c .before .before .before .before .before .before .args .row)) (c .before .before .before .before .before .before .pre .1 .1 .order) (c .before .before .before .before .before .rules .marks) (c .before .before .before .before .before .rules .fired) (c .before .before .before .before .before .before .args .count) (c .before .before .before .take .last .0) (c .before .before .before .before .before .before .pre .1 .1 .at) (c .before .lowest .given .0 .0)
+here c = on-turn c _ _ _ (c .before .before .before .before .before .before .pre .1 .1 .looking)
 
--- once it names a rule
-one-named : (c : tie.After-known-told2 Inv-loop μ-loop Inv-rules μ-rules) → namesOf (itemsAt (now (c .before .before .before .before .before .before .before .before .before .args .order)) (c .before .before .before .before .before .before .before .rules .cursor)) ≡ c .before .item .given .0 .0 .0 ∷ namesOf (itemsAt (now (c .before .before .before .before .before .before .before .before .before .args .order)) (c .before .before .before .before .read .given .0 .1 .0))
-one-named c = ap namesOf (headed _ _ _ _ _ (item-read (c .before .before .before)) (c .before .item .given .1))
+-- once its rule's conclusion is read
+few-facts : (c : tie.After-conclusion Inv-loop μ-loop Inv-rules μ-rules) → c .conclusion .result .0 < maxFacts narrow
+few-facts c = omega (arith, ap (λ (f : FactId). f .0) (c .conclusion .ensures), conclusion-below (c .before .before .before .before .before .before .before .before .pre .0) (here (c .before .before) .known), facts-below (c .before .before .before .before .before .before .before .before .pre .0))
 
-named-rule : (c : tie.After-known-told2 Inv-loop μ-loop Inv-rules μ-rules) → mem (c .before .item .given .0 .0 .0) (namedIn (now (c .before .before .before .before .before .before .before .before .before .args .order))) ≡ true
-named-rule c = is-named (c .before .before .before .before .before .before .before .rules .inv .1) _ _ (one-named c)
-
-below : (c : tie.After-known-told2 Inv-loop μ-loop Inv-rules μ-rules) → c .before .item .given .0 .0 .0 < count (programIn (now (c .before .before .before .before .before .before .before .before .before .args .tables)))
-below c = named-known _ (namedIn (now (c .before .before .before .before .before .before .before .before .before .args .order))) (c .before .before .before .before .before .before .before .before .before .pre .1 .1 .1) _ (named-rule c)
-
-small : (c : tie.After-known-told2 Inv-loop μ-loop Inv-rules μ-rules) → c .before .item .given .0 .0 .0 < maxRules
-small c = in-table (c .before .before .before .before .before .before .before .before .before .pre .0) (below c)
-
--- once its trial closure is made
-one-tried : (c : tie.After-trial Inv-loop μ-loop Inv-rules μ-rules) → Tried (programIn (now (c .before .before .before .before .before .before .before .before .before .before .before .before .before .before .before .before .before .before .before .args .tables))) (now (c .before .before .before .before .before .before .before .before .before .before .before .before .before .before .before .before .before .before .before .args .derived)) (now (c .before .before .before .before .before .before .before .before .before .before .before .before .before .before .before .before .before .before .before .args .rejected)) (c .trial .result) (rule (programIn (now (c .before .before .before .before .before .before .before .before .before .before .before .before .before .before .before .before .before .before .before .args .tables))) (c .before .before .before .before .before .before .before .before .before .before .before .item .given .0 .0 .0) .constraints) (c .before .before .before .before .before .before .before .before .before .before .before .item .given .0 .0 .0)
-one-tried c =
-    let p = c .before .before .before .before .before .before .before .before .before .before .before .before .before .before .before .before .before .before .before .pre in
-    tried _ _ _ _ (p .0 .in-bounds) (facts-below (p .0)) (p .1 .1 .0) (below (c .before .before .before .before .before .before .before .before .before .before)) (sym (c .before .before .premises-in .ensures) ∙ not-false _ (c .before .if3 .left)) _ (c .trial .ensures) (p .1 .1 .1 _ (named-rule (c .before .before .before .before .before .before .before .before .before .before))) (sym (c .before .before .before .before .before .conclusion-in .ensures) ∙ c .before .before .before .before .if2 .left)
+-- once a constraint was met, and once none was
+met : (c : tie.Then3 Inv-loop μ-loop Inv-rules μ-rules) → clear (has (c .before .before .before .before .before .before .before .before .before .before .before .before .before .before .before .before .before .before .rules .marks)) (rule (programIn (now (c .before .before .before .before .before .before .before .before .before .before .before .before .before .before .before .before .before .before .before .args .tables))) (getD (now (c .before .before .before .before .before .before .before .before .before .before .before .before .before .before .before .before .before .before .before .args .row)) (c .before .before .before .before .before .before .before .before .before .before .before .before .before .before .lowest .given .0 .0) 0) .constraints) ≡ false
+unfolding has
+met c =
+    ap (all _) (c .before .before .before .before .before .constraint-span .ensures .is)
+    ∙ sym (test-fails (c .before .before .before .before .loop .inv) (c .before .before .before .loop-test .taken) (rw (← c .before .before .constraint-at .ensures) (ap not (eq-eqb _ _ (c .if3 .taken)))))
 
 rules-holds : tie.Need-rules-holds Inv-loop μ-loop Inv-rules μ-rules
-rules-holds c = (refl, none-looked _ _ _ _ _)
+rules-holds c = λ order s p w. (p, w)
 
-next-name-requires : tie.Need-next-name-requires Inv-loop μ-loop Inv-rules μ-rules
-next-name-requires c κs = c .rules .inv .0
+take-requires : tie.Need-take-requires Inv-loop μ-loop Inv-rules μ-rules
+take-requires c κs = search needs
 
-enum-known-read : tie.Need-enum-known-read Inv-loop μ-loop Inv-rules μ-rules
-enum-known-read c = search needs
+enum-known-lowest : tie.Need-enum-known-lowest Inv-loop μ-loop Inv-rules μ-rules
+enum-known-lowest c = search needs
 
-enum-known-item : tie.Need-enum-known-item Inv-loop μ-loop Inv-rules μ-rules
-enum-known-item c = search needs
+enum-told : tie.Need-enum-told Inv-loop μ-loop Inv-rules μ-rules
+enum-told c = search needs
 
-rules-less : tie.Need-rules-less Inv-loop μ-loop Inv-rules μ-rules
-rules-less c = onward (c .before)
+mul-t21 : tie.Need-mul-t21 Inv-loop μ-loop Inv-rules μ-rules
+mul-t21 c = omega (arith, fell c .0)
 
-rules-again : tie.Need-rules-again Inv-loop μ-loop Inv-rules μ-rules
-rules-again c = (same-row (c .before), no-name-here (c .before .before .before .before .before .rules .inv .1) _ (past-names _ _ _ _ (item-read (c .before)) (c .match2 .keys2)))
+element-copy-out-t24 : tie.Need-element-copy-out-t24 Inv-loop μ-loop Inv-rules μ-rules
+element-copy-out-t24 c = fell c .0
 
-cast-number : tie.Need-cast-number Inv-loop μ-loop Inv-rules μ-rules
-cast-number c = search needs
+conclusion-requires : tie.Need-conclusion-requires Inv-loop μ-loop Inv-rules μ-rules
+conclusion-requires c κs = (c .before .before .before .before .before .before .before .pre .0, here (c .before) .known)
+
+cast-f : tie.Need-cast-f Inv-loop μ-loop Inv-rules μ-rules
+cast-f c = search needs
 
 element-copy-out-if1 : tie.Need-element-copy-out-if1 Inv-loop μ-loop Inv-rules μ-rules
-element-copy-out-if1 c = small (c .before)
+element-copy-out-if1 c = few-facts (c .before)
+
+rules-less : tie.Need-rules-less Inv-loop μ-loop Inv-rules μ-rules
+rules-less c = fell (c .before .before .before .before .before) .1
+
+rules-again : tie.Need-rules-again Inv-loop μ-loop Inv-rules μ-rules
+rules-again c = λ order s p w. let t = on-turn (c .before .before .before .before .before) order s p w in t .refused (concluded (t .holds) _ (mark-in _ (c .before .before .before .conclusion .ensures) (c .if1 .taken))) _ _ (t .holds)
+
+element-copy-out-if2 : tie.Need-element-copy-out-if2 Inv-loop μ-loop Inv-rules μ-rules
+element-copy-out-if2 c = few-facts (c .before .before .before)
 
 rules-less-2 : tie.Need-rules-less-2 Inv-loop μ-loop Inv-rules μ-rules
-rules-less-2 c = onward (c .before .before .before .before .before .before)
+rules-less-2 c = fell (c .before .before .before .before .before .before .before) .1
 
 rules-again-2 : tie.Need-rules-again-2 Inv-loop μ-loop Inv-rules μ-rules
-rules-again-2 c =
-    (same-row (c .before .before .before .before .before .before), passed-over (c .before .before .before .before .before .before .before .before .before .before .rules .inv .1) _ _ (one-named (c .before .before .before)) (λ s v q. skipped _ _ _ (c .if1 .taken) s q))
-
-conclusion-in-requires : tie.Need-conclusion-in-requires Inv-loop μ-loop Inv-rules μ-rules
-conclusion-in-requires c κs =
-    let p = c .before .before .before .before .before .before .before .before .before .before .before .before .before .pre in
-    ((p .0, below (c .before .before .before .before)), omega (arith, facts-below (p .0), p .1 .1 .0))
-
-rules-less-3 : tie.Need-rules-less-3 Inv-loop μ-loop Inv-rules μ-rules
-rules-less-3 c = onward (c .before .before .before .before .before .before .before .before .before)
-
-rules-again-3 : tie.Need-rules-again-3 Inv-loop μ-loop Inv-rules μ-rules
-rules-again-3 c =
-    (same-row (c .before .before .before .before .before .before .before .before .before), passed-over (c .before .before .before .before .before .before .before .before .before .before .before .before .before .rules .inv .1) _ _ (one-named (c .before .before .before .before .before .before)) (λ s v q. concluded (programIn (now (c .before .before .before .before .before .before .before .before .before .before .before .before .before .before .before .args .tables))) _ _ _ (sym (c .before .conclusion-in .ensures) ∙ c .if2 .taken) s v))
-
-premises-in-requires : tie.Need-premises-in-requires Inv-loop μ-loop Inv-rules μ-rules
-premises-in-requires c κs =
-    let p = c .before .before .before .before .before .before .before .before .before .before .before .before .before .before .before .before .pre in
-    ((p .0, below (c .before .before .before .before .before .before .before)), omega (arith, facts-below (p .0), p .1 .1 .0))
-
-rules-less-4 : tie.Need-rules-less-4 Inv-loop μ-loop Inv-rules μ-rules
-rules-less-4 c = onward (c .before .before .before .before .before .before .before .before .before .before .before .before)
-
-rules-again-4 : tie.Need-rules-again-4 Inv-loop μ-loop Inv-rules μ-rules
-rules-again-4 c =
-    (same-row (c .before .before .before .before .before .before .before .before .before .before .before .before), passed-over (c .before .before .before .before .before .before .before .before .before .before .before .before .before .before .before .before .rules .inv .1) _ _ (one-named (c .before .before .before .before .before .before .before .before .before)) (λ s v q. unfounded (programIn (now (c .before .before .before .before .before .before .before .before .before .before .before .before .before .before .before .before .before .before .args .tables))) _ _ _ (sym (c .before .premises-in .ensures) ∙ not-true _ (c .if3 .taken)) s v))
-
-element-write-skip : tie.Need-element-write-skip Inv-loop μ-loop Inv-rules μ-rules
-element-write-skip c = small (c .before .before .before .before .before .before .before .before .before)
-
-trial-requires : tie.Need-trial-requires Inv-loop μ-loop Inv-rules μ-rules
-trial-requires c κs = let p = c .before .before .before .before .before .before .before .before .before .before .before .before .before .before .before .before .before .before .pre in (p .0, (below (c .before .before .before .before .before .before .before .before .before), (p .1 .1 .0, p .1 .0)))
+rules-again-2 c = λ order s p w. let t = on-turn (c .before .before .before .before .before .before .before) order s p w in t .refused (rejected-already (t .holds) _ (mark-barred _ (c .before .before .before .before .before .conclusion .ensures) (c .if2 .taken))) _ _ (t .holds)
 
 constraint-span-requires : tie.Need-constraint-span-requires Inv-loop μ-loop Inv-rules μ-rules
-constraint-span-requires c κs = (c .before .before .before .before .before .before .before .before .before .before .before .before .before .before .before .before .before .before .before .before .pre .0, below (c .before .before .before .before .before .before .before .before .before .before .before))
+constraint-span-requires c κs = (c .before .before .before .before .before .before .before .before .before .before .before .before .before .pre .0, here (c .before .before .before .before .before .before .before) .known)
 
 loop-holds : tie.Need-loop-holds Inv-loop μ-loop Inv-rules μ-rules
 loop-holds c = none-tested _ (within (c .constraint-span .ensures))
@@ -138,53 +110,67 @@ constraint-at-requires : tie.Need-constraint-at-requires Inv-loop μ-loop Inv-ru
 constraint-at-requires c κs = omega (arith, c .before .before .constraint-span .ensures .high)
 
 -- the constraint read is a fact of the program
-element-copy-out-if4 : tie.Need-element-copy-out-if4 Inv-loop μ-loop Inv-rules μ-rules
-element-copy-out-if4 c =
-    omega
-    (arith, c .constraint-at .ensures, c .before .before .before .constraint-span .ensures .facts-below _ (c .before .before .loop .inv .reached) (c .before .loop-test .taken), facts-below (c .before .before .before .before .before .before .before .before .before .before .before .before .before .before .before .before .before .before .before .before .before .before .before .before .pre .0))
+element-copy-out-if3 : tie.Need-element-copy-out-if3 Inv-loop μ-loop Inv-rules μ-rules
+element-copy-out-if3 c =
+    omega (arith, c .constraint-at .ensures, c .before .before .before .constraint-span .ensures .facts-below _ (c .before .before .loop .inv .reached) (c .before .loop-test .taken), facts-below (c .before .before .before .before .before .before .before .before .before .before .before .before .before .before .before .before .before .pre .0))
 
-rules-less-5 : tie.Need-rules-less-5 Inv-loop μ-loop Inv-rules μ-rules
-rules-less-5 c = onward (c .before .before .before .before .before .before .before .before .before .before .before .before .before .before .before .before .before .before .before .before)
+rules-less-3 : tie.Need-rules-less-3 Inv-loop μ-loop Inv-rules μ-rules
+rules-less-3 c = fell (c .before .before .before .before .before .before .before .before .before .before .before .before .before) .1
 
-rules-again-5 : tie.Need-rules-again-5 Inv-loop μ-loop Inv-rules μ-rules
-unfolding has
-rules-again-5 c = (
-  same-row (c .before .before .before .before .before .before .before .before .before .before .before .before .before .before .before .before .before .before .before .before),
-  refused-now (c .before .before .before .before .before .before .before .before .before .before .before .before .before .before .before .before .before .before .before .before .before .before .before .before .rules .inv .1) _ _ (one-named (c .before .before .before .before .before .before .before .before .before .before .before .before .before .before .before .before .before))
-      (one-tried (c .before .before .before .before .before .before .before) .meets-own
-      (ap (all _) (c .before .before .before .before .before .constraint-span .ensures .is)
-      ∙ sym (test-fails (c .before .before .before .before .loop .inv) (c .before .before .before .loop-test .taken) (rw (← c .before .before .constraint-at .ensures) (ap not (eq-eqb _ _ (c .if4 .taken))))))),
-)
+rules-again-3 : tie.Need-rules-again-3 Inv-loop μ-loop Inv-rules μ-rules
+rules-again-3 c = λ order s p w. let t = on-turn (c .before .before .before .before .before .before .before .before .before .before .before .before .before) order s p w in t .refused (constraint-met (t .holds) _ (met c)) _ _ (t .holds)
 
-add-place : tie.Need-add-place Inv-loop μ-loop Inv-rules μ-rules
-add-place c = omega (arith, c .before .before .before .before .before .constraint-span .ensures .high)
+add-at : tie.Need-add-at Inv-loop μ-loop Inv-rules μ-rules
+add-at c = omega (arith, c .before .before .before .before .before .constraint-span .ensures .high)
 
 loop-less : tie.Need-loop-less Inv-loop μ-loop Inv-rules μ-rules
 loop-less c = omega arith
 
 loop-again : tie.Need-loop-again Inv-loop μ-loop Inv-rules μ-rules
 unfolding has
-loop-again c = test-passes (c .before .before .before .before .loop .inv) (c .before .before .before .loop-test .taken) (rw (← c .before .before .constraint-at .ensures) (ap not (ne-eqb _ _ (c .if4 .left))))
+loop-again c = test-passes (c .before .before .before .before .loop .inv) (c .before .before .before .loop-test .taken) (rw (← c .before .before .constraint-at .ensures) (ap not (ne-eqb _ _ (c .if3 .left))))
 
-apart-requires : tie.Need-apart-requires Inv-loop μ-loop Inv-rules μ-rules
-apart-requires c κs = search needs
+trial-requires : tie.Need-trial-requires Inv-loop μ-loop Inv-rules μ-rules
+trial-requires c κs =
+    let p = c .before .before .before .before .before .before .before .before .before .before .before .before .before .before .before .before .before .before .pre in
+    let t = here (c .before .before .before .before .before .before .before .before .before .before .before .before) in (
+      (p .0, t .known),
+      (
+        p .1 .0,
+        (
+          (held-room (facts-below (p .0)) (t .holds), t .holds .fired-places),
+          (
+            mark-out _ (c .before .before .before .before .before .before .before .before .before .before .conclusion .ensures) (c .before .before .before .before .before .before .before .if1 .left),
+            ap (all _) (c .before .before .before .before .constraint-span .ensures .is) ∙ sym (all-tested (c .before .before .before .loop .inv) (c .before .before .loop-test .left)),
+          ),
+        ),
+      ),
+    )
 
-rules-less-6 : tie.Need-rules-less-6 Inv-loop μ-loop Inv-rules μ-rules
-rules-less-6 c = onward (c .before .before .before .before .before .before .before .before .before .before .before .before .before .before .before .before .before .before .before)
+enum-known-steps : tie.Need-enum-known-steps Inv-loop μ-loop Inv-rules μ-rules
+enum-known-steps c = search needs
 
-rules-again-6 : tie.Need-rules-again-6 Inv-loop μ-loop Inv-rules μ-rules
-rules-again-6 c =
-    (same-row (c .before .before .before .before .before .before .before .before .before .before .before .before .before .before .before .before .before .before .before), refused-now (c .before .before .before .before .before .before .before .before .before .before .before .before .before .before .before .before .before .before .before .before .before .before .before .rules .inv .1) _ _ (one-named (c .before .before .before .before .before .before .before .before .before .before .before .before .before .before .before .before)) (one-tried (c .before .before .before .before .before .before) .meets-rejected (sym (c .before .apart .ensures) ∙ c .if5 .left)))
+enum-told-2 : tie.Need-enum-told-2 Inv-loop μ-loop Inv-rules μ-rules
+enum-told-2 c = search needs
+
+rules-less-4 : tie.Need-rules-less-4 Inv-loop μ-loop Inv-rules μ-rules
+rules-less-4 c = fell (c .before .before .before .before .before .before .before .before .before .before .before .before .before .before .before) .1
+
+rules-again-4 : tie.Need-rules-again-4 Inv-loop μ-loop Inv-rules μ-rules
+rules-again-4 c =
+    λ order s p w.
+    let t = on-turn (c .before .before .before .before .before .before .before .before .before .before .before .before .before .before .before) order s p w in
+    let f = rw (c .enum-told2 .given .1) at (c .before .before .trial .ensures .0 s (t .holds) (t .premises-in) (t .excepted)) in
+    t .refused (f .not-eligible) _ _ (f .holds)
 
 returns : tie.Need-returns Inv-loop μ-loop Inv-rules μ-rules
-returns c = none-eligible (c .before .before .rules .inv .1) (nothing-read namesOf (λ fault. refl) _ _ _ (sym (c .before .next-name .ensures)) (c .match .keys2))
+returns c = λ order s p w. let v = c .before .before .before .before .rules .inv order s p w in none-found (v .1) _ (c .before .before .take .ensures .1 (v .0) (v .1 .flags)) (c .enum-told .given .1)
 
 returns-2 : tie.Need-returns-2 Inv-loop μ-loop Inv-rules μ-rules
 returns-2 c =
-    found-first (c .before .before .before .before .before .before .before .before .before .before .before .before .before .before .before .before .before .before .before .before .before .before .before .rules .inv .1) _ _ (one-named (c .before .before .before .before .before .before .before .before .before .before .before .before .before .before .before .before))
-    (one-tried (c .before .before .before .before .before .before) .meets-neither
-    (ap (all _) (c .before .before .before .before .constraint-span .ensures .is) ∙ sym (all-tested (c .before .before .before .loop .inv) (c .before .before .loop-test .left)))
-    (sym (c .before .apart .ensures) ∙ c .if5 .taken))
+    λ order s p w.
+    let t = on-turn (c .before .before .before .before .before .before .before .before .before .before .before .before .before .before .before .before) order s p w in
+    t .passes _ _ _ (rw (c .before .steps .given .1) at (c .before .before .before .trial .ensures .0 s (t .holds) (t .premises-in) (t .excepted)))
 
 pub first-eligible-spec : {M : Type 1} → statement M
 first-eligible-spec =
@@ -195,34 +181,32 @@ first-eligible-spec =
     Inv-rules
     μ-rules
     rules-holds
-    next-name-requires
-    enum-known-read
-    enum-known-item
+    take-requires
+    enum-known-lowest
+    enum-told
+    mul-t21
+    element-copy-out-t24
+    conclusion-requires
+    cast-f
+    element-copy-out-if1
     rules-less
     rules-again
-    cast-number
-    element-copy-out-if1
+    element-copy-out-if2
     rules-less-2
     rules-again-2
-    conclusion-in-requires
-    rules-less-3
-    rules-again-3
-    premises-in-requires
-    rules-less-4
-    rules-again-4
-    element-write-skip
-    trial-requires
     constraint-span-requires
     loop-holds
     constraint-at-requires
-    element-copy-out-if4
-    rules-less-5
-    rules-again-5
-    add-place
+    element-copy-out-if3
+    rules-less-3
+    rules-again-3
+    add-at
     loop-less
     loop-again
-    apart-requires
-    rules-less-6
-    rules-again-6
+    trial-requires
+    enum-known-steps
+    enum-told-2
+    rules-less-4
+    rules-again-4
     returns
     returns-2)

@@ -1,46 +1,85 @@
--- D with the conclusion, closed on scratch memory that has room for a step for each fact.
-use denote.Ref.{now}
+-- `trial`: each way out leaves what the law of a trial says.
+use mathlib.Core.Path.{refl, _∙_}
 use borrow.Author.Needs.{needs}
+use denote.Ref.{now}
+use lib.ListN.{length-set}
+use Rattle.tables.specs.Layout.{programIn}
 use Rattle.tables.proofs.ProgramHeld.{facts-below}
-use Rattle.stage.proofs.TrialClosed.{read-small, trial-room, trial-made}
+use Rattle.stage.proofs.TrialMade.{Trying, trying, closed-not-barred}
 use Rattle.stage.proofs.trial.trial.Statement.{statement}
 use Rattle.stage.proofs.trial.trial.Tie as tie
 
+one-trial : (c : tie.After-conclusion) → Trying (programIn (now (c .before .before .before .before .args .tables))) (c .before .before .before .before .args .rule .0) (now (c .before .before .before .before .args .marks)) (c .before .before .before .before .args .count) (c .before .mark-own .last .1 .1 .1 .0) (c .conclusion .result)
+one-trial c =
+    let p = c .before .before .before .before .pre in
+    trying _ (p .0 .0 .in-bounds) (facts-below (p .0 .0)) _ (p .0 .1) _ _ (p .1 .1 .0 .0) (p .1 .1 .1 .0) (p .1 .1 .1 .1) _ (c .before .mark-own .ensures) _ (c .conclusion .ensures)
+
+mark-own-requires : tie.Need-mark-own-requires
+mark-own-requires c κs = search needs
+
 conclusion-requires : tie.Need-conclusion-requires
-conclusion-requires c κs = (c .pre .0, c .pre .1 .0)
+conclusion-requires c κs = search needs
 
 cast-f : tie.Need-cast-f
 cast-f c = search needs
 
-array-write-set : tie.Need-array-write-set
-array-write-set c =
-    let p = c .before .before .before .pre in
-    read-small (p .0 .in-bounds) (facts-below (p .0)) (now (c .before .before .before .args .derived)) (p .1 .1 .0) _ (p .1 .0) _ (c .before .before .conclusion .ensures)
-
-slice-aggregate-derive : tie.Need-slice-aggregate-derive
-slice-aggregate-derive c = search needs
-
-slice-aggregate-derive-2 : tie.Need-slice-aggregate-derive-2
-slice-aggregate-derive-2 c = search needs
-
-derive-requires : tie.Need-derive-requires
-derive-requires c κs =
-    let p = c .before .before .before .before .before .pre in
-    (p .0, trial-room (p .0 .in-bounds) (facts-below (p .0)) (now (c .before .before .before .before .before .args .derived)) (p .1 .1 .0) _ (p .1 .0) _ (c .before .before .before .before .conclusion .ensures))
+array-read-if1 : tie.Need-array-read-if1
+array-read-if1 c = one-trial (c .before) .small
 
 returns : tie.Need-returns
 returns c =
+    (λ s w _ _. one-trial (c .before .before) .refused (c .if1 .taken) _ s w, (λ _. refl, c .before .before .before .before .before .before .pre .1 .1 .0 .1))
+
+array-write-set : tie.Need-array-write-set
+array-write-set c = one-trial (c .before .before) .small
+
+mul-fired : tie.Need-mul-fired
+mul-fired c = search needs
+
+element-write-fired : tie.Need-element-write-fired
+element-write-fired c = one-trial (c .before .before) .cell
+
+add-derive : tie.Need-add-derive
+add-derive c = search needs
+
+derive-requires : tie.Need-derive-requires
+derive-requires c κs =
     let p = c .before .before .before .before .before .before .before .before .pre in
-    trial-made (p .0 .in-bounds) (facts-below (p .0)) (now (c .before .before .before .before .before .before .before .before .args .derived)) (p .1 .1 .0) _ (p .1 .0) _ (c .before .before .before .before .before .before .before .conclusion .ensures) _ _ (p .1 .1 .1) (c .before .before .derive .ensures .1 .0)
+    (p .0 .0, (one-trial (c .before .before .before .before) .room, length-set (now (c .before .before .before .before .before .before .before .before .args .fired)) (c .before .before .before .before .before .before .before .before .args .count) (c .before .before .before .before .before .before .before .before .args .rule .0) ∙ p .1 .1 .0 .1))
+
+enum-known-steps : tie.Need-enum-known-steps
+enum-known-steps c = search needs
+
+enum-told : tie.Need-enum-told
+enum-told c = search needs
+
+returns-2 : tie.Need-returns-2
+returns-2 c = (
+  λ s w prem x. one-trial (c .before .before .before .before .before .before .before .before) .passes (c .before .before .before .before .before .before .if1 .left) (now (c .before .before .before .before .before .before .before .before .before .before .before .before .args .plain)) (c .before .before .before .before .before .before .before .before .before .before .before .before .pre .1 .0) (now (c .before .before .before .before .before .before .before .before .before .before .before .before .args .fired)) (c .before .before .before .derive .last .1 .1 .0) (c .before .before .before .derive .last .1 .1 .1 .0) (c .before .before .before .derive .result) (c .before .before .before .derive .ensures) _ (c .before .steps .given .1) s w prem x,
+  (λ e. closed-not-barred _ e, c .before .before .before .derive .ensures .1 .1 .1),
+)
+
+returns-3 : tie.Need-returns-3
+returns-3 c = (
+  λ s w _ _. one-trial (c .before .before .before .before .before .before .before) .fails (c .before .before .before .before .before .if1 .left) (now (c .before .before .before .before .before .before .before .before .before .before .before .args .plain)) (c .before .before .before .before .before .before .before .before .before .before .before .pre .1 .0) (now (c .before .before .before .before .before .before .before .before .before .before .before .args .fired)) (c .before .before .derive .last .1 .1 .0) (c .before .before .derive .last .1 .1 .1 .0) (c .before .before .derive .result) (c .before .before .derive .ensures) (c .enum-told .given .1) s w,
+  (λ _. refl, c .before .before .derive .ensures .1 .1 .1),
+)
 
 pub trial-spec : {M : Type 1} → statement M
 trial-spec =
     tie.close
     (tie.spec
+    mark-own-requires
     conclusion-requires
     cast-f
+    array-read-if1
+    returns
     array-write-set
-    slice-aggregate-derive
-    slice-aggregate-derive-2
+    mul-fired
+    element-write-fired
+    add-derive
     derive-requires
-    returns)
+    enum-known-steps
+    enum-told
+    returns-2
+    returns-3)

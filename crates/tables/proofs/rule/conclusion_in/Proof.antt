@@ -1,6 +1,6 @@
 -- `conclusion_in`: the byte of the conclusion.
 use native.Mathlib.Omega.{arith}
-use mathlib.Core.Path.{_≡_, ap}
+use mathlib.Core.Path.{ap}
 use borrow.Author.Needs.{needs}
 use denote.Ref.{now}
 use Rattle.items.specs.declared.item.FactId.{FactId}

@@ -1,13 +1,8 @@
 -- `premises_in`: what is to come decides what the whole does.
-use Prim.Native.Nat.{ℕ, _-_}
-use mathlib.Core.Path.{_≡_, sym, ap, _∙_}
-use mathlib.Core.Bool.{Bool, not}
-use mathlib.Core.List.{List}
+use Prim.Native.Nat.{_-_}
+use mathlib.Core.Path.{sym, ap, _∙_}
 use native.Mathlib.Omega.{arith}
-use borrow.Author.Needs.{needs}
 use borrow.Author.Tests.{eq-eqb, ne-eqb}
-use denote.Ref.{now}
-use lib.ListN.{length}
 use Rattle.items.specs.Item.{has}
 use Rattle.theory.specs.Rule.{all}
 use Rattle.tables.specs.Layout.{premiseAt, span}

@@ -1,0 +1,65 @@
+-- `copy_row`: word by word.
+use Prim.Native.Nat.{_-_}
+use native.Mathlib.Omega.{arith}
+use borrow.Author.Needs.{needs}
+use Rattle.bits.specs.Flags.{rowWords}
+use Rattle.bits.proofs.MatrixMarked.{Copying, none-copied, one-copied, all-copied}
+use Rattle.bits.proofs.matrix.copy_row.Statement.{statement}
+use Rattle.bits.proofs.matrix.copy_row.Tie as tie
+
+abbrev Inv-loop : tie.InvT-loop
+Inv-loop matrix fact row₀ from k₀ row k = Copying matrix fact row₀ row k
+
+abbrev μ-loop : tie.MeasureT-loop
+μ-loop matrix fact row₀ from k₀ row k = rowWords - k
+
+mul-from : tie.Need-mul-from Inv-loop μ-loop
+mul-from c = search needs
+
+loop-holds : tie.Need-loop-holds Inv-loop μ-loop
+loop-holds c = none-copied _ _ _
+
+add-row : tie.Need-add-row Inv-loop μ-loop
+add-row c = search needs
+
+mul-row : tie.Need-mul-row Inv-loop μ-loop
+mul-row c = search needs
+
+element-copy-out-row : tie.Need-element-copy-out-row Inv-loop μ-loop
+element-copy-out-row c = search needs
+
+mul-row-2 : tie.Need-mul-row-2 Inv-loop μ-loop
+mul-row-2 c = search needs
+
+element-write-row : tie.Need-element-write-row Inv-loop μ-loop
+element-write-row c = search needs
+
+add-k : tie.Need-add-k Inv-loop μ-loop
+add-k c = search needs
+
+loop-less : tie.Need-loop-less Inv-loop μ-loop
+loop-less c = omega arith
+
+loop-again : tie.Need-loop-again Inv-loop μ-loop
+loop-again c = one-copied (c .before .before .loop .inv) (c .before .loop-test .taken)
+
+returns : tie.Need-returns Inv-loop μ-loop
+returns c = all-copied (c .before .loop .inv) (c .loop-test .left)
+
+pub copy-row-spec : {M : Type 1} → statement M
+copy-row-spec =
+    tie.close
+    (tie.spec
+    Inv-loop
+    μ-loop
+    mul-from
+    loop-holds
+    add-row
+    mul-row
+    element-copy-out-row
+    mul-row-2
+    element-write-row
+    add-k
+    loop-less
+    loop-again
+    returns)

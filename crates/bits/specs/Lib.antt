@@ -1,0 +1,3 @@
+-- What only code and proofs use.
+pub mod Flags
+pub mod Matrix

@@ -1,0 +1,46 @@
+// A row of bits: one is marked, and the lowest is taken. Internal.
+ghost use Prim.Native.Nat.{ℕ, _<_};
+ghost use mathlib.Core.Bool.{Bool};
+ghost use Rattle.theory.specs.Rule.{adjoin};
+ghost use Rattle.items.specs.Item.{maxRules};
+ghost use Rattle.bits.specs.Flags.{Flags, Taken, Falls};
+use crate::word::lowest_bit;
+use crate::word::with_bit;
+use crate::word::without_lowest;
+use items::item::MAX_RULES;
+
+pub const WORD_BITS: usize = 64;
+
+pub const ROW_WORDS: usize = MAX_RULES / WORD_BITS;
+
+// The lowest place that was marked, or that there was none.
+pub enum Lowest {
+    At(usize),
+    Nothing,
+}
+
+// Marks a place.
+pub fn mark(row: &mut [u64; ROW_WORDS], place: usize)
+    requires { ⌜ place < maxRules ⌝ }
+    ensures { λ _. ⌜ ((p : ℕ → Bool) → Flags p (now (row .entry)) → Flags (adjoin p place) (now (row .exit))) ⌝ }
+{
+    let at = place / WORD_BITS;
+    row[at] = with_bit(row[at], place % WORD_BITS);
+}
+
+// Takes the lowest marked place out of the row.
+pub fn take(row: &mut [u64; ROW_WORDS]) -> Lowest
+    ensures { λ r. ⌜ Falls r (now (row .entry)) (now (row .exit)) ⌝ }
+    ensures { λ r. ⌜ ((p : ℕ → Bool) → Flags p (now (row .entry)) → Taken p r (now (row .exit))) ⌝ }
+{
+    let mut at: usize = 0;
+    while at < ROW_WORDS {
+        let word = row[at];
+        if word != 0 {
+            row[at] = without_lowest(word);
+            return Lowest::At(at * WORD_BITS + lowest_bit(word));
+        }
+        at += 1;
+    }
+    Lowest::Nothing
+}

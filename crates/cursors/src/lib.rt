@@ -1,0 +1,2 @@
+// The reader that moves past one whole item at a time.
+pub mod cursor;

@@ -1,0 +1,2 @@
+pub mod MarksPainted
+pub mod RulesMarked

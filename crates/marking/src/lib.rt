@@ -1,0 +1,2 @@
+// Facts and rules marked by what the rules say. Internal.
+pub mod marks;

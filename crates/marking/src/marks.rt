@@ -1,0 +1,65 @@
+// Marks that are set by what the rules say.
+ghost use Prim.Native.Nat.{_<_};
+ghost use mathlib.Core.Path.{_≡_};
+ghost use lib.ListN.{length};
+ghost use Rattle.theory.specs.Rule.{mem, count, inForce, constraintFact, plainRules, rule as ruleOf};
+ghost use Rattle.items.specs.Item.{narrow, maxFacts, maxRules};
+ghost use Rattle.tables.specs.Layout.{programIn, WellFormed};
+ghost use Rattle.marking.specs.Marks.{paintAs, paint};
+use items::item::MAX_FACTS;
+use items::item::MAX_RULES;
+use items::item::RuleId;
+use tables::layout::TABLE_CELLS;
+use tables::layout::rules_of;
+use tables::own::constraint_at;
+use tables::own::constraint_span;
+use tables::rule::is_exception;
+
+// The marks of a fact in a set, and of a fact that is not to enter it.
+pub const IN: u8 = 1;
+
+pub const BARRED: u8 = 2;
+
+// Gives the constraints of a rule a mark.
+pub fn mark_own(tables: &[u16; TABLE_CELLS], rule: RuleId, mark: u8, marks: &mut [u8; MAX_FACTS])
+    requires { ⌜ WellFormed (now tables) × (rule .0 < count (programIn (now tables))) ⌝ }
+    requires { ⌜ length (now marks) ≡ maxFacts narrow ⌝ }
+    ensures { λ _. ⌜ now (marks .exit) ≡ paintAs mark (λ k. mem k (ruleOf (programIn (now (tables .entry))) (rule .0) .constraints)) (now (marks .entry)) ⌝ }
+{
+    let own = constraint_span(tables, rule);
+    let end = own.end;
+    let mut place = own.from;
+    while place < end {
+        let fact = constraint_at(tables, place);
+        marks[fact] = mark;
+        place += 1;
+    }
+}
+
+// Marks the constraint facts: the constraints of all rules in force.
+pub fn mark_constraint_facts(tables: &[u16; TABLE_CELLS], marks: &mut [u8; MAX_FACTS])
+    requires { ⌜ WellFormed (now tables) × (length (now marks) ≡ maxFacts narrow) ⌝ }
+    ensures { λ _. ⌜ now (marks .exit) ≡ paint (constraintFact (programIn (now (tables .entry))) (inForce (programIn (now (tables .entry))))) (now (marks .entry)) ⌝ }
+{
+    let rules = rules_of(tables);
+    let mut i: usize = 0;
+    while i < rules {
+        mark_own(tables, RuleId(i as u16), IN, marks);
+        i += 1;
+    }
+}
+
+// Marks the plain rules.
+pub fn mark_plain(tables: &[u16; TABLE_CELLS], marks: &mut [u8; MAX_RULES])
+    requires { ⌜ WellFormed (now tables) × (length (now marks) ≡ maxRules) ⌝ }
+    ensures { λ _. ⌜ now (marks .exit) ≡ paint (plainRules (programIn (now (tables .entry))) (inForce (programIn (now (tables .entry))))) (now (marks .entry)) ⌝ }
+{
+    let rules = rules_of(tables);
+    let mut i: usize = 0;
+    while i < rules {
+        if !is_exception(tables, RuleId(i as u16)) {
+            marks[i] = IN;
+        }
+        i += 1;
+    }
+}

@@ -1,0 +1,2 @@
+pub mod RowFilled
+pub mod FewNamed

@@ -1,0 +1,39 @@
+-- How many premises the rule at a place lacks.
+use Prim.Native.Nat.{ℕ, _+_, _<_}
+use mathlib.Core.Path.{_≡_, refl, sym, ap, _∙_}
+use mathlib.Core.Bool.{true, false}
+use mathlib.Core.List.{List}
+use mathlib.Core.Logic.{⊎-elim}
+use borrow.Author.Tests.{ltb-true, ltb-false}
+use lib.ListN.{getD, List·getD-eq-default}
+use lib.Dec.{ltb}
+use Rattle.theory.specs.Rule.{all, mem, upTo, Program, FactSet, Bounded, adjoin, Rule, blank, count, rule}
+use Rattle.theory.proofs.Bools.{either, never}
+use Rattle.theory.proofs.Lists.{all-elem, howMany-ext}
+use Rattle.theory.proofs.Counted.{listed-fewer, unlisted-same, none-lacked, lacked-none}
+use Rattle.premises.specs.Premises.{premisesAt, lacks, lacking}
+
+-- Each is a fact of the program; there is none past the last rule.
+pub premises-below : {P : Program} → Bounded P → (row : List ℕ) (k f : ℕ) → mem f (premisesAt P row k) ≡ true → f < P .facts
+premises-below {P} b row k f m = go (getD row k 0) m
+  where
+    go : (i : ℕ) → mem f (rule P i .premises) ≡ true → f < P .facts
+    go i t =
+        ⊎-elim
+        (λ e. ltb-true f (P .facts) (all-elem (λ g. ltb g (P .facts)) (rule P i .premises) (b .premises-below i (ltb-true i (count P) e)) f t))
+        (λ e. never (sym (ap (λ (r : Rule). mem f (r .premises)) (List·getD-eq-default (P .rules) blank (ltb-false i (count P) e))) ∙ t) refl)
+        (either (ltb i (count P)))
+
+-- A rule lacks none exactly where all its premises are in the set.
+pub lacks-none : {P : Program} → Bounded P → (row : List ℕ) (S : FactSet) (k : ℕ) → lacking P row S k ≡ 0 → all S (premisesAt P row k) ≡ true
+lacks-none {P} b row S k e = none-lacked (premisesAt P row k) S (P .facts) (λ f m. premises-below b row k f m) e
+
+pub none-lacks : (P : Program) (row : List ℕ) (S : FactSet) (k : ℕ) → all S (premisesAt P row k) ≡ true → lacking P row S k ≡ 0
+none-lacks P row S k a = lacked-none (premisesAt P row k) S (P .facts) a
+
+-- With one fact more, a rule that has it as a premise lacks one less, and every other as many.
+pub asked-lacking : {P : Program} → Bounded P → (row : List ℕ) (S : FactSet) (f k : ℕ) → S f ≡ false → mem f (premisesAt P row k) ≡ true → lacking P row S k ≡ lacking P row (adjoin S f) k + 1
+asked-lacking {P} b row S f k out m = listed-fewer (premisesAt P row k) S f out (P .facts) (premises-below b row k f m) m
+
+pub unasked-lacking : (P : Program) (row : List ℕ) (S : FactSet) (f k : ℕ) → S f ≡ false → mem f (premisesAt P row k) ≡ false → lacking P row S k ≡ lacking P row (adjoin S f) k
+unasked-lacking P row S f k out m = howMany-ext (lacks P row S k) (lacks P row (adjoin S f) k) (upTo (P .facts)) (λ x _. unlisted-same (premisesAt P row k) S f out m x)

@@ -1,0 +1,4 @@
+-- What only code and proofs use.
+pub mod Premises
+pub mod Filling
+pub mod Waking

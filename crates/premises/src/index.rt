@@ -1,0 +1,72 @@
+// The premises of a row of rules. Internal.
+ghost use Prim.Native.Nat.{ℕ, _<_, _≤_};
+ghost use mathlib.Core.Path.{_≡_};
+ghost use mathlib.Core.Bool.{Bool, false};
+ghost use lib.ListN.{take};
+ghost use Rattle.theory.specs.Rule.{nothing, count, rule as ruleOf};
+ghost use Rattle.items.specs.Item.{maxRules};
+ghost use Rattle.bits.specs.Flags.{Flags};
+ghost use Rattle.bits.specs.Matrix.{Matrix};
+ghost use Rattle.tables.specs.Layout.{maxOwn, programIn, WellFormed};
+ghost use Rattle.premises.specs.Premises.{Asked, Counted, ripe};
+ghost use Rattle.premises.specs.Filling.{Listed, Blank, Entered};
+use bits::matrix::MATRIX_WORDS;
+use bits::matrix::mark_in;
+use bits::row::ROW_WORDS;
+use bits::row::mark;
+use items::item::MAX_RULES;
+use items::item::RuleId;
+use tables::layout::TABLE_CELLS;
+use tables::own::premise_at;
+use tables::own::premise_span;
+
+// Marks the premises of a rule at its place. Answers how many distinct premises it has.
+fn index_rule(
+    tables: &[u16; TABLE_CELLS],
+    rule: RuleId,
+    place: usize,
+    asks: &mut [u64; MATRIX_WORDS],
+) -> usize
+    requires { ⌜ WellFormed (now tables) × (rule .0 < count (programIn (now tables))) × (place < maxRules) ⌝ }
+    ensures { λ r. ⌜ r ≤ maxOwn ⌝ }
+    ensures { λ r. ⌜ ((q : ℕ → ℕ → Bool) → Matrix q (now (asks .entry)) → ((f : ℕ) → q f place ≡ false) → Entered (programIn (now (tables .entry)) .facts) q place (ruleOf (programIn (now (tables .entry))) (rule .0) .premises) (now (asks .exit)) r) ⌝ }
+{
+    let own = premise_span(tables, rule);
+    let end = own.end;
+    let mut distinct: usize = 0;
+    let mut at = own.from;
+    while at < end {
+        let fact = premise_at(tables, at);
+        if mark_in(asks, fact, place) {
+            distinct += 1;
+        }
+        at += 1;
+    }
+    distinct
+}
+
+// Fills the empty index with the rules of a row, how many distinct premises each has, and which have none.
+pub fn index_row(
+    tables: &[u16; TABLE_CELLS],
+    row: &[u16; MAX_RULES],
+    names: usize,
+    asks: &mut [u64; MATRIX_WORDS],
+    missing: &mut [u16; MAX_RULES],
+    awake: &mut [u64; ROW_WORDS],
+)
+    requires { ⌜ WellFormed (now tables) × Listed (programIn (now tables)) (now row) names × Blank (now asks) (now missing) (now awake) ⌝ }
+    ensures { λ _. ⌜ Asked (programIn (now (tables .entry))) (take names (now (row .entry))) (now (asks .exit)) ⌝ }
+    ensures { λ _. ⌜ Counted (programIn (now (tables .entry))) (take names (now (row .entry))) nothing (now (missing .exit)) ⌝ }
+    ensures { λ _. ⌜ Flags (ripe (programIn (now (tables .entry))) (take names (now (row .entry))) nothing) (now (awake .exit)) ⌝ }
+{
+    let mut place: usize = 0;
+    while place < names {
+        let rule = row[place];
+        let distinct = index_rule(tables, RuleId(rule), place, asks);
+        missing[place] = distinct as u16;
+        if distinct == 0 {
+            mark(awake, place);
+        }
+        place += 1;
+    }
+}

@@ -1,0 +1,182 @@
+// One case: the call that it asks for, in buffers of the lengths that it says, and whether the reply and every byte are as it expects.
+use crate::read::PLACES;
+use crate::read::number;
+use crate::read::row;
+use questions::answer::Answer;
+
+// No buffer that a case lends is longer.
+const ROOM: usize = 16384;
+
+// The numbers of a reply; where it has fewer, the others are 0.
+const NUMBERS: usize = 6;
+
+// The first row of a case has numbers of two bytes: the operation, whether the file is that of the case before, what every byte of the
+// buffers is before, the asked fact in two halves, the lengths of the four buffers, and the reply.
+const LENGTHS: usize = 10;
+
+const REPLY: usize = 18;
+
+// The number that a question by itself replies. No case expects the last one, of an operation that there is not.
+fn question(operation: u32, file: &[u8], row: &[u8], fact: u32) -> u32 {
+    let answer = match operation {
+        7 => naming::order::ask_order(file, row),
+        8 => naming::order::ask_list(file, row),
+        9 => questions::fact_set::ask_set(file, row),
+        10 => questions::row::ask_row(file, fact, row),
+        _ => return 65536,
+    };
+    match answer {
+        Answer::Yes => 0,
+        Answer::No(r) => r.number() as u32,
+    }
+}
+
+// What an operation replies that is lent no buffer.
+fn answer(operation: u32, file: &[u8], second: &[u8], third: &[u8], fact: u32) -> [u32; NUMBERS] {
+    match operation {
+        1 => {
+            let a = retention::retention_accept(file);
+            [
+                a.refusal,
+                a.facts,
+                a.rules,
+                a.exceptions,
+                a.constraints,
+                a.step_bytes,
+            ]
+        }
+        3 => {
+            let a = retention::retention_judge(file, second, third);
+            [a.refusal, a.verdict, 0, 0, 0, 0]
+        }
+        4 => {
+            let a = retention::retention_check(file, second, fact, third);
+            [a.refusal, a.verdict, 0, 0, 0, 0]
+        }
+        _ => [question(operation, file, second, fact), 0, 0, 0, 0, 0],
+    }
+}
+
+// What any operation replies, in the buffers that it is lent. The rows of the case stand at these places, and its file may stand before them.
+fn reply(
+    bytes: &[u8],
+    places: [usize; PLACES],
+    file: usize,
+    f: &mut [u8],
+    r: &mut [u8],
+    s: &mut [u8],
+    o: &mut [u8],
+) -> [u32; NUMBERS] {
+    let head = row(bytes, places[0]);
+    let file = row(bytes, file);
+    let second = row(bytes, places[3]);
+    let operation = number(head, 0);
+    match operation {
+        2 => {
+            let a = retention::retention_run(file, second, f, r, s);
+            [a.refusal, a.stages, a.steps, 0, 0, 0]
+        }
+        5 => {
+            let a = retention::retention_search(file, f, r, s, o);
+            [a.refusal, a.stages, a.steps, 0, 0, 0]
+        }
+        6 => [retention::retention_panel(file, f), 0, 0, 0, 0, 0],
+        _ => {
+            let fact = (number(head, 6) << 16) | number(head, 8);
+            answer(operation, file, second, row(bytes, places[4]), fact)
+        }
+    }
+}
+
+fn same_numbers(head: &[u8], reply: [u32; NUMBERS]) -> bool {
+    let mut i: usize = 0;
+    while i < NUMBERS {
+        if reply[i] != number(head, REPLY + 2 * i) {
+            return false;
+        }
+        i += 1;
+    }
+    true
+}
+
+// A buffer holds the expected bytes, and past them what it held before.
+fn holds(buffer: &[u8], bytes: &[u8], at: usize, fill: u8) -> bool {
+    let front = row(bytes, at);
+    if buffer.len() < front.len() {
+        return false;
+    }
+    let mut i: usize = 0;
+    while i < buffer.len() {
+        let expected = if i < front.len() { front[i] } else { fill };
+        if buffer[i] != expected {
+            return false;
+        }
+        i += 1;
+    }
+    true
+}
+
+// The reply and the four buffers are as the case expects.
+fn in_buffers(
+    bytes: &[u8],
+    places: [usize; PLACES],
+    file: usize,
+    f: &mut [u8],
+    r: &mut [u8],
+    s: &mut [u8],
+    o: &mut [u8],
+) -> bool {
+    let reply = reply(bytes, places, file, f, r, s, o);
+    let head = row(bytes, places[0]);
+    if !same_numbers(head, reply) {
+        return false;
+    }
+    let fill = fill_of(head);
+    if !holds(f, bytes, places[5], fill) {
+        return false;
+    }
+    if !holds(r, bytes, places[6], fill) {
+        return false;
+    }
+    if !holds(s, bytes, places[7], fill) {
+        return false;
+    }
+    holds(o, bytes, places[8], fill)
+}
+
+// What every byte of the buffers is before.
+fn fill_of(head: &[u8]) -> u8 {
+    (number(head, 4) % 256) as u8
+}
+
+// The case whose rows stand at these places, and whose file may stand before them.
+pub fn agrees(bytes: &[u8], places: [usize; PLACES], file: usize) -> bool {
+    let head = row(bytes, places[0]);
+    let fill = fill_of(head);
+    let facts = number(head, LENGTHS) as usize;
+    let rules = number(head, LENGTHS + 2) as usize;
+    let steps = number(head, LENGTHS + 4) as usize;
+    let order = number(head, LENGTHS + 6) as usize;
+    let mut f = [fill; ROOM];
+    let mut r = [fill; ROOM];
+    let mut s = [fill; ROOM];
+    let mut o = [fill; ROOM];
+    if facts <= ROOM {
+        if rules <= ROOM {
+            if steps <= ROOM {
+                if order <= ROOM {
+                    return in_buffers(
+                        bytes,
+                        places,
+                        file,
+                        &mut f[..facts],
+                        &mut r[..rules],
+                        &mut s[..steps],
+                        &mut o[..order],
+                    );
+                }
+            }
+        }
+    }
+    false
+}

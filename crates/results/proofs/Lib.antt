@@ -1,0 +1,2 @@
+pub mod MarksWritten
+pub mod StepsWritten
