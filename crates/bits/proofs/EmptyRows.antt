@@ -1,12 +1,13 @@
 -- Words that are all 0 stand for nothing.
-use Prim.Native.Nat.{ℕ, zero, suc, _+_, _*_}
+use Prim.Native.Nat.{ℕ, zero, suc, _+_, _*_, _≤_}
 use mathlib.Core.Path.{_≡_, refl, sym, ap₂, _∙_}
 use mathlib.Core.Bool.{Bool, false}
+use native.Mathlib.Omega.{arith}
 use lib.ListN.{replicate, length-replicate}
 use Rattle.theory.proofs.Bools.{never}
 use Rattle.theory.proofs.Lists.{zeros}
 use Rattle.bits.specs.Flags.{wordBits, rowWords, digit, word, Flags}
-use Rattle.bits.specs.Matrix.{matrixWords, Matrix}
+use Rattle.bits.specs.Matrix.{Matrix}
 
 empty-word : (p : ℕ → Bool) → ((i : ℕ) → p i ≡ false) → (a n : ℕ) → word p a n ≡ 0
 unfolding word
@@ -21,10 +22,10 @@ empty-row p e =
       inside = λ i t. never t (e i);
     }
 
-pub empty-matrix : (q : ℕ → ℕ → Bool) → ((f i : ℕ) → q f i ≡ false) → Matrix q (replicate matrixWords 0)
-empty-matrix q e =
+pub empty-matrix : (keys size : ℕ) → keys * rowWords ≤ size → (q : ℕ → ℕ → Bool) → ((f i : ℕ) → q f i ≡ false) → Matrix keys q (replicate size 0)
+empty-matrix keys size h q e =
     record {
-      places = length-replicate {A = ℕ} matrixWords 0;
-      words = λ f k h l. zeros matrixWords (f * rowWords + k) ∙ sym (empty-word (q f) (e f) (k * wordBits) wordBits);
+      places = omega (arith, h, length-replicate {A = ℕ} size 0);
+      words = λ f k l u. zeros size (f * rowWords + k) ∙ sym (empty-word (q f) (e f) (k * wordBits) wordBits);
       inside = λ f i t. never t (e f i);
     }

@@ -1,4 +1,4 @@
--- A place is marked in the row of a fact, and the row of a fact is copied.
+-- A place is marked in the row of a key, and the row of a key is copied.
 use Prim.Native.Nat.{ℕ, _+_, _*_, _/_, _%_, _^_, _≤_, _<_}
 use mathlib.Core.Path.{_≡_, refl, sym, ap, _∙_}
 use mathlib.Core.Bool.{Bool, true, false, not, _&&_, _||_}
@@ -13,93 +13,101 @@ use lib.Seq.{getD-set-same, getD-set-other}
 use Rattle.theory.specs.Rule.{adjoin}
 use Rattle.theory.proofs.Bools.{either, and-right, or-cases, both-ways}
 use Rattle.theory.proofs.Lists.{eqb-self}
-use Rattle.items.specs.Item.{narrow, maxFacts, maxRules}
+use Rattle.items.specs.Item.{maxRules}
 use Rattle.bits.specs.Flags.{wordBits, rowWords, word, Flags}
-use Rattle.bits.specs.Matrix.{Matrix, adjoinIn, RowCopied}
+use Rattle.bits.specs.Matrix.{Matrix, adjoinIn, RowCopied, SameFrom}
 use Rattle.bits.proofs.WordBits.{word-ext, word-same}
 use Rattle.bits.proofs.RowMarked.{bit-inside, place-is, own-word, other-word}
 
-module _ (matrix : List ℕ) (fact place v : ℕ) (f-small : fact < maxFacts narrow) (p-small : place < maxRules) (v-is : v ≡ bitOr (getD matrix (fact * rowWords + place / wordBits) 0) (2 ^ (place % wordBits))) (q : ℕ → ℕ → Bool) (w : Matrix q matrix) where
+module _ (matrix : List ℕ) (key place v : ℕ) {keys : ℕ} (f-small : key < keys) (p-small : place < maxRules) (v-is : v ≡ bitOr (getD matrix (key * rowWords + place / wordBits) 0) (2 ^ (place % wordBits))) (q : ℕ → ℕ → Bool) (w : Matrix keys q matrix) where
   abbrev at : ℕ
-  at = fact * rowWords + place / wordBits
+  at = key * rowWords + place / wordBits
 
-  -- the row of the fact, and the row of another fact
-  own-row : (i : ℕ) → adjoin (q fact) place i ≡ adjoinIn q fact place fact i
-  own-row i = sym (ap (λ (t : Bool). t && eqb i place || q fact i) (eqb-self fact))
+  -- the row of the key, and the row of another key
+  own-row : (i : ℕ) → adjoin (q key) place i ≡ adjoinIn q key place key i
+  own-row i = sym (ap (λ (t : Bool). t && eqb i place || q key i) (eqb-self key))
 
-  other-row : (f : ℕ) → eqb f fact ≡ false → (i : ℕ) → q f i ≡ adjoinIn q fact place f i
+  other-row : (f : ℕ) → eqb f key ≡ false → (i : ℕ) → q f i ≡ adjoinIn q key place f i
   other-row f e i = sym (ap (λ (t : Bool). t && eqb i place || q f i) e)
 
   -- the word as it was, and with the mark
-  before-is : getD matrix at 0 ≡ word (q fact) (place / wordBits * wordBits) wordBits
-  before-is = w .words fact (place / wordBits) f-small (omega arith)
+  before-is : getD matrix at 0 ≡ word (q key) (place / wordBits * wordBits) wordBits
+  before-is = w .words key (place / wordBits) f-small (omega arith)
 
-  after-is : v ≡ word (adjoin (q fact) place) (place / wordBits * wordBits) wordBits
-  after-is = v-is ∙ ap (λ (x : ℕ). bitOr x (2 ^ (place % wordBits))) before-is ∙ own-word (q fact) place
+  after-is : v ≡ word (adjoin (q key) place) (place / wordBits * wordBits) wordBits
+  after-is = v-is ∙ ap (λ (x : ℕ). bitOr x (2 ^ (place % wordBits))) before-is ∙ own-word (q key) place
 
-  pub matrix-marked : Matrix (adjoinIn q fact place) (set matrix at v)
+  pub matrix-marked : Matrix keys (adjoinIn q key place) (set matrix at v)
   matrix-marked =
       record {
-        places = length-set matrix at v ∙ w .places;
-        words = λ f k hf hk. ⊎-elim (λ e. let is : f ≡ fact = eqb-true f fact e in rw is (own k hk)) (λ e. other f k hf hk e) (either (eqb f fact));
-        inside = λ f i t. ⊎-elim (λ e. let is : i ≡ place = eqb-true i place (and-right (eqb f fact) (eqb i place) e) in omega arith) (λ e. w .inside f i e) (or-cases (eqb f fact && eqb i place) (q f i) t);
+        places = omega (arith, w .places, length-set matrix at v);
+        words = λ f k hf hk. ⊎-elim (λ e. let is : f ≡ key = eqb-true f key e in rw is (own k hk)) (λ e. other f k hf hk e) (either (eqb f key));
+        inside = λ f i t. ⊎-elim (λ e. let is : i ≡ place = eqb-true i place (and-right (eqb f key) (eqb i place) e) in omega arith) (λ e. w .inside f i e) (or-cases (eqb f key && eqb i place) (q f i) t);
       }
     where
-      same-word : word (adjoin (q fact) place) (place / wordBits * wordBits) wordBits ≡ word (adjoinIn q fact place fact) (place / wordBits * wordBits) wordBits
-      same-word = word-ext (adjoin (q fact) place) (adjoinIn q fact place fact) (place / wordBits * wordBits) wordBits (λ i l u. own-row i)
+      same-word : word (adjoin (q key) place) (place / wordBits * wordBits) wordBits ≡ word (adjoinIn q key place key) (place / wordBits * wordBits) wordBits
+      same-word = word-ext (adjoin (q key) place) (adjoinIn q key place key) (place / wordBits * wordBits) wordBits (λ i l u. own-row i)
 
-      own : (k : ℕ) → k < rowWords → getD (set matrix at v) (fact * rowWords + k) 0 ≡ word (adjoinIn q fact place fact) (k * wordBits) wordBits
+      own : (k : ℕ) → k < rowWords → getD (set matrix at v) (key * rowWords + k) 0 ≡ word (adjoinIn q key place key) (k * wordBits) wordBits
       own k hk = ⊎-elim (λ e. let is : k ≡ place / wordBits = eqb-true k (place / wordBits) e in rw is marked) (λ e. unmarked (eqb-false k (place / wordBits) e)) (either (eqb k (place / wordBits)))
         where
-          marked : getD (set matrix at v) (fact * rowWords + place / wordBits) 0 ≡ word (adjoinIn q fact place fact) (place / wordBits * wordBits) wordBits
+          marked : getD (set matrix at v) (key * rowWords + place / wordBits) 0 ≡ word (adjoinIn q key place key) (place / wordBits * wordBits) wordBits
           marked = getD-set-same matrix at v 0 (omega (arith, w .places)) ∙ after-is ∙ same-word
 
-          unmarked : (k ≡ place / wordBits → ⊥) → getD (set matrix at v) (fact * rowWords + k) 0 ≡ word (adjoinIn q fact place fact) (k * wordBits) wordBits
+          unmarked : (k ≡ place / wordBits → ⊥) → getD (set matrix at v) (key * rowWords + k) 0 ≡ word (adjoinIn q key place key) (k * wordBits) wordBits
           unmarked ne =
-              getD-set-other matrix at (fact * rowWords + k) v 0 (λ e. ne (omega arith)) ∙ w .words fact k f-small hk ∙ other-word (q fact) place k ne
-              ∙ word-ext (adjoin (q fact) place) (adjoinIn q fact place fact) (k * wordBits) wordBits (λ i l u. own-row i)
+              getD-set-other matrix at (key * rowWords + k) v 0 (λ e. ne (omega arith)) ∙ w .words key k f-small hk ∙ other-word (q key) place k ne
+              ∙ word-ext (adjoin (q key) place) (adjoinIn q key place key) (k * wordBits) wordBits (λ i l u. own-row i)
 
-      other : (f k : ℕ) → f < maxFacts narrow → k < rowWords → eqb f fact ≡ false → getD (set matrix at v) (f * rowWords + k) 0 ≡ word (adjoinIn q fact place f) (k * wordBits) wordBits
+      other : (f k : ℕ) → f < keys → k < rowWords → eqb f key ≡ false → getD (set matrix at v) (f * rowWords + k) 0 ≡ word (adjoinIn q key place f) (k * wordBits) wordBits
       other f k hf hk e =
-          let ne : f ≡ fact → ⊥ = eqb-false f fact e in
+          let ne : f ≡ key → ⊥ = eqb-false f key e in
           getD-set-other matrix at (f * rowWords + k) v 0 (λ s. ne (omega arith)) ∙ w .words f k hf hk
-          ∙ word-ext (q f) (adjoinIn q fact place f) (k * wordBits) wordBits (λ i l u. other-row f e i)
+          ∙ word-ext (q f) (adjoinIn q key place f) (k * wordBits) wordBits (λ i l u. other-row f e i)
 
   -- The word changes where the mark is new.
-  pub mark-new : not (eqb v (getD matrix at 0)) ≡ not (q fact place)
-  mark-new = ap not (both-ways (eqb v (getD matrix at 0)) (q fact place) (λ e. old (eqb-true v (getD matrix at 0) e)) (λ t. eq-eqb v (getD matrix at 0) (after-is ∙ kept t ∙ sym before-is)))
+  pub mark-new : not (eqb v (getD matrix at 0)) ≡ not (q key place)
+  mark-new = ap not (both-ways (eqb v (getD matrix at 0)) (q key place) (λ e. old (eqb-true v (getD matrix at 0) e)) (λ t. eq-eqb v (getD matrix at 0) (after-is ∙ kept t ∙ sym before-is)))
     where
-      old : v ≡ getD matrix at 0 → q fact place ≡ true
+      old : v ≡ getD matrix at 0 → q key place ≡ true
       old e =
-          let here : (adjoin (q fact) place) (place / wordBits * wordBits + place % wordBits) ≡ q fact (place / wordBits * wordBits + place % wordBits) = word-same (adjoin (q fact) place) (q fact) (place / wordBits * wordBits) wordBits (sym after-is ∙ e ∙ before-is) (place % wordBits) (bit-inside place) in
+          let here : (adjoin (q key) place) (place / wordBits * wordBits + place % wordBits) ≡ q key (place / wordBits * wordBits + place % wordBits) = word-same (adjoin (q key) place) (q key) (place / wordBits * wordBits) wordBits (sym after-is ∙ e ∙ before-is) (place % wordBits) (bit-inside place) in
           sym (rw (place-is place, eqb-self place) at here)
 
-      kept : q fact place ≡ true → word (adjoin (q fact) place) (place / wordBits * wordBits) wordBits ≡ word (q fact) (place / wordBits * wordBits) wordBits
-      kept t = word-ext (adjoin (q fact) place) (q fact) (place / wordBits * wordBits) wordBits (λ i l u. ⊎-elim (λ e. let is : i ≡ place = eqb-true i place e in rw (is, eqb-self place) (sym t)) (λ e. ap (λ (b : Bool). b || q fact i) e) (either (eqb i place)))
+      kept : q key place ≡ true → word (adjoin (q key) place) (place / wordBits * wordBits) wordBits ≡ word (q key) (place / wordBits * wordBits) wordBits
+      kept t = word-ext (adjoin (q key) place) (q key) (place / wordBits * wordBits) wordBits (λ i l u. ⊎-elim (λ e. let is : i ≡ place = eqb-true i place e in rw (is, eqb-self place) (sym t)) (λ e. ap (λ (b : Bool). b || q key i) e) (either (eqb i place)))
+
+-- What stands behind the row stays.
+pub mark-behind : (matrix : List ℕ) (key place v : ℕ) → place < maxRules → SameFrom (key * rowWords + rowWords) matrix (set matrix (key * rowWords + place / wordBits) v)
+mark-behind matrix key place v small =
+    record {
+      places = length-set matrix (key * rowWords + place / wordBits) v;
+      words = λ k h. getD-set-other matrix (key * rowWords + place / wordBits) k v 0 (λ e. omega arith);
+    }
 
 -- The first words of the row are copied.
-pub record Copying (matrix : List ℕ) (fact : ℕ) (row₀ row : List ℕ) (k : ℕ) : Type 0 where
+pub record Copying (matrix : List ℕ) (key : ℕ) (row₀ row : List ℕ) (k : ℕ) : Type 0 where
   pub places : length row ≡ length row₀
-  pub words : length row₀ ≡ rowWords → (j : ℕ) → j < k → getD row j 0 ≡ getD matrix (fact * rowWords + j) 0
+  pub words : length row₀ ≡ rowWords → (j : ℕ) → j < k → getD row j 0 ≡ getD matrix (key * rowWords + j) 0
 
-pub none-copied : (matrix : List ℕ) (fact : ℕ) (row : List ℕ) → Copying matrix fact row row 0
-none-copied matrix fact row = record { places = refl; words = λ e j h. absurd (omega arith) }
+pub none-copied : (matrix : List ℕ) (key : ℕ) (row : List ℕ) → Copying matrix key row row 0
+none-copied matrix key row = record { places = refl; words = λ e j h. absurd (omega arith) }
 
-module _ {matrix : List ℕ} {fact : ℕ} {row₀ row : List ℕ} {k : ℕ} (w : Copying matrix fact row₀ row k) where
-  pub one-copied : k < rowWords → Copying matrix fact row₀ (set row k (getD matrix (fact * rowWords + k) 0)) (k + 1)
+module _ {matrix : List ℕ} {key : ℕ} {row₀ row : List ℕ} {k : ℕ} (w : Copying matrix key row₀ row k) where
+  pub one-copied : k < rowWords → Copying matrix key row₀ (set row k (getD matrix (key * rowWords + k) 0)) (k + 1)
   one-copied h =
       record {
-        places = length-set row k (getD matrix (fact * rowWords + k) 0) ∙ w .places;
+        places = length-set row k (getD matrix (key * rowWords + k) 0) ∙ w .places;
         words = λ e j l.
             ⊎-elim
-            (λ q. let is : j ≡ k = eqb-true j k q in rw is (getD-set-same row k (getD matrix (fact * rowWords + k) 0) 0 (omega (arith, w .places))))
-            (λ q. let ne : j ≡ k → ⊥ = eqb-false j k q in getD-set-other row k j (getD matrix (fact * rowWords + k) 0) 0 ne ∙ w .words e j (omega arith))
+            (λ q. let is : j ≡ k = eqb-true j k q in rw is (getD-set-same row k (getD matrix (key * rowWords + k) 0) 0 (omega (arith, w .places))))
+            (λ q. let ne : j ≡ k → ⊥ = eqb-false j k q in getD-set-other row k j (getD matrix (key * rowWords + k) 0) 0 ne ∙ w .words e j (omega arith))
             (either (eqb j k));
       }
 
-  pub all-copied : rowWords ≤ k → RowCopied matrix fact row₀ row
+  pub all-copied : rowWords ≤ k → RowCopied matrix key row₀ row
   all-copied h = record { places = w .places; words = λ e j l. w .words e j (omega arith) }
 
-pub copy-flags : {matrix : List ℕ} {fact : ℕ} {row₀ row : List ℕ} → RowCopied matrix fact row₀ row → length row₀ ≡ rowWords → fact < maxFacts narrow → (q : ℕ → ℕ → Bool) → Matrix q matrix → Flags (q fact) row
-copy-flags {fact = fact} c e h q w =
-    record { places = c .places ∙ e; words = λ k l. c .words e k l ∙ w .words fact k h l; inside = λ i t. w .inside fact i t }
+pub copy-flags : {matrix : List ℕ} {key : ℕ} {row₀ row : List ℕ} → RowCopied matrix key row₀ row → length row₀ ≡ rowWords → (keys : ℕ) (q : ℕ → ℕ → Bool) → key < keys → Matrix keys q matrix → Flags (q key) row
+copy-flags {key = key} c e keys q h w =
+    record { places = c .places ∙ e; words = λ k l. c .words e k l ∙ w .words key k h l; inside = λ i t. w .inside key i t }

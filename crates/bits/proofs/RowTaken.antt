@@ -1,21 +1,21 @@
 -- The lowest number is taken out of a row.
 use Prim.Native.Nat.{ℕ, zero, suc, _+_, _-_, _*_, _≤_, _<_}
-use mathlib.Core.Path.{_≡_, refl, sym, ap, subst, _∙_}
-use mathlib.Core.Bool.{Bool, true, false, not, _&&_}
+use mathlib.Core.Path.{_≡_, refl, sym, ap, ap₂, subst, _∙_}
+use mathlib.Core.Bool.{Bool, true, false, cond, not, _&&_}
 use mathlib.Core.List.{List, [], _∷_, _++_}
 use mathlib.Core.Logic.{⊎-elim}
 use mathlib.Core.Option.{Option, none, some}
 use native.Mathlib.Nat.{add-zero, zero-add}
 use native.Mathlib.Omega.{arith}
-use borrow.Author.Tests.{eqb-true, eqb-false, ne-eqb}
+use borrow.Author.Tests.{eqb-true, eqb-false, eq-eqb, ne-eqb}
 use lib.Bits.{bitAnd, and-le-r}
 use lib.Count.{trailingZeros}
 use lib.Dec.{eqb}
 use lib.ListN.{getD, set, length-set}
 use lib.Seq.{getD-set-same, getD-set-other}
-use Rattle.theory.specs.Rule.{seek, range, upTo}
-use Rattle.theory.proofs.Bools.{either, never, and-right, false-of}
-use Rattle.theory.proofs.Lists.{Found, seek-some, seek-none, seek-append, upTo-mem}
+use Rattle.theory.specs.Rule.{seek, keep, range, upTo}
+use Rattle.theory.proofs.Bools.{either, never, and-right, and-false, false-of}
+use Rattle.theory.proofs.Lists.{Found, seek-some, seek-none, seek-append, upTo-mem, mem-range, keep-same}
 use Rattle.items.specs.Item.{maxRules}
 use Rattle.bits.specs.Flags.{wordBits, rowWords, word, Flags, without, lowestOf, Taken, total, Falls}
 use Rattle.bits.specs.declared.row.Lowest.the-variants.{At, Nothing}
@@ -36,6 +36,34 @@ nothing-left {p} w e i = false-of (p i) (λ t. never t (go maxRules e (w .inside
   where
     go : (n : ℕ) → _≡_ {A = Option ℕ} (seek p (upTo n)) none → i < n → p i ≡ false
     go n q h = seek-none p (upTo n) q i (upTo-mem n i h)
+
+-- Where a set has no number, none is kept.
+pub none-kept : (p : ℕ → Bool) → ((i : ℕ) → p i ≡ false) → (xs : List ℕ) → keep p xs ≡ []
+none-kept p e [] = refl
+none-kept p e (x ∷ xs) = rw (e x) (none-kept p e xs)
+
+-- The lowest number of a set is kept first, before the others.
+pub lowest-kept : (p : ℕ → Bool) (n k : ℕ) → lowestOf p ≡ some k → k < n → keep p (upTo n) ≡ k ∷ keep (without p k) (upTo n)
+unfolding lowestOf
+lowest-kept p n k e h = go 0 maxRules n e (omega arith)
+  where
+    go : (a m n : ℕ) → seek p (range a m) ≡ some k → k < a + n → keep p (range a n) ≡ k ∷ keep (without p k) (range a n)
+    go a m zero s l = absurd (omega (arith, mem-range a m k (seek-some p (range a m) k s .element) .0))
+    go a zero (suc n) s l = let z : _≡_ {A = ℕ} 0 1 = cc in absurd (omega arith)
+    go a (suc m) (suc n) s l = step (p a) refl (go (suc a) m n)
+      where
+        step : (b : Bool) → p a ≡ b → (seek p (range (suc a) m) ≡ some k → k < suc a + n → keep p (range (suc a) n) ≡ k ∷ keep (without p k) (range (suc a) n)) → keep p (range a (suc n)) ≡ k ∷ keep (without p k) (range a (suc n))
+        step true q r =
+            let found : some a ≡ some k = rw (q, seek) at s in
+            let is : a ≡ k = cc in
+            let gone : without p k a ≡ false = ap (λ (t : Bool). not t && p a) (eq-eqb a k is) in
+            let others : keep p (range (suc a) n) ≡ keep (without p k) (range (suc a) n) = keep-same p (without p k) (range (suc a) n) (λ x m. sym (ap (λ (t : Bool). not t && p x) (ne-eqb x k (λ g. omega (arith, mem-range (suc a) n x m .0))))) in
+            ap (λ (b : Bool). cond b (a ∷ keep p (range (suc a) n)) (keep p (range (suc a) n))) q ∙ ap₂ (λ (x : ℕ) (xs : List ℕ). x ∷ xs) is others
+            ∙ sym (ap (λ (b : Bool). k ∷ cond b (a ∷ keep (without p k) (range (suc a) n)) (keep (without p k) (range (suc a) n))) gone)
+        step false q r =
+            let gone : without p k a ≡ false = ap (λ (t : Bool). not (eqb a k) && t) q ∙ and-false (not (eqb a k)) in
+            ap (λ (b : Bool). cond b (a ∷ keep p (range (suc a) n)) (keep p (range (suc a) n))) q ∙ r (rw (q, seek) at s) (omega arith)
+            ∙ sym (ap (λ (b : Bool). k ∷ cond b (a ∷ keep (without p k) (range (suc a) n)) (keep (without p k) (range (suc a) n))) gone)
 
 range-append : (a m n : ℕ) → range a (m + n) ≡ range a m ++ range (a + m) n
 range-append a zero n = rw (zero-add n, add-zero a) refl

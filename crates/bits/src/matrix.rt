@@ -1,35 +1,38 @@
-// A row of bits for each fact. Internal.
-ghost use Prim.Native.Nat.{ℕ, _<_};
+// A row of bits for each key, a fact or a literal. Internal.
+ghost use Prim.Native.Nat.{ℕ, _+_, _*_, _<_, _≤_};
 ghost use mathlib.Core.Path.{_≡_};
 ghost use mathlib.Core.Bool.{Bool, not};
-ghost use Rattle.items.specs.Item.{narrow, maxFacts, maxRules};
-ghost use Rattle.bits.specs.Flags.{Flags};
-ghost use Rattle.bits.specs.Matrix.{Matrix, adjoinIn, RowCopied};
+ghost use lib.ListN.{length};
+ghost use Rattle.items.specs.Item.{maxRules};
+ghost use Rattle.bits.specs.Flags.{rowWords, Flags};
+ghost use Rattle.bits.specs.Matrix.{Matrix, adjoinIn, RowCopied, SameFrom};
 use crate::row::ROW_WORDS;
 use crate::row::WORD_BITS;
 use crate::word::with_bit;
 use items::item::MAX_FACTS;
 
+// A matrix with a row for each fact.
 pub const MATRIX_WORDS: usize = MAX_FACTS * ROW_WORDS;
 
-// Marks a place in the row of a fact. Was it new?
-pub fn mark_in(matrix: &mut [u64; MATRIX_WORDS], fact: usize, place: usize) -> bool
-    requires { ⌜ (fact < maxFacts narrow) × (place < maxRules) ⌝ }
-    ensures { λ r. ⌜ ((q : ℕ → ℕ → Bool) → Matrix q (now (matrix .entry)) → (r ≡ not (q fact place)) × Matrix (adjoinIn q fact place) (now (matrix .exit))) ⌝ }
+// Marks a place in the row of a key. Was it new? What stands behind the row stays.
+pub fn mark_in(matrix: &mut [u64], key: usize, place: usize) -> bool
+    requires { ⌜ (key * rowWords + rowWords ≤ length (now matrix)) × (place < maxRules) ⌝ }
+    ensures { λ r. ⌜ ((keys : ℕ) (q : ℕ → ℕ → Bool) → key < keys → Matrix keys q (now (matrix .entry)) → (r ≡ not (q key place)) × Matrix keys (adjoinIn q key place) (now (matrix .exit))) ⌝ }
+    ensures { λ _. ⌜ SameFrom (key * rowWords + rowWords) (now (matrix .entry)) (now (matrix .exit)) ⌝ }
 {
-    let at = fact * ROW_WORDS + place / WORD_BITS;
+    let at = key * ROW_WORDS + place / WORD_BITS;
     let before = matrix[at];
     let after = with_bit(before, place % WORD_BITS);
     matrix[at] = after;
     after != before
 }
 
-// Copies the row of a fact.
-fn copy_row(matrix: &[u64; MATRIX_WORDS], fact: usize, row: &mut [u64; ROW_WORDS])
-    requires { ⌜ fact < maxFacts narrow ⌝ }
-    ensures { λ _. ⌜ RowCopied (now (matrix .entry)) fact (now (row .entry)) (now (row .exit)) ⌝ }
+// Copies the row of a key.
+fn copy_row(matrix: &[u64], key: usize, row: &mut [u64; ROW_WORDS])
+    requires { ⌜ key * rowWords + rowWords ≤ length (now matrix) ⌝ }
+    ensures { λ _. ⌜ RowCopied (now (matrix .entry)) key (now (row .entry)) (now (row .exit)) ⌝ }
 {
-    let from = fact * ROW_WORDS;
+    let from = key * ROW_WORDS;
     let mut k: usize = 0;
     while k < ROW_WORDS {
         row[k] = matrix[from + k];
@@ -37,12 +40,12 @@ fn copy_row(matrix: &[u64; MATRIX_WORDS], fact: usize, row: &mut [u64; ROW_WORDS
     }
 }
 
-// The row of a fact.
-pub fn row_of(matrix: &[u64; MATRIX_WORDS], fact: usize) -> [u64; ROW_WORDS]
-    requires { ⌜ fact < maxFacts narrow ⌝ }
-    ensures { λ r. ⌜ ((q : ℕ → ℕ → Bool) → Matrix q (now (matrix .entry)) → Flags (q fact) r) ⌝ }
+// The row of a key.
+pub fn row_of(matrix: &[u64], key: usize) -> [u64; ROW_WORDS]
+    requires { ⌜ key * rowWords + rowWords ≤ length (now matrix) ⌝ }
+    ensures { λ r. ⌜ ((keys : ℕ) (q : ℕ → ℕ → Bool) → key < keys → Matrix keys q (now (matrix .entry)) → Flags (q key) r) ⌝ }
 {
     let mut row = [0u64; ROW_WORDS];
-    copy_row(matrix, fact, &mut row);
+    copy_row(matrix, key, &mut row);
     row
 }

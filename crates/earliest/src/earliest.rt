@@ -7,7 +7,7 @@ ghost use Rattle.items.specs.Item.{narrow, maxFacts};
 ghost use Rattle.tables.specs.Layout.{programIn, WellFormed};
 ghost use Rattle.earliest.specs.Branch.{Shown};
 use crate::hunt::hunt;
-use index::cells::INDEX_CELLS;
+use index::cells::INDEX_WORDS;
 use index::cells::LITERALS;
 use index::fill::index_rules;
 use items::item::MAX_FACTS;
@@ -22,7 +22,7 @@ pub fn earliest(tables: &[u16; TABLE_CELLS], row: &[u16], found: &mut [u8; MAX_F
     ensures { λ r. ⌜ Shown (search (programIn (now (tables .entry))) (inForce (programIn (now (tables .entry))))) r (now (found .exit)) ⌝ }
 {
     let off = [0u8; MAX_RULES];
-    let mut index = [0u16; INDEX_CELLS];
+    let mut index = [0u64; INDEX_WORDS];
     let mut missing = [0u16; MAX_RULES];
     index_rules(tables, &off, &mut index, &mut missing);
     let mut low = [0u8; LITERALS];

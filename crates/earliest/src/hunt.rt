@@ -13,7 +13,7 @@ ghost use Rattle.tables.specs.Layout.{programIn};
 ghost use Rattle.index.specs.Literal.{outside};
 ghost use Rattle.propagation.specs.State.{Ready};
 ghost use Rattle.earliest.specs.Branch.{heldIn, Branch, Shown, Kept};
-use index::cells::INDEX_CELLS;
+use index::cells::INDEX_WORDS;
 use index::cells::LITERALS;
 use items::item::MAX_FACTS;
 use items::item::MAX_RULES;
@@ -64,7 +64,7 @@ fn keep_facts(marks: &[u8; LITERALS], found: &mut [u8; MAX_FACTS])
 // A fact held out changes only the first, and a fact held in only the second.
 pub fn hunt(
     tables: &[u16; TABLE_CELLS],
-    index: &[u16; INDEX_CELLS],
+    index: &[u64; INDEX_WORDS],
     row: &[u16],
     decided: usize,
     low: &[u8; LITERALS],

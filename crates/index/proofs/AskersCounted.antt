@@ -1,27 +1,28 @@
--- A rule in force is in the chain of each literal of its body, once.
-use Prim.Native.Nat.{ℕ, _+_, _<_}
+-- A rule in force is among the askers of each literal of its body, once.
+use Prim.Native.Nat.{ℕ, _+_, _<_, _≤_}
 use mathlib.Core.Path.{_≡_, refl, sym, ap, _∙_}
 use mathlib.Core.Bool.{Bool, true, false, _&&_}
 use mathlib.Core.Logic.{⊎-elim}
 use native.Mathlib.Omega.{arith}
-use borrow.Author.Tests.{eqb-true, lt-ltb}
+use borrow.Author.Tests.{eqb-true, ltb-true, ltb-false}
+use lib.ListN.{List·getD-eq-default}
 use lib.Dec.{eqb, ltb}
-use Rattle.theory.specs.Rule.{all, mem, howMany, upTo, adjoin, Program, Mask, count, rule}
-use Rattle.theory.proofs.Bools.{either, and-left, and-right, and-both, and-false}
-use Rattle.theory.proofs.Lists.{all-of, mem-keep, mem-upTo, howMany-ext, howMany-keep, howMany-upTo}
+use Rattle.theory.specs.Rule.{mem, howMany, upTo, adjoin, Rule, Program, Mask, blank, count, rule}
+use Rattle.theory.proofs.Bools.{either, never, and-left, and-right, and-both, and-false}
+use Rattle.theory.proofs.Lists.{howMany-ext, howMany-keep, howMany-upTo}
 use Rattle.theory.proofs.Counted.{none-counted}
 use Rattle.index.specs.Literal.{literals, body, lacking}
 use Rattle.index.specs.Index.{asks, askers}
 use Rattle.index.proofs.LiteralsCounted.{asked-lacking, unasked-lacking}
 
+-- There is no literal past the last rule.
+pub none-past : (P : Program) (l i : ℕ) → count P ≤ i → mem l (body (rule P i)) ≡ false
+none-past P l i h = ap (λ (r : Rule). mem l (body r)) (List·getD-eq-default (P .rules) blank h)
+
 module _ (P : Program) (on : Mask) (l : ℕ) where
-  pub askers-known : all (λ i. ltb i (count P) && on i) (askers P on l) ≡ true
-  askers-known = all-of (λ i. ltb i (count P) && on i) (askers P on l) (λ i m. known i (sym (mem-keep (asks P on l) (upTo (count P)) i) ∙ m))
-    where
-      known : (i : ℕ) → mem i (upTo (count P)) && asks P on l i ≡ true → ltb i (count P) && on i ≡ true
-      known i t =
-          and-both (lt-ltb i (count P) (mem-upTo (count P) i (and-left _ _ t)))
-          (and-left (on i) _ (and-right (mem i (upTo (count P))) _ t))
+  pub asker-known : (i : ℕ) → asks P on l i ≡ true → (i < count P) × (on i ≡ true)
+  asker-known i t =
+      (⊎-elim (λ e. ltb-true i (count P) e) (λ e. never (and-right (on i) _ t) (none-past P l i (ltb-false i (count P) e))) (either (ltb i (count P))), and-left (on i) _ t)
 
   module _ (i : ℕ) (h : i < count P) (o : on i ≡ true) where
     once : mem l (body (rule P i)) ≡ true → howMany (eqb i) (askers P on l) ≡ 1
@@ -43,7 +44,7 @@ module _ (P : Program) (on : Mask) (l : ℕ) where
             let is : i ≡ x = eqb-true i x e in
             ap (λ (b : Bool). b && eqb i x) (ap (asks P on l) (sym is) ∙ ap (λ (b : Bool). on i && b) m ∙ and-false (on i))
 
-    -- What a rule is missing, once the literal is true, and it was not before: one fewer for each time that the rule is in the chain.
+    -- What a rule is missing, once the literal is true, and it was not before: one fewer for each time that the rule is among the askers.
     pub lacking-told : (yet : ℕ → Bool) → l < literals → yet l ≡ false → lacking P yet i ≡ lacking P (adjoin yet l) i + howMany (eqb i) (askers P on l)
     lacking-told yet b f = ⊎-elim asked unasked (either (mem l (body (rule P i))))
       where

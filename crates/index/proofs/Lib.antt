@@ -2,6 +2,4 @@ pub mod MappedElements
 pub mod LiteralsCounted
 pub mod LiteralsBelow
 pub mod AskersCounted
-pub mod ChainsLinked
-pub mod PartLinked
-pub mod RulesLinked
+pub mod RulesIndexed

@@ -13,13 +13,13 @@ use Rattle.items.specs.Item.{narrow, maxFacts}
 use Rattle.index.specs.Literal.{outside, literals, body}
 
 module _ (P : Program) (b : Bounded P) (few : P .facts ≤ maxFacts narrow) (i : ℕ) (h : i < count P) where
-  pub premises-small : all (λ l. ltb l literals) (rule P i .premises) ≡ true
+  premises-small : all (λ l. ltb l literals) (rule P i .premises) ≡ true
   premises-small = all-of (λ l. ltb l literals) (rule P i .premises) (λ x m. small x (all-elem (λ f. ltb f (P .facts)) (rule P i .premises) (b .premises-below i h) x m))
     where
       small : (x : ℕ) → ltb x (P .facts) ≡ true → ltb x literals ≡ true
       small x t = let below : x < P .facts = ltb-true x (P .facts) t in lt-ltb x literals (omega arith)
 
-  pub constraints-small : all (λ l. ltb l literals) (map outside (rule P i .constraints)) ≡ true
+  constraints-small : all (λ l. ltb l literals) (map outside (rule P i .constraints)) ≡ true
   constraints-small = go (rule P i .constraints) (b .constraints-below i h)
     where
       go : (xs : List ℕ) → all (λ f. ltb f (P .facts)) xs ≡ true → all (λ l. ltb l literals) (map outside xs) ≡ true
@@ -28,7 +28,7 @@ module _ (P : Program) (b : Bounded P) (few : P .facts ≤ maxFacts narrow) (i :
           let below : x < P .facts = ltb-true x (P .facts) (and-left _ _ a) in
           and-both (lt-ltb (outside x) literals (omega arith)) (go xs (and-right (ltb x (P .facts)) _ a))
 
-  pub body-small : all (λ l. ltb l literals) (body (rule P i)) ≡ true
+  body-small : all (λ l. ltb l literals) (body (rule P i)) ≡ true
   body-small = all-append (λ l. ltb l literals) (rule P i .premises) (map outside (rule P i .constraints)) ∙ and-both premises-small constraints-small
 
   pub body-below : (l : ℕ) → mem l (body (rule P i)) ≡ true → l < literals

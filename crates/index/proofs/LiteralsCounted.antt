@@ -1,6 +1,6 @@
 -- How many literals pass a test, and how many of a rule's body are still missing.
 use Prim.Native.Nat.{ℕ, _+_, _<_, _≤_}
-use mathlib.Core.Path.{_≡_, refl, ap, fun-ext}
+use mathlib.Core.Path.{_≡_, ap, fun-ext}
 use mathlib.Core.Bool.{Bool, true, false}
 use Rattle.theory.specs.Rule.{mem, howMany, upTo, adjoin, Program, rule}
 use Rattle.theory.proofs.Lists.{upTo-mem}
@@ -22,13 +22,6 @@ count-most p = counted-most p literals
 pub count-room : (p : ℕ → Bool) (l : ℕ) → l < literals → p l ≡ false → literalCount p < literals
 unfolding literalCount
 count-room p l h f = counted-below p literals l h f
-
-pub count-none : literalCount (λ _. false) ≡ 0
-unfolding literalCount
-count-none = go literals
-  where
-    go : (n : ℕ) → howMany (λ _. false) (upTo n) ≡ 0
-    go n = none-counted (λ _. false) (upTo n) (λ x m. refl)
 
 -- Where none is missing, every literal of the body is true.
 pub none-lacking : (P : Program) (yet : ℕ → Bool) (i : ℕ) → lacking P yet i ≡ 0 → (l : ℕ) → l < literals → lacks P yet i l ≡ false

@@ -2,17 +2,13 @@
 use Prim.Native.Nat.{ℕ, _<_, _≤_}
 use mathlib.Core.Path.{_≡_}
 use mathlib.Core.Bool.{Bool, true, false, not, _&&_}
-use mathlib.Core.List.{List, [], _∷_}
+use mathlib.Core.List.{List}
 use lib.ListN.{length, getD, replicate}
 use Rattle.theory.specs.Rule.{mem, keep, upTo, nothing, Program, Mask, inForce, count, rule}
 use Rattle.items.specs.Item.{maxRules, has}
+use Rattle.bits.specs.Matrix.{Matrix}
 use Rattle.index.specs.Literal.{literals, body, lacking}
-use Rattle.index.specs.Cells.{slots, indexCells, headIn, linkIn, ownerIn, onIn}
-
--- From slot `at` on, the owners of the slots are these rules. Slot 0 ends every chain, and a link leads to a lower slot.
-abbrev pub Chain : List ℕ → List ℕ → ℕ → Type 0
-Chain R [] at = at ≡ 0
-Chain R (i ∷ is) at = (0 < at) × (at < slots) × (ownerIn R at ≡ i) × (linkIn R at < at) × Chain R is (linkIn R at)
+use Rattle.index.specs.Cells.{indexWords, onIn}
 
 -- the rule is on and asks the literal
 abbrev pub asks : Program → Mask → ℕ → ℕ → Bool
@@ -22,10 +18,10 @@ asks P on l i = on i && mem l (body (rule P i))
 abbrev pub askers : Program → Mask → ℕ → List ℕ
 askers P on l = keep (asks P on l) (upTo (count P))
 
--- The index of a program: the chain of each literal has the rules in force that ask it.
+-- The index of a program: the row of each literal has the bits of the rules in force that ask it.
 pub record Indexed (P : Program) (R : List ℕ) : Type 0 where
   pub few : count P ≤ maxRules
-  pub chain : (l : ℕ) → l < literals → Chain R (askers P (onIn R) l) (headIn R l)
+  pub rows : Matrix literals (asks P (onIn R)) R
 
 -- the rules in force, less those that are off
 abbrev pub inForceBut : Program → List ℕ → Mask
@@ -42,5 +38,5 @@ pub record Sized (P : Program) (R missing : List ℕ) : Type 0 where
 
 -- The index before it is filled.
 pub record Blank (R missing : List ℕ) : Type 0 where
-  pub cells : _≡_ {A = List ℕ} R (replicate indexCells 0)
+  pub words : _≡_ {A = List ℕ} R (replicate indexWords 0)
   pub rule-places : length missing ≡ maxRules

@@ -2,4 +2,3 @@
 pub mod Literal
 pub mod Cells
 pub mod Index
-pub mod Linked

@@ -1,20 +1,12 @@
 // Where each part of the index begins.
+use bits::row::ROW_WORDS;
 use items::item::MAX_FACTS;
 use items::item::MAX_RULES;
-use tables::layout::MAX_OWN;
 
 // A fact in, and a fact out.
 pub const LITERALS: usize = 2 * MAX_FACTS;
 
-// Slot 0 ends every chain. Beside it there is a slot for each premise and each constraint of a file.
-pub const SLOTS: usize = MAX_OWN;
+// Before the marks of the rules in force there is a row of bits for each literal.
+pub const MARKS: usize = LITERALS * ROW_WORDS;
 
-pub const HEADS: usize = 0;
-
-pub const LINKS: usize = HEADS + LITERALS;
-
-pub const OWNERS: usize = LINKS + SLOTS;
-
-pub const MARKS: usize = OWNERS + SLOTS;
-
-pub const INDEX_CELLS: usize = MARKS + MAX_RULES;
+pub const INDEX_WORDS: usize = MARKS + MAX_RULES;

@@ -2,4 +2,3 @@
 // Internal: propagation follows them from each literal that becomes true.
 pub mod cells;
 pub mod fill;
-mod link;

@@ -8,7 +8,7 @@ ghost use Rattle.theory.specs.Check.{isStable};
 ghost use Rattle.items.specs.Item.{has};
 ghost use Rattle.tables.specs.Layout.{programIn, WellFormed};
 ghost use Rattle.index.specs.Index.{inForceBut};
-use index::cells::INDEX_CELLS;
+use index::cells::INDEX_WORDS;
 use index::cells::LITERALS;
 use index::fill::index_rules;
 use items::item::FactId;
@@ -39,7 +39,7 @@ pub fn is_stable(tables: &[u16; TABLE_CELLS], listed: &[u8; MAX_RULES], set: &[u
     requires { ⌜ WellFormed (now tables) × (programIn (now tables) .facts ≤ length (now set)) ⌝ }
     ensures { λ r. ⌜ r ≡ isStable (programIn (now (tables .entry))) (inForceBut (programIn (now (tables .entry))) (now (listed .entry))) (has (now (set .entry))) ⌝ }
 {
-    let mut index = [0u16; INDEX_CELLS];
+    let mut index = [0u64; INDEX_WORDS];
     let mut missing = [0u16; MAX_RULES];
     index_rules(tables, listed, &mut index, &mut missing);
     let mut marks = [0u8; LITERALS];

@@ -15,7 +15,7 @@ use Rattle.theory.specs.Derive.{conclude, Fresh}
 use Rattle.theory.proofs.Bools.{never, and-left, and-right, false-of, or-none, both-ways}
 use Rattle.theory.proofs.Lists.{all-elem, all-mono, all-ext}
 use Rattle.theory.proofs.Derive.{adjoin-above}
-use Rattle.items.specs.Item.{maxRules}
+use Rattle.items.specs.Item.{narrow, maxFacts, maxRules}
 use Rattle.bits.specs.Flags.{digit, Flags}
 use Rattle.bits.specs.Matrix.{Matrix}
 use Rattle.premises.specs.Premises.{premisesAt, asksAt, lacking, roused, Asked, Counted}
@@ -108,7 +108,7 @@ module _ {P : Program} (b : Bounded P) {fired : List ℕ} {from to : ℕ} (s : S
     pub rule-known : getD fired at 0 < count P
     rule-known = ltb-true (getD fired at 0) (count P) (and-left (ltb (getD fired at 0) (count P)) _ next-known)
 
-    pub one-entered : (f : ℕ) → f ≡ rule P (getD fired at 0) .conclusion → {missing′ awake′ : List ℕ} → ((q : ℕ → ℕ → Bool) (v : ℕ → Bool) → Matrix q asks → Flags v awake → length missing ≡ maxRules → Lowered (q f) v missing missing′ awake′) → Waking P fired from to asks missing₀ awake₀ missing′ awake′ (at + 1)
+    pub one-entered : (f : ℕ) → f ≡ rule P (getD fired at 0) .conclusion → {missing′ awake′ : List ℕ} → ((q : ℕ → ℕ → Bool) (v : ℕ → Bool) → Matrix (maxFacts narrow) q asks → Flags v awake → length missing ≡ maxRules → Lowered (q f) v missing missing′ awake′) → Waking P fired from to asks missing₀ awake₀ missing′ awake′ (at + 1)
     one-entered f f-is {missing′} {awake′} entered =
         record {
           inside = omega arith;

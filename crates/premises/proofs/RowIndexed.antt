@@ -12,9 +12,9 @@ use lib.Dec.{eqb, ltb}
 use Rattle.theory.specs.Rule.{all, mem, howMany, upTo, nothing, adjoin, Program, Bounded, count, rule}
 use Rattle.theory.proofs.Bools.{either, false-of, and-true, or-none, both-ways}
 use Rattle.theory.proofs.Lists.{all-elem, getD-mem, eqb-self, howMany-ext}
-use Rattle.items.specs.Item.{maxRules}
+use Rattle.items.specs.Item.{narrow, maxFacts, maxRules}
 use Rattle.bits.specs.Flags.{Flags}
-use Rattle.bits.specs.Matrix.{Matrix}
+use Rattle.bits.specs.Matrix.{matrixWords, Matrix}
 use Rattle.bits.proofs.EmptyRows.{empty-row, empty-matrix}
 use Rattle.premises.specs.Premises.{premisesAt, lacks, lacking, ripe, Asked, Counted}
 use Rattle.premises.specs.Filling.{Listed, Blank, adjoinEach, Entered}
@@ -29,7 +29,7 @@ ripeBelow P row n k = ltb k n && all nothing (premisesAt P row k)
 
 -- The rules at places below n are indexed.
 pub record Indexing (P : Program) (row : List ℕ) (n : ℕ) (asks missing awake : List ℕ) : Type 0 where
-  pub asked : Matrix (asksBelow P row n) asks
+  pub asked : Matrix (maxFacts narrow) (asksBelow P row n) asks
   pub places : length missing ≡ maxRules
   pub counts : (k : ℕ) → k < n → getD missing k 0 ≡ lacking P row nothing k
   pub woken : Flags (ripeBelow P row n) awake
@@ -37,7 +37,7 @@ pub record Indexing (P : Program) (row : List ℕ) (n : ℕ) (asks missing awake
 pub none-indexed : (P : Program) (row : List ℕ) {asks missing awake : List ℕ} → Blank asks missing awake → Indexing P row 0 asks missing awake
 none-indexed P row b =
     record {
-      asked = rw (b .asks-empty) (empty-matrix (asksBelow P row 0) (λ f k. ap (λ (t : Bool). t && mem f (premisesAt P row k)) (le-ltb k 0 (omega arith))));
+      asked = rw (b .asks-empty) (empty-matrix (maxFacts narrow) matrixWords (omega arith) (asksBelow P row 0) (λ f k. ap (λ (t : Bool). t && mem f (premisesAt P row k)) (le-ltb k 0 (omega arith))));
       places = b .rule-places;
       counts = λ k h. absurd (omega arith);
       woken = rw (b .awake-empty) (empty-row (ripeBelow P row 0) (λ k. ap (λ (t : Bool). t && all nothing (premisesAt P row k)) (le-ltb k 0 (omega arith))));
@@ -48,13 +48,13 @@ pub rule-known : {P : Program} {row : List ℕ} {names : ℕ} → Listed P row n
 rule-known {P} {row} {names} l n h = ltb-true (getD row n 0) (count P) (sym (ap (λ (i : ℕ). ltb i (count P)) (getD-take names row n 0 h)) ∙ all-elem (λ i. ltb i (count P)) (take names row) (l .known) (getD (take names row) n 0) (getD-mem (take names row) n (omega (arith, length-take-le names row (omega (arith, l .places, l .few))))))
 
 -- a test on the places below n, and on one place more
-below-more : (n k : ℕ) (t : Bool) → eqb k n ≡ false → ltb k n && t ≡ ltb k (n + 1) && t
+pub below-more : (n k : ℕ) (t : Bool) → eqb k n ≡ false → ltb k n && t ≡ ltb k (n + 1) && t
 below-more n k t e = let ne : k ≡ n → ⊥ = eqb-false k n e in ap (λ (b : Bool). b && t) (both-ways (ltb k n) (ltb k (n + 1)) (λ h. let l : k < n = ltb-true k n h in lt-ltb k (n + 1) (omega arith)) (λ h. let l : k < n + 1 = ltb-true k (n + 1) h in lt-ltb k n (omega arith)))
 
-here-not : (n : ℕ) (t : Bool) → ltb n n && t ≡ false
+pub here-not : (n : ℕ) (t : Bool) → ltb n n && t ≡ false
 here-not n t = ap (λ (b : Bool). b && t) (le-ltb n n (omega arith))
 
-here-now : (n : ℕ) (t : Bool) → ltb n (n + 1) && t ≡ t
+pub here-now : (n : ℕ) (t : Bool) → ltb n (n + 1) && t ≡ t
 here-now n t = ap (λ (b : Bool). b && t) (lt-ltb n (n + 1) (omega arith))
 
 module _ {P : Program} (b : Bounded P) {row asks missing awake : List ℕ} {n : ℕ} (w : Indexing P row n asks missing awake) (small : n < maxRules) where
@@ -74,7 +74,7 @@ module _ {P : Program} (b : Bounded P) {row asks missing awake : List ℕ} {n : 
   pub none-there : (f : ℕ) → asksBelow P row n f n ≡ false
   none-there f = here-not n (mem f (premisesAt P row n))
 
-  module _ {asks′ : List ℕ} {distinct : ℕ} (entered : Entered (P .facts) (asksBelow P row n) n (premisesAt P row n) asks′ distinct) where
+  module _ {asks′ : List ℕ} {distinct : ℕ} (entered : Entered (maxFacts narrow) (P .facts) (asksBelow P row n) n (premisesAt P row n) asks′ distinct) where
     distinct-is : distinct ≡ lacking P row nothing n
     distinct-is = entered .counted ∙ howMany-ext (λ f. mem f (premisesAt P row n)) (lacks P row nothing n) (upTo (P .facts)) (λ f _. sym (and-true (mem f (premisesAt P row n))))
 
@@ -88,7 +88,7 @@ module _ {P : Program} (b : Bounded P) {row asks missing awake : List ℕ} {n : 
     next : (awake′ : List ℕ) → Flags (ripeBelow P row (n + 1)) awake′ → Indexing P row (n + 1) asks′ (set missing n distinct) awake′
     next awake′ f =
         record {
-          asked = subst (λ (q : ℕ → ℕ → Bool). Matrix q asks′) (fun-ext (λ f. fun-ext (λ k. asks′-are f k))) (entered .matrix);
+          asked = subst (λ (q : ℕ → ℕ → Bool). Matrix (maxFacts narrow) q asks′) (fun-ext (λ f. fun-ext (λ k. asks′-are f k))) (entered .matrix);
           places = length-set missing n distinct ∙ w .places;
           counts = counts′;
           woken = f;
@@ -134,7 +134,7 @@ module _ {P : Program} {row asks missing awake : List ℕ} {names n : ℕ} (l : 
       go false h = refl
 
   pub all-asked : Asked P (take names row) asks
-  all-asked = record { matrix = subst (λ (q : ℕ → ℕ → Bool). Matrix q asks) (fun-ext (λ f. fun-ext (λ k. in-front (λ i. mem f (rule P i .premises)) k))) (w .asked) }
+  all-asked = record { matrix = subst (λ (q : ℕ → ℕ → Bool). Matrix (maxFacts narrow) q asks) (fun-ext (λ f. fun-ext (λ k. in-front (λ i. mem f (rule P i .premises)) k))) (w .asked) }
 
   pub all-counted : Counted P (take names row) nothing missing
   all-counted =

@@ -22,11 +22,11 @@ pub record Blank (asks missing awake : List ℕ) : Type 0 where
   pub rule-places : length missing ≡ maxRules
   pub awake-empty : _≡_ {A = List ℕ} awake (replicate rowWords 0)
 
--- the relation with the place beside each fact of the list
+-- the relation with the place beside each number of the list
 abbrev pub adjoinEach : (ℕ → ℕ → Bool) → ℕ → List ℕ → (ℕ → ℕ → Bool)
 adjoinEach q place xs = λ f k. mem f xs && eqb k place || q f k
 
--- The place is marked in the row of each fact of the list, and the count is that of the list's facts, each counted once.
-pub record Entered (facts : ℕ) (q : ℕ → ℕ → Bool) (place : ℕ) (xs asks : List ℕ) (distinct : ℕ) : Type 0 where
-  pub matrix : Matrix (adjoinEach q place xs) asks
-  pub counted : distinct ≡ howMany (λ f. mem f xs) (upTo facts)
+-- The place is marked in the row of each key of the list, and the count is that of the list's numbers below a bound, each counted once.
+pub record Entered (keys bound : ℕ) (q : ℕ → ℕ → Bool) (place : ℕ) (xs asks : List ℕ) (distinct : ℕ) : Type 0 where
+  pub matrix : Matrix keys (adjoinEach q place xs) asks
+  pub counted : distinct ≡ howMany (λ f. mem f xs) (upTo bound)

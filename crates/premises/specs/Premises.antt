@@ -6,7 +6,7 @@ use mathlib.Core.List.{List}
 use lib.ListN.{length, getD}
 use lib.Dec.{ltb}
 use Rattle.theory.specs.Rule.{all, mem, howMany, upTo, Program, FactSet, rule}
-use Rattle.items.specs.Item.{maxRules}
+use Rattle.items.specs.Item.{narrow, maxFacts, maxRules}
 use Rattle.bits.specs.Matrix.{Matrix}
 
 -- the premises of the rule at a place
@@ -34,7 +34,7 @@ roused P row S T p = λ k. p k || ltb k (length row) && (not (all S (premisesAt 
 
 -- The matrix has for each fact the places whose rules ask it.
 pub record Asked (P : Program) (row asks : List ℕ) : Type 0 where
-  pub matrix : Matrix (asksAt P row) asks
+  pub matrix : Matrix (maxFacts narrow) (asksAt P row) asks
 
 -- The count of each place is that of the premises that its rule lacks.
 pub record Counted (P : Program) (row : List ℕ) (S : FactSet) (missing : List ℕ) : Type 0 where

@@ -2,11 +2,11 @@
 ghost use Prim.Native.Nat.{ℕ, _<_, _≤_};
 ghost use mathlib.Core.Path.{_≡_};
 ghost use mathlib.Core.Bool.{Bool, false};
-ghost use lib.ListN.{take};
+ghost use lib.ListN.{length, take};
 ghost use Rattle.theory.specs.Rule.{nothing, count, rule as ruleOf};
 ghost use Rattle.items.specs.Item.{maxRules};
 ghost use Rattle.bits.specs.Flags.{Flags};
-ghost use Rattle.bits.specs.Matrix.{Matrix};
+ghost use Rattle.bits.specs.Matrix.{matrixWords, Matrix, SameFrom};
 ghost use Rattle.tables.specs.Layout.{maxOwn, programIn, WellFormed};
 ghost use Rattle.premises.specs.Premises.{Asked, Counted, ripe};
 ghost use Rattle.premises.specs.Filling.{Listed, Blank, Entered};
@@ -21,15 +21,16 @@ use tables::own::premise_at;
 use tables::own::premise_span;
 
 // Marks the premises of a rule at its place. Answers how many distinct premises it has.
-fn index_rule(
+pub fn index_rule(
     tables: &[u16; TABLE_CELLS],
     rule: RuleId,
     place: usize,
-    asks: &mut [u64; MATRIX_WORDS],
+    asks: &mut [u64],
 ) -> usize
-    requires { ⌜ WellFormed (now tables) × (rule .0 < count (programIn (now tables))) × (place < maxRules) ⌝ }
+    requires { ⌜ WellFormed (now tables) × (rule .0 < count (programIn (now tables))) × (place < maxRules) × (matrixWords ≤ length (now asks)) ⌝ }
     ensures { λ r. ⌜ r ≤ maxOwn ⌝ }
-    ensures { λ r. ⌜ ((q : ℕ → ℕ → Bool) → Matrix q (now (asks .entry)) → ((f : ℕ) → q f place ≡ false) → Entered (programIn (now (tables .entry)) .facts) q place (ruleOf (programIn (now (tables .entry))) (rule .0) .premises) (now (asks .exit)) r) ⌝ }
+    ensures { λ r. ⌜ ((keys bound : ℕ) (q : ℕ → ℕ → Bool) → programIn (now (tables .entry)) .facts ≤ bound → bound ≤ keys → Matrix keys q (now (asks .entry)) → ((f : ℕ) → q f place ≡ false) → Entered keys bound q place (ruleOf (programIn (now (tables .entry))) (rule .0) .premises) (now (asks .exit)) r) ⌝ }
+    ensures { λ _. ⌜ SameFrom matrixWords (now (asks .entry)) (now (asks .exit)) ⌝ }
 {
     let own = premise_span(tables, rule);
     let end = own.end;

@@ -68,7 +68,7 @@ fn enter(
     awake: &mut [u64; ROW_WORDS],
 )
     requires { ⌜ fact < maxFacts narrow ⌝ }
-    ensures { λ _. ⌜ ((q : ℕ → ℕ → Bool) (w : ℕ → Bool) → Matrix q (now (asks .entry)) → Flags w (now (awake .entry)) → length (now (missing .entry)) ≡ maxRules → Lowered (q fact) w (now (missing .entry)) (now (missing .exit)) (now (awake .exit))) ⌝ }
+    ensures { λ _. ⌜ ((q : ℕ → ℕ → Bool) (w : ℕ → Bool) → Matrix (maxFacts narrow) q (now (asks .entry)) → Flags w (now (awake .entry)) → length (now (missing .entry)) ≡ maxRules → Lowered (q fact) w (now (missing .entry)) (now (missing .exit)) (now (awake .exit))) ⌝ }
 {
     let mut askers = row_of(asks, fact);
     lower(&mut askers, missing, awake);

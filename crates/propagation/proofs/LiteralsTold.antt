@@ -2,26 +2,32 @@
 use Prim.Native.Nat.{ℕ, zero, suc, _+_, _-_, _<_, _≤_}
 use native.Mathlib.Omega.{arith}
 use mathlib.Core.Path.{_≡_, refl, sym, ap, _∙_, fun-ext, subst}
-use mathlib.Core.Bool.{Bool, true, false, not, _&&_, _||_}
-use mathlib.Core.List.{List, [], _∷_}
+use mathlib.Core.Bool.{Bool, true, false, not, _||_}
+use mathlib.Core.List.{List, _∷_}
 use mathlib.Core.Logic.{⊎-elim}
+use mathlib.Core.Option.{some}
 use borrow.Author.Tests.{eqb-true, ne-eqb, ltb-true, ltb-false}
 use lib.ListN.{length, getD, set, length-set, List·getD-eq-default}
 use lib.Dec.{eqb, ltb}
-use Rattle.theory.specs.Rule.{all, howMany, Program, Mask, Sub, everyRule, adjoin, count, rule}
-use Rattle.theory.proofs.Bools.{either, never, and-left, and-right, or-right, or-cases, not-of-false}
+use Rattle.theory.specs.Rule.{keep, howMany, upTo, Program, Mask, Sub, everyRule, adjoin, count, rule}
+use Rattle.theory.proofs.Bools.{either, never, and-right, or-right, or-cases, not-of-false}
 use Rattle.theory.proofs.Lists.{eqb-self}
 use Rattle.items.specs.declared.item.FactId.{FactId}
 use Rattle.items.specs.Item.{narrow, maxFacts, factId, maxRules, has}
+use Rattle.bits.specs.Flags.{Flags, without, lowestOf, Taken}
+use Rattle.bits.specs.Matrix.{Matrix}
+use Rattle.bits.specs.declared.row.Lowest.{Lowest}
+use Rattle.bits.specs.declared.row.Lowest.the-variants.{At, Nothing}
+use Rattle.bits.proofs.RowTaken.{lowest-is, nothing-left, none-kept, lowest-kept}
 use Rattle.tables.specs.Layout.{programIn, WellFormed}
 use Rattle.tables.proofs.ProgramHeld.{facts-below, conclusion-below}
 use Rattle.marking.proofs.MarksPainted.{has-set}
 use Rattle.index.specs.Literal.{outside, literals, literalCount, lacking}
-use Rattle.index.specs.Cells.{slots, headIn, linkIn, ownerIn, onIn}
-use Rattle.index.specs.Index.{Chain, askers, Indexed}
+use Rattle.index.specs.Cells.{onIn}
+use Rattle.index.specs.Index.{asks, askers, Indexed}
 use Rattle.index.proofs.LiteralsCounted.{count-most}
-use Rattle.index.proofs.AskersCounted.{askers-known, lacking-told}
-use Rattle.propagation.specs.State.{waiting, told, toldCount, Grounded, Spreading, Between, Telling, Waited, Concluded, Onward, Settled}
+use Rattle.index.proofs.AskersCounted.{asker-known, lacking-told}
+use Rattle.propagation.specs.State.{waiting, told, toldCount, Grounded, Spreading, Between, Waited, Concluded, Onward, Settled}
 use Rattle.propagation.proofs.LiteralsStacked.{has-told, set-cases, passed-by, taken, same-told, was-not-true, top-inside, top-literal}
 use Rattle.propagation.proofs.Grounds.{grounded-still, conclusion-grounded}
 
@@ -150,69 +156,63 @@ module _ {P : Program} {on : Mask} {r : ℕ} {rules marks missing stack : List �
       any-rule true = refl
       any-rule false = refl
 
--- The rules of a chain are told.
-module _ {P : Program} {R : List ℕ} {slot : ℕ} {marks missing stack : List ℕ} {top : ℕ} (w : Telling P R slot marks missing stack top) where
-  pub chain-ended : slot ≡ 0 → Between P (onIn R) marks missing stack top
-  chain-ended e = go (w .rules) (w .chain) (w .spreading)
-    where
-      go : (rs : List ℕ) → Chain R rs slot → Spreading P (onIn R) everyRule rs marks missing stack top → Between P (onIn R) marks missing stack top
-      go [] q x = x
-      go (r ∷ rs) q x = absurd (omega (arith, q .0))
+-- Rules of which the row has the bits are still to be told.
+pub record Telling (P : Program) (on : Mask) (left marks missing stack : List ℕ) (top : ℕ) : Type 0 where
+  pub p : ℕ → Bool
+  pub flags : Flags p left
+  pub known : (i : ℕ) → p i ≡ true → (i < count P) × (on i ≡ true)
+  pub spreading : Spreading P on everyRule (keep p (upTo (count P))) marks missing stack top
 
-  -- the rule at the slot, and the state once it is told
-  pub record RuleTold : Type 0 where
-    pub slot-inside : slot < slots
-    pub rule-known : ownerIn R slot < count P
-    pub link-lower : linkIn R slot < slot
-    pub some-missing : 0 < getD missing (ownerIn R slot) 0
-    pub goes-on : (getD (set missing (ownerIn R slot) (getD missing (ownerIn R slot) 0 - 1)) (ownerIn R slot) 0 ≡ 0 → ⊥)
-        → Telling P R (linkIn R slot) marks (set missing (ownerIn R slot) (getD missing (ownerIn R slot) 0 - 1)) stack top
-    pub concludes : (marks′ stack′ : List ℕ) (top′ : ℕ) → getD (set missing (ownerIn R slot) (getD missing (ownerIn R slot) 0 - 1)) (ownerIn R slot) 0 ≡ 0
-        → Concluded P (ownerIn R slot) marks top marks′ stack′ top′
-        → Telling P R (linkIn R slot) marks′ (set missing (ownerIn R slot) (getD missing (ownerIn R slot) 0 - 1)) stack′ top′
+-- All that ask a literal are to be told.
+pub none-told : {P : Program} {R left marks missing stack : List ℕ} {top : ℕ} (x : Indexed P R) (l : ℕ) → ((keys : ℕ) (q : ℕ → ℕ → Bool) → l < keys → Matrix keys q R → Flags (q l) left) → l < literals → Spreading P (onIn R) everyRule (askers P (onIn R) l) marks missing stack top → Telling P (onIn R) left marks missing stack top
+none-told {P} {R} x l row h s = record { p = asks P (onIn R) l; flags = row literals (asks P (onIn R)) h (x .rows); known = asker-known P (onIn R) l; spreading = s }
 
-  pub at-slot : count P ≤ maxRules → (slot ≡ 0 → ⊥) → RuleTold
-  at-slot few n = go (w .rules) (w .chain) (w .known) (w .spreading)
-    where
-      go : (rs : List ℕ) → Chain R rs slot → all (λ i. ltb i (count P) && onIn R i) rs ≡ true → Spreading P (onIn R) everyRule rs marks missing stack top → RuleTold
-      go [] q k x = absurd (n q)
-      go (r ∷ rs) q k x =
-          record {
-            slot-inside = q .1;
-            rule-known = below;
-            link-lower = q .3;
-            some-missing = missed-some here below in-force few;
-            goes-on = λ z. record { rules = rs; chain = q .4; known = and-right (ltb r (count P) && onIn R r) _ k; spreading = still-missing here below in-force few z };
-            concludes = λ marks′ stack′ top′ z v. record { rules = rs; chain = q .4; known = and-right (ltb r (count P) && onIn R r) _ k; spreading = none-missing-now here below in-force few z v };
-          }
-        where
-          below : ownerIn R slot < count P
-          below = omega (arith, q .2, ltb-true r (count P) (and-left _ _ (and-left (ltb r (count P) && onIn R r) _ k)))
+module _ {P : Program} {on : Mask} {left marks missing stack : List ℕ} {top : ℕ} (w : Telling P on left marks missing stack top) {r : Lowest} {left′ : List ℕ} (takes : (p : ℕ → Bool) → Flags p left → Taken p r left′) where
+  -- None is left.
+  pub all-told : r ≡ Nothing → Between P on marks missing stack top
+  all-told e =
+      subst (λ (rules : List ℕ). Spreading P on everyRule rules marks missing stack top)
+      (none-kept (w .p) (nothing-left (w .flags) (takes (w .p) (w .flags) .none-left e)) (upTo (count P))) (w .spreading)
 
-          in-force : onIn R (ownerIn R slot) ≡ true
-          in-force = ap (onIn R) (q .2) ∙ and-right (ltb r (count P)) _ (and-left (ltb r (count P) && onIn R r) _ k)
+  module _ (few : count P ≤ maxRules) (i : ℕ) (e : r ≡ At i) where
+    abbrev missing′ : List ℕ
+    missing′ = set missing i (getD missing i 0 - 1)
 
-          here : Spreading P (onIn R) everyRule (ownerIn R slot ∷ rs) marks missing stack top
-          here = subst (λ (o : ℕ). Spreading P (onIn R) everyRule (o ∷ rs) marks missing stack top) (sym (q .2)) x
+    -- the rule taken, and the state once it is told
+    pub record RuleTold : Type 0 where
+      pub rule-known : i < count P
+      pub some-missing : 0 < getD missing i 0
+      pub goes-on : (getD missing′ i 0 ≡ 0 → ⊥) → Telling P on left′ marks missing′ stack top
+      pub concludes : (marks′ stack′ : List ℕ) (top′ : ℕ) → getD missing′ i 0 ≡ 0 → Concluded P i marks top marks′ stack′ top′ → Telling P on left′ marks′ missing′ stack′ top′
 
--- One turn of the loop over a chain, by both ways.
-module _ {P : Program} {R : List ℕ} {slot : ℕ} {marks missing stack : List ℕ} {top : ℕ} {w : Telling P R slot marks missing stack top} (t : RuleTold w) {marks₀ : List ℕ} {top₀ : ℕ} (o : Onward marks₀ top₀ marks top) (marks′ stack′ : List ℕ) (top′ : ℕ) where
-  abbrev owner : ℕ
-  owner = ownerIn R slot
+    pub one-taken : RuleTold
+    one-taken =
+        record {
+          rule-known = is-known .0;
+          some-missing = missed-some here (is-known .0) (is-known .1) few;
+          goes-on = λ z. rest (still-missing here (is-known .0) (is-known .1) few z);
+          concludes = λ marks′ stack′ top′ z v. rest (none-missing-now here (is-known .0) (is-known .1) few z v);
+        }
+      where
+        lowest : lowestOf (w .p) ≡ some i
+        lowest = takes (w .p) (w .flags) .lowest i e
 
-  abbrev missing′ : List ℕ
-  missing′ = set missing owner (getD missing owner 0 - 1)
+        is-known : (i < count P) × (on i ≡ true)
+        is-known = w .known i (lowest-is (w .p) i lowest .passes)
 
-  pub turn-on : (getD missing′ owner 0 ≡ 0 → ⊥) → marks′ ≡ marks → stack′ ≡ stack → top′ ≡ top → Telling P R (linkIn R slot) marks′ missing′ stack′ top′ × Onward marks₀ top₀ marks′ top′
-  turn-on n a b c = rw (a, b, c) (t .goes-on n, o)
+        here : Spreading P on everyRule (i ∷ keep (without (w .p) i) (upTo (count P))) marks missing stack top
+        here = subst (λ (rules : List ℕ). Spreading P on everyRule rules marks missing stack top) (lowest-kept (w .p) (count P) i lowest (is-known .0)) (w .spreading)
 
-  pub turn-concluded : getD missing′ owner 0 ≡ 0 → (marks″ stack″ : List ℕ) (top″ : ℕ) → Concluded P owner marks top marks″ stack″ top″ → marks′ ≡ marks″ → stack′ ≡ stack″ → top′ ≡ top″ → Telling P R (linkIn R slot) marks′ missing′ stack′ top′ × Onward marks₀ top₀ marks′ top′
-  turn-concluded z marks″ stack″ top″ v a b c =
-      rw (a, b, c) (t .concludes marks″ stack″ top″ z v, onward-then o (concluded-onward v (t .rule-known)))
+        rest : {marks′ stack′ : List ℕ} {top′ : ℕ} → Spreading P on everyRule (keep (without (w .p) i) (upTo (count P))) marks′ missing′ stack′ top′ → Telling P on left′ marks′ missing′ stack′ top′
+        rest s = record { p = without (w .p) i; flags = takes (w .p) (w .flags) .rest i e; known = λ k t. w .known k (and-right (not (eqb k i)) (w .p k) t); spreading = s }
 
-pub head-fits : (R : List ℕ) {head : ℕ} (rules : List ℕ) → Chain R rules head → head < slots
-head-fits R [] q = omega arith
-head-fits R (i ∷ is) q = q .1
+    -- One turn of the loop over the rules, by both ways.
+    module _ (t : RuleTold) {marks₀ : List ℕ} {top₀ : ℕ} (o : Onward marks₀ top₀ marks top) where
+      pub turn-on : (getD missing′ i 0 ≡ 0 → ⊥) → Telling P on left′ marks missing′ stack top × Onward marks₀ top₀ marks top
+      turn-on n = (t .goes-on n, o)
+
+      pub turn-concluded : getD missing′ i 0 ≡ 0 → (marks″ stack″ : List ℕ) (top″ : ℕ) → Concluded P i marks top marks″ stack″ top″ → Telling P on left′ marks″ missing′ stack″ top″ × Onward marks₀ top₀ marks″ top″
+      turn-concluded z marks″ stack″ top″ v = (t .concludes marks″ stack″ top″ z v, onward-then o (concluded-onward v (t .rule-known)))
 
 -- The literal on top of the stack.
 pub top-of : {P : Program} {on : Mask} {marks missing stack : List ℕ} {top : ℕ} → Between P on marks missing stack top → 0 < top → Between P on marks missing stack (suc (top - 1))
@@ -248,7 +248,7 @@ module _ {P : Program} {on : Mask} {marks missing stack : List ℕ} {rest : ℕ}
         ∙ ap (λ (p : ℕ → Bool). lacking P p i + howMany (eqb i) (askers P on last)) (sym true-now)
 
     -- its rules are still to be told
-    true-spreads : Spreading P on everyRule (askers P on last) (set marks last 1) missing stack rest
+    pub true-spreads : Spreading P on everyRule (askers P on last) (set marks last 1) missing stack rest
     true-spreads =
         record {
           on-stack = taken (w .on-stack) e;
@@ -264,15 +264,6 @@ module _ {P : Program} {on : Mask} {marks missing stack : List ℕ} {rest : ℕ}
 
     pub nearer : {marks′ : List ℕ} {top′ : ℕ} → Onward (set marks last 1) rest marks′ top′ → (literals + top′) - toldCount marks′ < (literals + suc rest) - toldCount marks
     nearer {marks′} {top′} o = omega (arith, o .paced, ap literalCount as-told, count-most (told marks), count-most (told marks′))
-
-pub one-true : {P : Program} {R marks missing stack : List ℕ} {rest : ℕ} (x : Indexed P R) (w : Between P (onIn R) marks missing stack (suc rest)) → getD marks (getD stack rest 0) 0 ≡ waiting → Telling P R (headIn R (getD stack rest 0)) (set marks (getD stack rest 0) 1) missing stack rest
-one-true {P} {R} {stack = stack} {rest} x w e =
-    record {
-      rules = askers P (onIn R) (getD stack rest 0);
-      chain = x .chain (getD stack rest 0) (last-literal w);
-      known = askers-known P (onIn R) (getD stack rest 0);
-      spreading = true-spreads w e;
-    }
 
 -- Each turn of the loop over the stack takes one from it, and puts no more on it than are told.
 module _ {P : Program} {on : Mask} {marks missing stack : List ℕ} {top : ℕ} (w : Between P on marks missing stack top) (h : 0 < top) where

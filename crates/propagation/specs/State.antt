@@ -4,7 +4,7 @@
 -- not known to be true. For each rule in force it is kept how many literals of its body are missing; a rule that is not in force misses one for ever.
 use Prim.Native.Nat.{ℕ, _+_, _<_, _≤_}
 use mathlib.Core.Path.{_≡_}
-use mathlib.Core.Bool.{Bool, true, false, not, _&&_, _||_}
+use mathlib.Core.Bool.{Bool, true, false, not, _||_}
 use mathlib.Core.List.{List, []}
 use lib.ListN.{length, getD, take}
 use lib.Dec.{eqb, ltb}
@@ -13,8 +13,7 @@ use Rattle.theory.specs.Stable.{reduct}
 use Rattle.items.specs.Item.{narrow, maxFacts, maxRules, has}
 use Rattle.tables.specs.Layout.{programIn, WellFormed}
 use Rattle.index.specs.Literal.{outside, literals, literalCount, lacking}
-use Rattle.index.specs.Cells.{onIn}
-use Rattle.index.specs.Index.{Chain, Indexed}
+use Rattle.index.specs.Index.{Indexed}
 
 -- What is known beforehand: the tables hold a program, and the index is that of its rules.
 pub record Ready (T R : List ℕ) : Type 0 where
@@ -65,13 +64,6 @@ pub record Spreading (P : Program) (on asked : Mask) (rules : List ℕ) (marks m
 -- Between two literals: every rule knows of every literal that is true.
 abbrev pub Between : Program → Mask → List ℕ → List ℕ → List ℕ → ℕ → Type 0
 Between P on marks missing stack top = Spreading P on everyRule [] marks missing stack top
-
--- The rules of the chain from a slot are still to be told.
-pub record Telling (P : Program) (R : List ℕ) (slot : ℕ) (marks missing stack : List ℕ) (top : ℕ) : Type 0 where
-  pub rules : List ℕ
-  pub chain : Chain R rules slot
-  pub known : all (λ i. ltb i (count P) && onIn R i) rules ≡ true
-  pub spreading : Spreading P (onIn R) everyRule rules marks missing stack top
 
 -- A literal is told now, if it was not before.
 pub record Waited (literal : ℕ) (marks : List ℕ) (top : ℕ) (marks′ stack′ : List ℕ) (top′ : ℕ) : Type 0 where

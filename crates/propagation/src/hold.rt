@@ -11,7 +11,7 @@ ghost use Rattle.index.specs.Cells.{onIn};
 ghost use Rattle.propagation.specs.State.{Ready, Settled, HeldToo};
 use crate::spread::spread;
 use crate::spread::wait;
-use index::cells::INDEX_CELLS;
+use index::cells::INDEX_WORDS;
 use index::cells::LITERALS;
 use items::item::MAX_FACTS;
 use items::item::MAX_RULES;
@@ -21,7 +21,7 @@ use tables::layout::facts_of;
 // Holds out the facts of a row from one place up to another, and derives what follows.
 pub fn hold_out(
     tables: &[u16; TABLE_CELLS],
-    index: &[u16; INDEX_CELLS],
+    index: &[u64; INDEX_WORDS],
     facts: &[u16],
     from: usize,
     to: usize,
@@ -47,7 +47,7 @@ pub fn hold_out(
 // Holds out the facts that are not in a set, and derives what follows.
 pub fn hold_absent(
     tables: &[u16; TABLE_CELLS],
-    index: &[u16; INDEX_CELLS],
+    index: &[u64; INDEX_WORDS],
     set: &[u8],
     marks: &mut [u8; LITERALS],
     missing: &mut [u16; MAX_RULES],

@@ -10,7 +10,7 @@ ghost use Rattle.index.specs.Index.{Sized};
 ghost use Rattle.propagation.specs.State.{Ready, Settled, HeldToo};
 use crate::spread::conclude;
 use crate::spread::spread;
-use index::cells::INDEX_CELLS;
+use index::cells::INDEX_WORDS;
 use index::cells::LITERALS;
 use items::item::MAX_RULES;
 use tables::layout::TABLE_CELLS;
@@ -19,7 +19,7 @@ use tables::layout::rules_of;
 // Derives what follows with no fact held out: the marks are empty before, and every rule in force misses its whole body.
 pub fn hold_none(
     tables: &[u16; TABLE_CELLS],
-    index: &[u16; INDEX_CELLS],
+    index: &[u64; INDEX_WORDS],
     marks: &mut [u8; LITERALS],
     missing: &mut [u16; MAX_RULES],
 )

@@ -1,17 +1,18 @@
 // One literal after another is taken as true. Internal.
 ghost use Prim.Native.Nat.{ℕ, _<_};
 ghost use mathlib.Core.Path.{_≡_};
-ghost use Rattle.theory.specs.Rule.{count};
+ghost use Rattle.theory.specs.Rule.{everyRule, count};
 ghost use Rattle.items.specs.Item.{has};
 ghost use Rattle.tables.specs.Layout.{programIn, WellFormed};
 ghost use Rattle.index.specs.Literal.{literals, outside};
 ghost use Rattle.index.specs.Cells.{onIn};
-ghost use Rattle.propagation.specs.State.{Ready, Stacked, Between, Telling, Waited, Concluded, Onward, Settled, told};
-use index::cells::HEADS;
-use index::cells::INDEX_CELLS;
-use index::cells::LINKS;
+ghost use Rattle.index.specs.Index.{askers};
+ghost use Rattle.propagation.specs.State.{Ready, Stacked, Spreading, Between, Waited, Concluded, Onward, Settled, told};
+use bits::matrix::row_of;
+use bits::row::Lowest;
+use bits::row::take;
+use index::cells::INDEX_WORDS;
 use index::cells::LITERALS;
-use index::cells::OWNERS;
 use items::item::MAX_RULES;
 use items::item::RuleId;
 use tables::layout::TABLE_CELLS;
@@ -56,38 +57,42 @@ pub fn conclude(
     wait(marks, stack, top, fact.0 as usize)
 }
 
-// Tells the rules of a chain that its literal is true: each misses one literal less, and one that misses nothing has its conclusion.
+// Tells the rules that ask a literal that it is true: each misses one literal less, and one that misses nothing has its conclusion.
 fn tell(
     tables: &[u16; TABLE_CELLS],
-    index: &[u16; INDEX_CELLS],
-    head: usize,
+    index: &[u64; INDEX_WORDS],
+    literal: usize,
     marks: &mut [u8; LITERALS],
     missing: &mut [u16; MAX_RULES],
     stack: &mut [u16; LITERALS],
     top: usize,
 ) -> usize
-    requires { ⌜ WellFormed (now tables) ⌝ }
-    requires { ⌜ Telling (programIn (now tables)) (now index) head (now marks) (now missing) (now stack) top ⌝ }
+    requires { ⌜ Ready (now tables) (now index) × (literal < literals) ⌝ }
+    requires { ⌜ Spreading (programIn (now tables)) (onIn (now index)) everyRule (askers (programIn (now tables)) (onIn (now index)) literal) (now marks) (now missing) (now stack) top ⌝ }
     ensures { λ r. ⌜ Between (programIn (now (tables .entry))) (onIn (now (index .entry))) (now (marks .exit)) (now (missing .exit)) (now (stack .exit)) r ⌝ }
     ensures { λ r. ⌜ Onward (now (marks .entry)) top (now (marks .exit)) r ⌝ }
 {
+    let mut left = row_of(index, literal);
     let mut top = top;
-    let mut slot = head;
-    while slot != 0 {
-        let rule = index[OWNERS + slot] as usize;
-        missing[rule] -= 1;
-        if missing[rule] == 0 {
-            top = conclude(tables, rule, marks, stack, top);
+    loop {
+        match take(&mut left) {
+            Lowest::Nothing => {
+                return top;
+            }
+            Lowest::At(rule) => {
+                missing[rule] -= 1;
+                if missing[rule] == 0 {
+                    top = conclude(tables, rule, marks, stack, top);
+                }
+            }
         }
-        slot = index[LINKS + slot] as usize;
     }
-    top
 }
 
 // Takes all that waits as true.
 pub fn spread(
     tables: &[u16; TABLE_CELLS],
-    index: &[u16; INDEX_CELLS],
+    index: &[u64; INDEX_WORDS],
     marks: &mut [u8; LITERALS],
     missing: &mut [u16; MAX_RULES],
     stack: &mut [u16; LITERALS],
@@ -104,8 +109,7 @@ pub fn spread(
         let literal = stack[top] as usize;
         if marks[literal] == WAITING {
             marks[literal] = TRUE;
-            let head = index[HEADS + literal] as usize;
-            top = tell(tables, index, head, marks, missing, stack, top);
+            top = tell(tables, index, literal, marks, missing, stack, top);
         }
     }
 }

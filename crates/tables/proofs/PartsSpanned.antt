@@ -1,13 +1,12 @@
 -- The premises and the constraints of a rule, element by element along their row.
 use Prim.Native.Nat.{ℕ, zero, suc, _+_, _-_, _<_, _≤_}
-use mathlib.Core.Path.{_≡_, refl, sym, ap, _∙_}
+use mathlib.Core.Path.{_≡_, refl, sym, ap}
 use mathlib.Core.Bool.{Bool, true, false, not}
 use mathlib.Core.List.{List, [], _∷_}
 use mathlib.Core.Logic.{⊎-elim}
 use native.Mathlib.Omega.{arith}
 use native.Mathlib.Numerals.{add-one}
 use borrow.Author.Tests.{lt-ltb, ltb-true, ltb-false}
-use lib.ListN.{length}
 use lib.Dec.{ltb}
 use Rattle.theory.specs.Rule.{all, mem, Rule, Program, count, rule, null, exception}
 use Rattle.theory.proofs.Bools.{either}
@@ -43,13 +42,6 @@ in-span row a b j low high = go (b - a) a low (omega arith)
             let same : j ≡ a = omega arith in
             rw same (mem-here (row a) (listed row (suc a) n))
 
-pub span-length : (row : ℕ → ℕ) (a b : ℕ) → length (span row a b) ≡ b - a
-span-length row a b = go a (b - a)
-  where
-    go : (a n : ℕ) → length (listed row a n) ≡ n
-    go a zero = refl
-    go a (suc n) = ap suc (go (suc a) n)
-
 module _ {T : List ℕ} (w : WellFormed T) {i : ℕ} (h : i < count (programIn T)) where
   pub conclusion-is : rule (programIn T) i .conclusion ≡ ruleIn T i .conclusion
   conclusion-is = ap (λ (r : Rule). r .conclusion) (rule-held T i (known w h))
@@ -61,19 +53,6 @@ module _ {T : List ℕ} (w : WellFormed T) {i : ℕ} (h : i < count (programIn T
   constraints-are : rule (programIn T) i .constraints ≡ span (constraintAt T) (constraintStart T i) (constraintStart T (i + 1))
   unfolding ruleIn
   constraints-are = ap (λ (r : Rule). r .constraints) (rule-held T i (known w h))
-
-  -- the parts of a rule reach to where the next rule's start
-  pub premises-length : length (rule (programIn T) i .premises) + premiseStart T i ≡ premiseStart T (i + 1)
-  premises-length = reach (ap length premises-are ∙ span-length (premiseAt T) _ _) (w .premise-spans .low i (known w h))
-    where
-      reach : {n a b : ℕ} → n ≡ b - a → a ≤ b → n + a ≡ b
-      reach e l = omega arith
-
-  pub constraints-length : length (rule (programIn T) i .constraints) + constraintStart T i ≡ constraintStart T (i + 1)
-  constraints-length = reach (ap length constraints-are ∙ span-length (constraintAt T) _ _) (w .constraint-spans .low i (known w h))
-    where
-      reach : {n a b : ℕ} → n ≡ b - a → a ≤ b → n + a ≡ b
-      reach e l = omega arith
 
   below : (row : ℕ → ℕ) (a b : ℕ) → all (λ f. ltb f (programIn T .facts)) (span row a b) ≡ true → (j : ℕ) → a ≤ j → j < b → row j < programIn T .facts
   below row a b e j l g = ltb-true (row j) (programIn T .facts) (all-elem (λ f. ltb f (programIn T .facts)) (span row a b) e (row j) (in-span row a b j l g))

@@ -8,10 +8,10 @@ use Rattle.bits.proofs.matrix.copy_row.Statement.{statement}
 use Rattle.bits.proofs.matrix.copy_row.Tie as tie
 
 abbrev Inv-loop : tie.InvT-loop
-Inv-loop matrix fact row₀ from k₀ row k = Copying matrix fact row₀ row k
+Inv-loop matrix key row₀ from k₀ row k = Copying matrix key row₀ row k
 
 abbrev μ-loop : tie.MeasureT-loop
-μ-loop matrix fact row₀ from k₀ row k = rowWords - k
+μ-loop matrix key row₀ from k₀ row k = rowWords - k
 
 mul-from : tie.Need-mul-from Inv-loop μ-loop
 mul-from c = search needs
@@ -25,8 +25,8 @@ add-row c = search needs
 mul-row : tie.Need-mul-row Inv-loop μ-loop
 mul-row c = search needs
 
-element-copy-out-row : tie.Need-element-copy-out-row Inv-loop μ-loop
-element-copy-out-row c = search needs
+shared-slice-read-row : tie.Need-shared-slice-read-row Inv-loop μ-loop
+shared-slice-read-row c = search needs
 
 mul-row-2 : tie.Need-mul-row-2 Inv-loop μ-loop
 mul-row-2 c = search needs
@@ -56,7 +56,7 @@ copy-row-spec =
     loop-holds
     add-row
     mul-row
-    element-copy-out-row
+    shared-slice-read-row
     mul-row-2
     element-write-row
     add-k

@@ -1,7 +1,7 @@
--- `mark_in`: a bit of a word of the fact's row is set.
+-- `mark_in`: a bit of a word of the key's row is set.
 use borrow.Author.Needs.{needs}
 use Rattle.bits.proofs.RowMarked.{bit-inside}
-use Rattle.bits.proofs.MatrixMarked.{matrix-marked, mark-new}
+use Rattle.bits.proofs.MatrixMarked.{matrix-marked, mark-new, mark-behind}
 use Rattle.bits.proofs.matrix.mark_in.Statement.{statement}
 use Rattle.bits.proofs.matrix.mark_in.Tie as tie
 
@@ -14,8 +14,8 @@ add-at c = search needs
 mul-before : tie.Need-mul-before
 mul-before c = search needs
 
-element-copy-out-before : tie.Need-element-copy-out-before
-element-copy-out-before c = search needs
+slice-read-before : tie.Need-slice-read-before
+slice-read-before c = search needs
 
 with-bit-requires : tie.Need-with-bit-requires
 with-bit-requires c κs = bit-inside _
@@ -23,11 +23,15 @@ with-bit-requires c κs = bit-inside _
 mul-matrix : tie.Need-mul-matrix
 mul-matrix c = search needs
 
-element-write-matrix : tie.Need-element-write-matrix
-element-write-matrix c = search needs
+slice-write-matrix : tie.Need-slice-write-matrix
+slice-write-matrix c = search needs
+
+same-length : tie.Need-same-length
+same-length c = search needs
 
 returns : tie.Need-returns
-returns c = λ q w. (mark-new _ _ _ _ (c .before .before .pre .0) (c .before .before .pre .1) (c .with-bit .ensures) q w, matrix-marked _ _ _ _ (c .before .before .pre .0) (c .before .before .pre .1) (c .with-bit .ensures) q w)
+returns c =
+    (λ keys q h w. (mark-new _ _ _ _ h (c .before .before .before .pre .1) (c .with-bit .ensures) q w, matrix-marked _ _ _ _ h (c .before .before .before .pre .1) (c .with-bit .ensures) q w), mark-behind _ _ _ _ (c .before .before .before .pre .1))
 
 pub mark-in-spec : {M : Type 1} → statement M
 mark-in-spec =
@@ -36,8 +40,9 @@ mark-in-spec =
     mul-at
     add-at
     mul-before
-    element-copy-out-before
+    slice-read-before
     with-bit-requires
     mul-matrix
-    element-write-matrix
+    slice-write-matrix
+    same-length
     returns)

@@ -1,4 +1,4 @@
--- `row_of`: a copy of the fact's row.
+-- `row_of`: a copy of the key's row.
 use mathlib.Core.Path.{refl}
 use borrow.Author.Needs.{needs}
 use Rattle.bits.proofs.MatrixMarked.{copy-flags}
@@ -9,7 +9,7 @@ copy-row-requires : tie.Need-copy-row-requires
 copy-row-requires c κs = search needs
 
 returns : tie.Need-returns
-returns c = copy-flags (c .copy-row .ensures) refl (c .before .before .pre)
+returns c = copy-flags (c .copy-row .ensures) refl
 
 pub row-of-spec : {M : Type 1} → statement M
 row-of-spec = tie.close (tie.spec copy-row-requires returns)

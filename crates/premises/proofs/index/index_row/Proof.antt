@@ -3,8 +3,10 @@ use Prim.Native.Nat.{_-_, _≤_, _<_}
 use mathlib.Core.Path.{_≡_}
 use mathlib.Core.Logic.{⊎-elim}
 use native.Mathlib.Omega.{arith}
-use Rattle.items.specs.Item.{maxRules}
+use denote.Ref.{now}
+use Rattle.items.specs.Item.{narrow, maxFacts, maxRules}
 use Rattle.tables.specs.Layout.{programIn}
+use Rattle.tables.proofs.ProgramHeld.{facts-below}
 use Rattle.premises.proofs.RowIndexed.{Indexing, none-indexed, rule-known, none-there, awake-indexed, asleep-indexed, all-asked, all-counted, all-ripe}
 use Rattle.premises.proofs.index.index_row.Statement.{statement}
 use Rattle.premises.proofs.index.index_row.Tie as tie
@@ -31,7 +33,7 @@ element-copy-out-rule : tie.Need-element-copy-out-rule Inv-loop μ-loop
 element-copy-out-rule c = omega (arith, c .before .before .pre .1 .few)
 
 index-rule-requires : tie.Need-index-rule-requires Inv-loop μ-loop
-index-rule-requires c κs = (c .before .before .before .before .pre .0, rule-known (c .before .before .before .before .pre .1) _ (c .before .before .loop-test .taken), omega (arith, c .before .before .before .before .pre .1 .few, c .before .before .loop-test .taken))
+index-rule-requires c κs = (c .before .before .before .before .pre .0, rule-known (c .before .before .before .before .pre .1) _ (c .before .before .loop-test .taken), omega (arith, c .before .before .before .before .pre .1 .few, c .before .before .loop-test .taken), omega (arith, c .index-rule-arg .given .0))
 
 cast-missing : tie.Need-cast-missing Inv-loop μ-loop
 cast-missing c = omega (arith, c .index-rule .ensures .0)
@@ -52,7 +54,7 @@ loop-less : tie.Need-loop-less Inv-loop μ-loop
 loop-less c = omega arith
 
 loop-again : tie.Need-loop-again Inv-loop μ-loop
-loop-again c = (omega (arith, c .before .before .before .before .loop-test .taken), ⊎-elim (λ w. rw (w .3) (awake-indexed (c .before .before .before .before .before .before .pre .0 .in-bounds) (c .before .before .before .before .before .loop .inv .1) (inside c) (c .before .index-rule .ensures .1 _ (c .before .before .before .before .before .loop .inv .1 .asked) (none-there (c .before .before .before .before .before .before .pre .0 .in-bounds) (c .before .before .before .before .before .loop .inv .1) (inside c))) (w .0 .taken) _ (w .2 .ensures))) (λ w. rw (w .1) (asleep-indexed (c .before .before .before .before .before .before .pre .0 .in-bounds) (c .before .before .before .before .before .loop .inv .1) (inside c) (c .before .index-rule .ensures .1 _ (c .before .before .before .before .before .loop .inv .1 .asked) (none-there (c .before .before .before .before .before .before .pre .0 .in-bounds) (c .before .before .before .before .before .loop .inv .1) (inside c))) (w .0 .left))) (c .if1 .came))
+loop-again c = (omega (arith, c .before .before .before .before .loop-test .taken), ⊎-elim (λ w. rw (w .3) (awake-indexed (c .before .before .before .before .before .before .pre .0 .in-bounds) (c .before .before .before .before .before .loop .inv .1) (inside c) (c .before .index-rule .ensures .1 .0 (maxFacts narrow) (programIn (now (c .before .before .before .before .before .before .args .tables)) .facts) _ (omega arith) (omega (arith, facts-below (c .before .before .before .before .before .before .pre .0))) (c .before .before .before .before .before .loop .inv .1 .asked) (none-there (c .before .before .before .before .before .before .pre .0 .in-bounds) (c .before .before .before .before .before .loop .inv .1) (inside c))) (w .0 .taken) _ (w .2 .ensures))) (λ w. rw (w .1) (asleep-indexed (c .before .before .before .before .before .before .pre .0 .in-bounds) (c .before .before .before .before .before .loop .inv .1) (inside c) (c .before .index-rule .ensures .1 .0 (maxFacts narrow) (programIn (now (c .before .before .before .before .before .before .args .tables)) .facts) _ (omega arith) (omega (arith, facts-below (c .before .before .before .before .before .before .pre .0))) (c .before .before .before .before .before .loop .inv .1 .asked) (none-there (c .before .before .before .before .before .before .pre .0 .in-bounds) (c .before .before .before .before .before .loop .inv .1) (inside c))) (w .0 .left))) (c .if1 .came))
 
 returns : tie.Need-returns Inv-loop μ-loop
 returns c = (all-asked (c .before .before .pre .1) (c .before .loop .inv .1) (all-passed c), (all-counted (c .before .before .pre .1) (c .before .loop .inv .1) (all-passed c), all-ripe (c .before .before .pre .1) (c .before .loop .inv .1) (all-passed c)))

@@ -10,7 +10,7 @@ lower-requires : tie.Need-lower-requires
 lower-requires c κs = search needs
 
 returns : tie.Need-returns
-returns c = λ q w m f e. c .lower .ensures (q _) w (c .before .before .before .before .row-of .ensures q m) f e
+returns c = λ q w m f e. c .lower .ensures (q _) w (c .before .before .before .before .row-of .ensures _ q (c .before .before .before .before .before .before .pre) m) f e
 
 pub enter-spec : {M : Type 1} → statement M
 enter-spec = tie.close (tie.spec row-of-requires lower-requires returns)

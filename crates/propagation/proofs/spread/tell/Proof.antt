@@ -1,94 +1,84 @@
--- The rules of the chain from the slot are still to be told; each link leads to a lower slot.
+-- `tell`: the rules in the row are still to be told; each one taken leaves fewer.
 use Prim.Native.Nat.{_<_}
-use denote.Ref.{now}
 use native.Mathlib.Omega.{arith}
-use mathlib.Core.Logic.{⊎-elim}
+use borrow.Author.Needs.{needs}
 use Rattle.items.specs.Item.{maxRules}
+use Rattle.bits.specs.Flags.{total}
 use Rattle.tables.specs.Layout.{programIn}
 use Rattle.tables.proofs.ProgramHeld.{rules-below}
-use Rattle.index.specs.Cells.{ownerIn}
-use Rattle.propagation.specs.State.{Telling, Onward}
-use Rattle.propagation.proofs.LiteralsTold.{nothing-yet, RuleTold, at-slot, chain-ended, turn-on, turn-concluded}
+use Rattle.index.specs.Cells.{onIn}
+use Rattle.propagation.specs.State.{Onward}
+use Rattle.propagation.proofs.LiteralsTold.{nothing-yet, Telling, none-told, all-told, RuleTold, one-taken, turn-on, turn-concluded}
 use Rattle.propagation.proofs.spread.tell.Statement.{statement}
 use Rattle.propagation.proofs.spread.tell.Tie as tie
 
 abbrev Inv-loop : tie.InvT-loop
-Inv-loop tables index head marks₀ missing₀ stack₀ top top₀ slot₀ marks missing stack top' slot =
-    Telling (programIn tables) index slot marks missing stack top' × Onward marks₀ top marks top'
+Inv-loop tables index literal marks₀ missing₀ stack₀ top left₀ top₀ marks missing stack left top' =
+    Telling (programIn tables) (onIn index) left marks missing stack top' × Onward marks₀ top marks top'
 
 abbrev μ-loop : tie.MeasureT-loop
-μ-loop tables index head marks₀ missing₀ stack₀ top top₀ slot₀ marks missing stack top' slot =
-    slot
+μ-loop tables index literal marks₀ missing₀ stack₀ top left₀ top₀ marks missing stack left top' = total left
 
--- the rule at the slot
-rule-told : (c : tie.In-loop Inv-loop μ-loop) → RuleTold (c .before .loop .inv .0)
-rule-told c = at-slot (c .before .loop .inv .0) (rules-below (c .before .before .pre .0)) (c .loop-test .taken)
+-- the rule taken
+rule-told : (c : tie.After-known-told Inv-loop μ-loop) → RuleTold (c .before .before .before .before .before .loop .inv .0) (c .before .before .before .take .ensures .1) (rules-below (c .before .before .before .before .before .before .before .before .pre .0 .0 .well-formed)) (c .before .rule .given .0 .0) (c .before .rule .given .1)
+rule-told c = one-taken (c .before .before .before .before .before .loop .inv .0) (c .before .before .before .take .ensures .1) (rules-below (c .before .before .before .before .before .before .before .before .pre .0 .0 .well-formed)) (c .before .rule .given .0 .0) (c .before .rule .given .1)
 
-in-table : (c : tie.In-loop Inv-loop μ-loop) → ownerIn (now (c .before .before .args .index)) (c .before .loop .slot) < maxRules
-in-table c = omega (arith, rule-told c .rule-known, rules-below (c .before .before .pre .0))
+in-table : (c : tie.After-known-told Inv-loop μ-loop) → c .before .rule .given .0 .0 < maxRules
+in-table c = c .before .before .before .take .ensures .0 .inside _ (c .before .rule .given .1)
+
+falls : (c : tie.After-known-told Inv-loop μ-loop) → total (c .before .before .before .take .last .0) < total (c .before .before .before .before .before .loop .left)
+falls c = c .before .before .before .take .ensures .0 .less _ (c .before .rule .given .1)
+
+row-of-requires : tie.Need-row-of-requires Inv-loop μ-loop
+row-of-requires c κs = omega (arith, c .before .pre .0 .1, c .row-of-arg .given .0)
 
 loop-holds : tie.Need-loop-holds Inv-loop μ-loop
-loop-holds c = (c .pre .1, nothing-yet _ _)
+loop-holds c = (none-told (c .before .before .pre .0 .0 .indexed) _ (c .row-of .ensures) (c .before .before .pre .0 .1) (c .before .before .pre .1), nothing-yet _ _)
 
-add-rule : tie.Need-add-rule Inv-loop μ-loop
-add-rule c = omega (arith, rule-told c .slot-inside)
+take-requires : tie.Need-take-requires Inv-loop μ-loop
+take-requires c κs = search needs
 
-mul-rule : tie.Need-mul-rule Inv-loop μ-loop
-mul-rule c = omega (arith, rule-told c .slot-inside)
-
-element-copy-out-rule : tie.Need-element-copy-out-rule Inv-loop μ-loop
-element-copy-out-rule c = omega (arith, rule-told c .slot-inside)
-
-cast-rule : tie.Need-cast-rule Inv-loop μ-loop
-cast-rule c = omega (arith, in-table (c .before))
-
-mul-missing : tie.Need-mul-missing Inv-loop μ-loop
-mul-missing c = omega (arith, in-table (c .before))
-
-element-copy-out-missing : tie.Need-element-copy-out-missing Inv-loop μ-loop
-element-copy-out-missing c = in-table (c .before)
-
-sub-missing : tie.Need-sub-missing Inv-loop μ-loop
-sub-missing c = rule-told (c .before .before) .some-missing
-
-element-write-missing : tie.Need-element-write-missing Inv-loop μ-loop
-element-write-missing c = in-table (c .before .before)
-
-mul-if1 : tie.Need-mul-if1 Inv-loop μ-loop
-mul-if1 c = omega (arith, in-table (c .before .before))
-
-element-copy-out-if1 : tie.Need-element-copy-out-if1 Inv-loop μ-loop
-element-copy-out-if1 c = in-table (c .before .before)
-
-conclude-requires : tie.Need-conclude-requires Inv-loop μ-loop
-conclude-requires c κs = (c .before .before .before .before .before .before .before .before .pre .0, (rule-told (c .before .before .before .before .before .before) .rule-known, c .before .before .before .before .before .before .before .loop .inv .0 .spreading .on-stack))
-
-add-slot : tie.Need-add-slot Inv-loop μ-loop
-add-slot c = omega (arith, rule-told (c .before .before .before .before) .slot-inside)
-
-mul-slot : tie.Need-mul-slot Inv-loop μ-loop
-mul-slot c = omega (arith, rule-told (c .before .before .before .before) .slot-inside)
-
-element-copy-out-slot : tie.Need-element-copy-out-slot Inv-loop μ-loop
-element-copy-out-slot c = omega (arith, rule-told (c .before .before .before .before) .slot-inside)
-
-cast-slot : tie.Need-cast-slot Inv-loop μ-loop
-cast-slot c = omega (arith, rule-told (c .before .before .before .before .before) .link-lower, rule-told (c .before .before .before .before .before) .slot-inside)
-
-loop-less : tie.Need-loop-less Inv-loop μ-loop
-loop-less c = rule-told (c .before .before .before .before .before) .link-lower
-
-loop-again : tie.Need-loop-again Inv-loop μ-loop
-loop-again c =
-    let t = rule-told (c .before .before .before .before .before) in
-    let o = c .before .before .before .before .before .before .loop .inv .1 in
-    ⊎-elim
-    (λ v. turn-concluded t o _ _ _ (v .0 .taken) _ _ _ (v .3 .ensures) (v .4) (v .5) (v .6))
-    (λ v. turn-on t o _ _ _ (v .0 .left) (v .1) (v .2) (v .3))
-    (c .before .if1 .came)
+enum-told : tie.Need-enum-told Inv-loop μ-loop
+enum-told c = search needs
 
 returns : tie.Need-returns Inv-loop μ-loop
-returns c = (chain-ended (c .before .loop .inv .0) (c .loop-test .left), c .before .loop .inv .1)
+returns c = (all-told (c .before .before .before .before .loop .inv .0) (c .before .before .take .ensures .1) (c .enum-told .given .1), c .before .before .before .before .loop .inv .1)
+
+enum-known-rule : tie.Need-enum-known-rule Inv-loop μ-loop
+enum-known-rule c = search needs
+
+mul-missing : tie.Need-mul-missing Inv-loop μ-loop
+mul-missing c = omega (arith, in-table c)
+
+element-copy-out-missing : tie.Need-element-copy-out-missing Inv-loop μ-loop
+element-copy-out-missing c = in-table c
+
+sub-missing : tie.Need-sub-missing Inv-loop μ-loop
+sub-missing c = rule-told (c .before) .some-missing
+
+element-write-missing : tie.Need-element-write-missing Inv-loop μ-loop
+element-write-missing c = in-table (c .before)
+
+mul-if1 : tie.Need-mul-if1 Inv-loop μ-loop
+mul-if1 c = omega (arith, in-table (c .before))
+
+element-copy-out-if1 : tie.Need-element-copy-out-if1 Inv-loop μ-loop
+element-copy-out-if1 c = in-table (c .before)
+
+conclude-requires : tie.Need-conclude-requires Inv-loop μ-loop
+conclude-requires c κs = (c .before .before .before .before .before .before .before .before .before .before .before .before .before .pre .0 .0 .well-formed, (rule-told (c .before .before .before .before .before) .rule-known, c .before .before .before .before .before .before .before .before .before .before .loop .inv .0 .spreading .on-stack))
+
+loop-less : tie.Need-loop-less Inv-loop μ-loop
+loop-less c = falls (c .before .before .before .before .before .before)
+
+loop-again : tie.Need-loop-again Inv-loop μ-loop
+loop-again c = turn-concluded _ _ _ _ _ (rule-told (c .before .before .before .before .before .before)) (c .before .before .before .before .before .before .before .before .before .before .before .loop .inv .1) (c .before .before .before .if1 .taken) _ _ _ (c .conclude .ensures)
+
+loop-less-2 : tie.Need-loop-less-2 Inv-loop μ-loop
+loop-less-2 c = falls (c .before .before .before)
+
+loop-again-2 : tie.Need-loop-again-2 Inv-loop μ-loop
+loop-again-2 c = turn-on _ _ _ _ _ (rule-told (c .before .before .before)) (c .before .before .before .before .before .before .before .before .loop .inv .1) (c .if1 .left)
 
 pub tell-spec : {M : Type 1} → statement M
 tell-spec =
@@ -96,11 +86,12 @@ tell-spec =
     (tie.spec
     Inv-loop
     μ-loop
+    row-of-requires
     loop-holds
-    add-rule
-    mul-rule
-    element-copy-out-rule
-    cast-rule
+    take-requires
+    enum-told
+    returns
+    enum-known-rule
     mul-missing
     element-copy-out-missing
     sub-missing
@@ -108,10 +99,7 @@ tell-spec =
     mul-if1
     element-copy-out-if1
     conclude-requires
-    add-slot
-    mul-slot
-    element-copy-out-slot
-    cast-slot
     loop-less
     loop-again
-    returns)
+    loop-less-2
+    loop-again-2)
