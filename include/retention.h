@@ -36,8 +36,8 @@
  *   - In a lent buffer the bytes past those written keep their contents.
  *   - Nothing is kept between calls, and nothing is allocated for the caller.
  *   - The stack that a call needs on x86-64, as measured: retention_accept and
- *     retention_check 37 KB, retention_run 42 KB, retention_panel 87 KB,
- *     retention_judge 106 KB, retention_search 177 KB.
+ *     retention_check 37 KB, retention_run 60 KB, retention_judge 76 KB,
+ *     retention_panel 104 KB, retention_search 134 KB.
  *
  * Refusals
  *
