@@ -16,7 +16,7 @@ use bits::matrix::mark_in;
 use items::item::MAX_FACTS;
 use items::item::MAX_RULES;
 use items::item::RuleId;
-use premises::index::index_rule;
+use premises::fill::index_rule;
 use tables::layout::TABLE_CELLS;
 use tables::layout::rules_of;
 use tables::own::constraint_at;

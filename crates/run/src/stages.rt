@@ -16,7 +16,7 @@ use closure::derivation::Derivation;
 use items::item::MAX_FACTS;
 use items::item::MAX_RULES;
 use naming::row::order_row;
-use premises::index::index_row;
+use premises::fill::index_row;
 use premises::wake::wake;
 use results::marks::write_fact_marks;
 use results::marks::write_rule_marks;

@@ -59,7 +59,7 @@ fn find_set(tables: &[u16; TABLE_CELLS], set: &mut [u8; MAX_FACTS]) -> bool
     // By way of a reference to the array the check learns that it is as long as it was.
     let whole = &row;
     let facts: &[u16] = whole;
-    earliest::earliest::earliest(tables, &facts[..n], set)
+    earliest::root::earliest(tables, &facts[..n], set)
 }
 
 // Searches the file, and runs it to the set found.

@@ -4,8 +4,8 @@ use borrow.Author.Needs.{needs}
 use denote.Ref.{now}
 use Rattle.propagation.specs.State.{Ready}
 use Rattle.earliest.proofs.HuntWays.{row-facts, begin, end}
-use Rattle.earliest.proofs.earliest.earliest.Statement.{statement}
-use Rattle.earliest.proofs.earliest.earliest.Tie as tie
+use Rattle.earliest.proofs.root.earliest.Statement.{statement}
+use Rattle.earliest.proofs.root.earliest.Tie as tie
 
 -- the tables and the index
 ready : (c : tie.After-index-rules) → Ready (now (c .before .before .before .before .before .args .tables)) (c .index-rules .last .1 .1 .0)

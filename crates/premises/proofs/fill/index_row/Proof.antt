@@ -8,8 +8,8 @@ use Rattle.items.specs.Item.{narrow, maxFacts, maxRules}
 use Rattle.tables.specs.Layout.{programIn}
 use Rattle.tables.proofs.ProgramHeld.{facts-below}
 use Rattle.premises.proofs.RowIndexed.{Indexing, none-indexed, rule-known, none-there, awake-indexed, asleep-indexed, all-asked, all-counted, all-ripe}
-use Rattle.premises.proofs.index.index_row.Statement.{statement}
-use Rattle.premises.proofs.index.index_row.Tie as tie
+use Rattle.premises.proofs.fill.index_row.Statement.{statement}
+use Rattle.premises.proofs.fill.index_row.Tie as tie
 
 abbrev Inv-loop : tie.InvT-loop
 Inv-loop tables row names asks₀ missing₀ awake₀ place₀ asks missing awake place = (place ≤ names) × Indexing (programIn tables) row place asks missing awake

@@ -9,8 +9,8 @@ use Rattle.bits.specs.Matrix.{matrixWords}
 use Rattle.tables.specs.Layout.{programIn, premiseAt}
 use Rattle.tables.proofs.ProgramHeld.{facts-below}
 use Rattle.premises.proofs.PremisesEntered.{Entering, none-entered, one-new, one-again, all-entered, first-entered}
-use Rattle.premises.proofs.index.index_rule.Statement.{statement}
-use Rattle.premises.proofs.index.index_rule.Tie as tie
+use Rattle.premises.proofs.fill.index_rule.Statement.{statement}
+use Rattle.premises.proofs.fill.index_rule.Tie as tie
 
 abbrev Inv-loop : tie.InvT-loop
 Inv-loop tables place asks₀ end distinct₀ at₀ asks distinct at = Entering (programIn tables .facts) matrixWords (premiseAt tables) place at₀ end asks₀ asks distinct at
