@@ -36,8 +36,8 @@
  *   - In a lent buffer the bytes past those written keep their contents.
  *   - Nothing is kept between calls, and nothing is allocated for the caller.
  *   - The stack that a call needs on x86-64, as measured: retention_accept and
- *     retention_check 37 KB, retention_run 60 KB, retention_judge 76 KB,
- *     retention_panel 104 KB, retention_search 134 KB.
+ *     retention_check 37 KB, retention_run and retention_judge 77 KB,
+ *     retention_panel 121 KB, retention_search 151 KB.
  *
  * Refusals
  *

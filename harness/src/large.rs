@@ -56,3 +56,18 @@ pub fn ladder(rules: usize) -> Draft {
     }
     draft
 }
+
+/// A chain over the facts 0 to 7 by the first and last rules of some of the words
+/// of 64 in which 512 rule numbers stand, from the last down; the other rules are
+/// 254<254, which never derives anything.
+pub fn words() -> Draft {
+    let mut draft = Draft::new(FACTS);
+    (0..512).for_each(|_| draft.rule(254, &[254], &[]));
+    let chain = [511, 448, 447, 128, 127, 64, 63, 0];
+    for (fact, rule) in chain.into_iter().enumerate() {
+        let premises: Vec<usize> = fact.checked_sub(1).into_iter().collect();
+        draft.rule(fact, &premises, &[]);
+        draft.rules.swap_remove(rule);
+    }
+    draft
+}

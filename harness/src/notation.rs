@@ -141,6 +141,7 @@ fn file_part(part: &str, named: &BTreeMap<String, Vec<u8>>) -> Bytes {
         ["ring", rules] => large::ring(number(rules)?),
         ["tangled", rules] => large::tangled(number(rules)?),
         ["ladder", rules] => large::ladder(number(rules)?),
+        ["words"] => large::words(),
         _ => return Err(format!("not a file: {part:?}")),
     };
     Ok(draft.bytes())

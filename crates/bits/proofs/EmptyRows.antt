@@ -9,7 +9,7 @@ use Rattle.theory.proofs.Lists.{zeros}
 use Rattle.bits.specs.Flags.{wordBits, rowWords, digit, word, Flags}
 use Rattle.bits.specs.Matrix.{Matrix}
 
-empty-word : (p : ℕ → Bool) → ((i : ℕ) → p i ≡ false) → (a n : ℕ) → word p a n ≡ 0
+pub empty-word : (p : ℕ → Bool) → ((i : ℕ) → p i ≡ false) → (a n : ℕ) → word p a n ≡ 0
 unfolding word
 empty-word p e a zero = refl
 empty-word p e a (suc n) = ap₂ (λ (x : ℕ) (b : Bool). x * 2 + digit b) (empty-word p e (suc a) n) (e a)

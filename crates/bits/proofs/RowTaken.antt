@@ -1,5 +1,5 @@
 -- The lowest number is taken out of a row.
-use Prim.Native.Nat.{ℕ, zero, suc, _+_, _-_, _*_, _≤_, _<_}
+use Prim.Native.Nat.{ℕ, zero, suc, _+_, _-_, _*_, _/_, _≤_, _<_}
 use mathlib.Core.Path.{_≡_, refl, sym, ap, ap₂, subst, _∙_}
 use mathlib.Core.Bool.{Bool, true, false, cond, not, _&&_}
 use mathlib.Core.List.{List, [], _∷_, _++_}
@@ -15,9 +15,9 @@ use lib.ListN.{getD, set, length-set}
 use lib.Seq.{getD-set-same, getD-set-other}
 use Rattle.theory.specs.Rule.{seek, keep, range, upTo}
 use Rattle.theory.proofs.Bools.{either, never, and-right, and-false, false-of}
-use Rattle.theory.proofs.Lists.{Found, seek-some, seek-none, seek-append, upTo-mem, mem-range, keep-same}
+use Rattle.theory.proofs.Lists.{Found, seek-some, seek-none, seek-append, upTo-mem, mem-range, length-range, getD-upTo, keep-same}
 use Rattle.items.specs.Item.{maxRules}
-use Rattle.bits.specs.Flags.{wordBits, rowWords, word, Flags, without, lowestOf, Taken, total, Falls}
+use Rattle.bits.specs.Flags.{wordBits, rowWords, word, Flags, without, lowestOf, Taken, total, Falls, NoneBefore}
 use Rattle.bits.specs.declared.row.Lowest.the-variants.{At, Nothing}
 use Rattle.bits.proofs.WordBits.{word-ext, word-none, LowestTaken, word-lowest}
 
@@ -28,6 +28,15 @@ lowest-is p i e = go maxRules e
   where
     go : (n : ℕ) → seek p (upTo n) ≡ some i → Found p (upTo n) i
     go n q = seek-some p (upTo n) i q
+
+-- None below it is in the set.
+pub none-lower : (p : ℕ → Bool) (k : ℕ) → lowestOf p ≡ some k → (j : ℕ) → j < k → p j ≡ false
+none-lower p k e j h =
+    let w : Found p (upTo maxRules) k = lowest-is p k e in
+    let in-list : w .place < maxRules = rw (length-range 0 maxRules) at (w .inside) in
+    let there : getD (upTo maxRules) (w .place) 0 ≡ w .place = getD-upTo maxRules (w .place) in-list in
+    let lower : j < w .place = omega (arith, w .is) in
+    ap p (sym (getD-upTo maxRules j (omega arith))) ∙ w .none-before j lower
 
 -- A set of which there is no lowest number has none.
 pub nothing-left : {p : ℕ → Bool} {row : List ℕ} → Flags p row → _≡_ {A = Option ℕ} (lowestOf p) none → (i : ℕ) → p i ≡ false
@@ -65,7 +74,7 @@ lowest-kept p n k e h = go 0 maxRules n e (omega arith)
             ap (λ (b : Bool). cond b (a ∷ keep p (range (suc a) n)) (keep p (range (suc a) n))) q ∙ r (rw (q, seek) at s) (omega arith)
             ∙ sym (ap (λ (b : Bool). k ∷ cond b (a ∷ keep (without p k) (range (suc a) n)) (keep (without p k) (range (suc a) n))) gone)
 
-range-append : (a m n : ℕ) → range a (m + n) ≡ range a m ++ range (a + m) n
+pub range-append : (a m n : ℕ) → range a (m + n) ≡ range a m ++ range (a + m) n
 range-append a zero n = rw (zero-add n, add-zero a) refl
 range-append a (suc m) n =
     let more : suc m + n ≡ suc (m + n) = omega arith in
@@ -102,7 +111,7 @@ less-total (x ∷ xs) zero v h = omega arith
 less-total (x ∷ xs) (suc at) v h = omega (arith, less-total xs at v h)
 
 -- an answer is not both
-not-at : {A : Type 0} (i : ℕ) → Nothing ≡ At i → A
+pub not-at : {A : Type 0} (i : ℕ) → Nothing ≡ At i → A
 not-at i e = let z : _≡_ {A = ℕ} 0 1 = cc in absurd (omega arith)
 
 -- The first words are 0.
@@ -110,8 +119,8 @@ pub record Passed (row₀ row : List ℕ) (at : ℕ) : Type 0 where
   pub same : row ≡ row₀
   pub zeros : (k : ℕ) → k < at → getD row k 0 ≡ 0
 
-pub none-passed : (row : List ℕ) → Passed row row 0
-none-passed row = record { same = refl; zeros = λ k h. absurd (omega arith) }
+pub passed-before : (row : List ℕ) (from : ℕ) → NoneBefore from row → Passed row row from
+passed-before row from z = record { same = refl; zeros = z }
 
 module _ {row₀ row : List ℕ} {at : ℕ} (w : Passed row₀ row at) where
   pub one-passed : getD row at 0 ≡ 0 → Passed row₀ row (at + 1)
@@ -142,6 +151,11 @@ module _ {row₀ row : List ℕ} {at : ℕ} (w : Passed row₀ row at) where
           inside = λ i e. let is : at * wordBits + bit ≡ i = cc in omega arith;
           less = λ i e. rw (← w .same) (less-total row at v (omega (arith, and-le-r (getD row at 0) (getD row at 0 - 1))));
         }
+
+    pub before-taken : bit < wordBits → (i : ℕ) → At (at * wordBits + bit) ≡ At i → NoneBefore (i / wordBits) (set row at v)
+    before-taken b i e k u =
+        let is : at * wordBits + bit ≡ i = cc in
+        getD-set-other row at k v 0 (λ q. omega arith) ∙ w .zeros k (omega arith)
 
     pub one-taken : bit ≡ trailingZeros wordBits (getD row at 0) → bit < wordBits → (p : ℕ → Bool) → Flags p row₀ → Taken p (At (at * wordBits + bit)) (set row at v)
     unfolding lowestOf

@@ -58,3 +58,7 @@ total (x ∷ xs) = x + total xs
 pub record Falls (answer : Lowest) (before after : List ℕ) : Type 0 where
   pub inside : (i : ℕ) → answer ≡ At i → i < maxRules
   pub less : (i : ℕ) → answer ≡ At i → total after < total before
+
+-- the words before one are all 0
+abbrev pub NoneBefore : ℕ → List ℕ → Type 0
+NoneBefore from row = (k : ℕ) → k < from → getD row k 0 ≡ 0

@@ -5,7 +5,7 @@ ghost use mathlib.Core.Bool.{Bool, not};
 ghost use lib.ListN.{length};
 ghost use Rattle.items.specs.Item.{maxRules};
 ghost use Rattle.bits.specs.Flags.{rowWords, Flags};
-ghost use Rattle.bits.specs.Matrix.{Matrix, adjoinIn, RowCopied, SameFrom};
+ghost use Rattle.bits.specs.Matrix.{bitIn, Matrix, adjoinIn, RowCopied, SameFrom};
 use crate::row::ROW_WORDS;
 use crate::row::WORD_BITS;
 use crate::word::with_bit;
@@ -25,6 +25,15 @@ pub fn mark_in(matrix: &mut [u64], key: usize, place: usize) -> bool
     let after = with_bit(before, place % WORD_BITS);
     matrix[at] = after;
     after != before
+}
+
+// Is a place marked in the row of a key?
+pub fn marked_in(matrix: &[u64], key: usize, place: usize) -> bool
+    requires { ⌜ (key * rowWords + rowWords ≤ length (now matrix)) × (place < maxRules) ⌝ }
+    ensures { λ r. ⌜ r ≡ bitIn (now (matrix .entry)) key place ⌝ }
+{
+    let word = matrix[key * ROW_WORDS + place / WORD_BITS];
+    with_bit(word, place % WORD_BITS) == word
 }
 
 // Copies the row of a key.

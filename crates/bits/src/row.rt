@@ -1,9 +1,11 @@
 // A row of bits: one is marked, and the lowest is taken. Internal.
-ghost use Prim.Native.Nat.{ℕ, _<_};
+ghost use Prim.Native.Nat.{ℕ, _/_, _<_};
+ghost use mathlib.Core.Path.{_≡_};
 ghost use mathlib.Core.Bool.{Bool};
 ghost use Rattle.theory.specs.Rule.{adjoin};
 ghost use Rattle.items.specs.Item.{maxRules};
-ghost use Rattle.bits.specs.Flags.{Flags, Taken, Falls};
+ghost use Rattle.bits.specs.declared.row.Lowest.the-variants.{At};
+ghost use Rattle.bits.specs.Flags.{wordBits, Flags, Taken, Falls, NoneBefore};
 use crate::word::lowest_bit;
 use crate::word::with_bit;
 use crate::word::without_lowest;
@@ -28,12 +30,15 @@ pub fn mark(row: &mut [u64; ROW_WORDS], place: usize)
     row[at] = with_bit(row[at], place % WORD_BITS);
 }
 
-// Takes the lowest marked place out of the row.
-pub fn take(row: &mut [u64; ROW_WORDS]) -> Lowest
+// Takes the lowest marked place out of a row whose words before one are all 0. So are those before the word of the place that was taken: who takes one
+// after the other goes on from there.
+pub fn take_from(row: &mut [u64; ROW_WORDS], from: usize) -> Lowest
+    requires { ⌜ NoneBefore from (now row) ⌝ }
     ensures { λ r. ⌜ Falls r (now (row .entry)) (now (row .exit)) ⌝ }
     ensures { λ r. ⌜ ((p : ℕ → Bool) → Flags p (now (row .entry)) → Taken p r (now (row .exit))) ⌝ }
+    ensures { λ r. ⌜ ((i : ℕ) → r ≡ At i → NoneBefore (i / wordBits) (now (row .exit))) ⌝ }
 {
-    let mut at: usize = 0;
+    let mut at = from;
     while at < ROW_WORDS {
         let word = row[at];
         if word != 0 {
@@ -43,4 +48,12 @@ pub fn take(row: &mut [u64; ROW_WORDS]) -> Lowest
         at += 1;
     }
     Lowest::Nothing
+}
+
+// Takes the lowest marked place out of the row.
+pub fn take(row: &mut [u64; ROW_WORDS]) -> Lowest
+    ensures { λ r. ⌜ Falls r (now (row .entry)) (now (row .exit)) ⌝ }
+    ensures { λ r. ⌜ ((p : ℕ → Bool) → Flags p (now (row .entry)) → Taken p r (now (row .exit))) ⌝ }
+{
+    take_from(row, 0)
 }

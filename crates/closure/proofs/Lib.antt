@@ -1,2 +1,3 @@
 pub mod LowestReady
+pub mod NextPoised
 pub mod RulesFired

@@ -2,3 +2,4 @@
 pub mod Steps
 -- What only code and proofs use.
 pub mod Room
+pub mod Deriving

@@ -12,3 +12,4 @@ pub mod Searches
 pub mod SameReplies
 pub mod Demands
 pub mod Starred
+pub mod Wish08

@@ -4,3 +4,4 @@ pub mod Results
 pub mod Demands
 pub mod Examples
 pub mod Starred
+pub mod Wish08

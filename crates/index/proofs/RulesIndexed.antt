@@ -11,13 +11,12 @@ use lib.Seq.{getD-set-same, getD-set-other}
 use lib.Dec.{eqb, ltb}
 use Rattle.theory.specs.Rule.{mem, howMany, upTo, nothing, Program, Mask, count, rule}
 use Rattle.theory.proofs.Bools.{either, and-true, and-false, or-none}
-use Rattle.theory.proofs.Lists.{zeros, eqb-self, howMany-ext}
+use Rattle.theory.proofs.Lists.{zeros, eqb-self, howMany-ext, below-more, here-not, here-now}
 use Rattle.items.specs.Item.{maxRules, has}
 use Rattle.bits.specs.Flags.{rowWords}
 use Rattle.bits.specs.Matrix.{matrixWords, Matrix, SameFrom}
 use Rattle.bits.proofs.EmptyRows.{empty-matrix}
 use Rattle.premises.specs.Filling.{adjoinEach, Entered}
-use Rattle.premises.proofs.RowIndexed.{below-more, here-not, here-now}
 use Rattle.index.specs.Literal.{literals, body, literalCount, lacks, lacking}
 use Rattle.index.specs.Cells.{marksFrom, indexWords, onIn}
 use Rattle.index.specs.Index.{asks, Indexed, inForceBut, LeftOut, Sized, Blank}

@@ -1,6 +1,10 @@
 pub mod PremisesCounted
-pub mod CountsLowered
 pub mod PremisesEntered
+pub mod NextIndexed
 pub mod RowIndexed
+pub mod PlainRows
+pub mod MaskPut
 pub mod RowRoused
+pub mod CountsLowered
 pub mod FactsEntered
+pub mod SetEntered

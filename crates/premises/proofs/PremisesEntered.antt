@@ -9,7 +9,7 @@ use native.Mathlib.Nat.{add-zero, zero-add}
 use borrow.Author.Tests.{eqb-true}
 use lib.Dec.{eqb}
 use Rattle.theory.specs.Rule.{mem, howMany, upTo, adjoin}
-use Rattle.theory.proofs.Bools.{either, never, or-left, or-none, and-true}
+use Rattle.theory.proofs.Bools.{either, never, or-left, or-right, or-none, and-true}
 use Rattle.theory.proofs.Lists.{eqb-self, mem-append, howMany-ext}
 use Rattle.theory.proofs.Counted.{none-counted, counted-more}
 use Rattle.bits.specs.Flags.{rowWords}
@@ -36,6 +36,10 @@ mem-snoc f xs x = mem-append f xs (x ∷ []) ∙ swap (mem f xs) (eqb f x)
     swap true false = refl
     swap false true = refl
     swap false false = refl
+
+-- the same with an element once more
+mem-repeated : (x : ℕ) (xs : List ℕ) → mem x xs ≡ true → (f : ℕ) → mem f xs ≡ mem f (xs ++ (x ∷ []))
+mem-repeated x xs m f = ⊎-elim (λ e. let is : f ≡ x = eqb-true f x e in rw is (m ∙ sym (mem-snoc x xs x ∙ or-left _ _ (eqb-self x)))) (λ e. sym (mem-snoc f xs x ∙ ap (λ (b : Bool). b || mem f xs) e)) (either (eqb f x))
 
 -- what marking a number answers and does
 abbrev pub Marks : ℕ → ℕ → List ℕ → List ℕ → Bool → Type 0
@@ -74,7 +78,15 @@ one-entered {keys} {bound} {q} {place} {xs} {asks} {distinct} w x out small with
     again : mem x xs ≡ true → distinct′ ≡ howMany (λ f. mem f (xs ++ (x ∷ []))) (upTo bound)
     again m =
         same (new-is ∙ ap not m) ∙ w .counted
-        ∙ howMany-ext (λ f. mem f xs) (λ f. mem f (xs ++ (x ∷ []))) (upTo bound) (λ f _. ⊎-elim (λ e. let is : f ≡ x = eqb-true f x e in rw is (m ∙ sym (mem-snoc x xs x ∙ or-left _ _ (eqb-self x)))) (λ e. sym (mem-snoc f xs x ∙ ap (λ (b : Bool). b || mem f xs) e)) (either (eqb f x)))
+        ∙ howMany-ext (λ f. mem f xs) (λ f. mem f (xs ++ (x ∷ []))) (upTo bound) (λ f _. mem-repeated x xs m f)
+
+-- a number that is marked already, once more
+repeat-entered : {keys bound : ℕ} {q : ℕ → ℕ → Bool} {place : ℕ} {xs asks : List ℕ} {distinct : ℕ} → Entered keys bound q place xs asks distinct → (x : ℕ) → mem x xs ≡ true → Entered keys bound q place (xs ++ (x ∷ [])) asks distinct
+repeat-entered {keys} {bound} {q} {place} {xs} {asks} w x m =
+    record {
+      matrix = subst (λ (r : ℕ → ℕ → Bool). Matrix keys r asks) (fun-ext (λ f. fun-ext (λ k. ap (λ (b : Bool). b && eqb k place || q f k) (mem-repeated x xs m f)))) (w .matrix);
+      counted = w .counted ∙ howMany-ext (λ f. mem f xs) (λ f. mem f (xs ++ (x ∷ []))) (upTo bound) (λ f _. mem-repeated x xs m f);
+    }
 
 -- The elements of the row before `at` are marked, beside what was marked before. The words from `behind` on stay.
 pub record Entering (most behind : ℕ) (row : ℕ → ℕ) (place from end : ℕ) (asks₀ asks : List ℕ) (distinct at : ℕ) : Type 0 where
@@ -98,6 +110,24 @@ none-entered {row} {from} {end} most behind low place asks =
     nothing-yet = let none : from - from ≡ 0 = omega arith in ap (listed row from) none
 
 module _ {most behind : ℕ} {row : ℕ → ℕ} {place from end : ℕ} {asks₀ asks : List ℕ} {distinct at : ℕ} (w : Entering most behind row place from end asks₀ asks distinct at) where
+  -- the elements with the one at the place
+  joined : (xs : List ℕ) (x : ℕ) → x ≡ row at → xs ++ span row from at ++ (x ∷ []) ≡ xs ++ span row from (at + 1)
+  joined xs x x-is = append-assoc xs (span row from at) (x ∷ []) ∙ ap (λ (ys : List ℕ). xs ++ ys) (ap (λ (y : ℕ). span row from at ++ (y ∷ [])) x-is ∙ sym (span-snoc row from at (w .reached)))
+
+  pub passed-in : (x : ℕ) → x ≡ row at → mem x (span row from (at + 1)) ≡ true
+  passed-in x x-is = ap (mem x) (span-snoc row from at (w .reached)) ∙ mem-snoc x (span row from at) (row at) ∙ or-left _ _ (ap (eqb x) (sym x-is) ∙ eqb-self x)
+
+  -- It was marked before.
+  pub one-repeated : at < end → (x : ℕ) → x ≡ row at → mem x (span row from at) ≡ true → Entering most behind row place from end asks₀ asks distinct (at + 1)
+  one-repeated h x x-is m =
+      record {
+        reached = omega (arith, w .reached);
+        inside = omega arith;
+        few = omega (arith, w .few);
+        kept = w .kept;
+        entered = λ keys bound q xs before b k out e. subst (λ (ys : List ℕ). Entered keys bound q place ys asks (before + distinct)) (joined xs x x-is) (repeat-entered (w .entered keys bound q xs before b k out e) x (mem-append x xs (span row from at) ∙ or-right (mem x xs) _ m));
+      }
+
   module _ (h : at < end) (x : ℕ) (x-is : x ≡ row at) (small : x < most) (front : x * rowWords + rowWords ≤ behind) (asks′ : List ℕ) (new : Bool) (marked : Marks x place asks asks′ new) (stays : SameFrom (x * rowWords + rowWords) asks asks′) where
     next : (distinct′ : ℕ) → distinct′ ≤ distinct + 1 → (new ≡ true → distinct′ ≡ distinct + 1) → (new ≡ false → distinct′ ≡ distinct) → Entering most behind row place from end asks₀ asks′ distinct′ (at + 1)
     next distinct′ most-new more same =
@@ -112,7 +142,7 @@ module _ {most behind : ℕ} {row : ℕ → ℕ} {place from end : ℕ} {asks₀
         grown : (keys bound : ℕ) (q : ℕ → ℕ → Bool) (xs : List ℕ) (before : ℕ) → most ≤ bound → bound ≤ keys → ((j : ℕ) → q (row j) place ≡ false) → Entered keys bound q place (xs ++ span row from at) asks (before + distinct) → Entered keys bound q place (xs ++ span row from (at + 1)) asks′ (before + distinct′)
         grown keys bound q xs before b k out e =
             subst (λ (ys : List ℕ). Entered keys bound q place ys asks′ (before + distinct′))
-            (append-assoc xs (span row from at) (x ∷ []) ∙ ap (λ (ys : List ℕ). xs ++ ys) (ap (λ (y : ℕ). span row from at ++ (y ∷ [])) x-is ∙ sym (span-snoc row from at (w .reached))))
+            (joined xs x x-is)
             (one-entered e x (ap (λ (y : ℕ). q y place) x-is ∙ out at) (omega arith) k asks′ new marked (before + distinct′) (λ t. omega (arith, more t)) (λ f. omega (arith, same f)))
 
     pub one-new : new ≡ true → Entering most behind row place from end asks₀ asks′ (distinct + 1) (at + 1)

@@ -1,4 +1,5 @@
 -- What only code and proofs use.
 pub mod Premises
 pub mod Filling
+pub mod Plain
 pub mod Waking

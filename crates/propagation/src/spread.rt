@@ -10,7 +10,8 @@ ghost use Rattle.index.specs.Index.{askers};
 ghost use Rattle.propagation.specs.State.{Ready, Stacked, Spreading, Between, Waited, Concluded, Onward, Settled, told};
 use bits::matrix::row_of;
 use bits::row::Lowest;
-use bits::row::take;
+use bits::row::WORD_BITS;
+use bits::row::take_from;
 use index::cells::INDEX_WORDS;
 use index::cells::LITERALS;
 use items::item::MAX_RULES;
@@ -73,13 +74,15 @@ fn tell(
     ensures { λ r. ⌜ Onward (now (marks .entry)) top (now (marks .exit)) r ⌝ }
 {
     let mut left = row_of(index, literal);
+    let mut from: usize = 0;
     let mut top = top;
     loop {
-        match take(&mut left) {
+        match take_from(&mut left, from) {
             Lowest::Nothing => {
                 return top;
             }
             Lowest::At(rule) => {
+                from = rule / WORD_BITS;
                 missing[rule] -= 1;
                 if missing[rule] == 0 {
                     top = conclude(tables, rule, marks, stack, top);

@@ -1,6 +1,6 @@
 -- What the working memory holds at the outset, and once D is closed for the first time.
 use Prim.Native.Nat.{ℕ, zero, suc, _+_, _≤_, _<_}
-use mathlib.Core.Path.{_≡_, refl, sym, ap, fun-ext, _∙_}
+use mathlib.Core.Path.{_≡_, refl, sym, ap, subst, fun-ext, _∙_}
 use mathlib.Core.Bool.{Bool, true, false, _||_}
 use mathlib.Core.List.{List, [], _∷_, _++_, map}
 use mathlib.Core.Logic.{⊎-elim}
@@ -8,12 +8,12 @@ use native.Mathlib.Omega.{arith}
 use borrow.Author.Tests.{ltb-true, ltb-false}
 use lib.ListN.{length, getD, take, set, replicate, length-replicate}
 use lib.Dec.{eqb, ltb}
-use Rattle.theory.specs.Rule.{mem, Program, Bounded, FactSet, nothing, inForce, plainRules}
+use Rattle.theory.specs.Rule.{mem, Program, Bounded, FactSet, nothing, inForce, rule, plain, plainRules}
 use Rattle.theory.specs.Derive.{derive, fired as firedFrom, meets, steps, stepBy}
 use Rattle.theory.specs.Run.{rejected, start}
 use Rattle.theory.proofs.Bools.{either, never, or-none}
 use Rattle.theory.proofs.Lists.{any-append}
-use Rattle.theory.proofs.Derive.{missing, fired-missing, fired-known}
+use Rattle.theory.proofs.Derive.{missing, fired-missing, fired-known, derive-closed}
 use Rattle.theory.proofs.Barred.{clear-meets}
 use Rattle.items.specs.Item.{narrow, maxFacts, maxRules, has}
 use Rattle.items.specs.Write.{placed}
@@ -23,7 +23,10 @@ use Rattle.marking.proofs.MarksPainted.{past-end, has-set, unmarked, length-pai
 use Rattle.closure.specs.declared.derivation.Derivation.{Derivation}
 use Rattle.closure.specs.declared.derivation.Derivation.the-variants.{Closed, Barred}
 use Rattle.closure.specs.Room.{Room}
-use Rattle.closure.proofs.RulesFired.{Derived, derive-past, has-derived}
+use Rattle.closure.specs.Deriving.{Derived}
+use Rattle.closure.proofs.RulesFired.{derive-past, has-derived}
+use Rattle.premises.specs.Premises.{plainOnes, Counted}
+use Rattle.premises.specs.Plain.{maskIn, PlainIndexed, Masks, OnlyPlain}
 use Rattle.stage.specs.Memory.{Holds}
 use Rattle.run.specs.Stands.{outset, Began, Held}
 use Rattle.run.proofs.FewSteps.{missing-most}
@@ -56,6 +59,18 @@ outset-held P =
       applied-places = length-replicate {A = ℕ} maxRules 0;
     }
 
+-- The plain rules as a mask.
+module _ (P : Program) (mask : List ℕ) (q : has mask ≡ plainRules P (inForce P)) where
+  at-plain : (i : ℕ) → has mask i ≡ plain P i
+  unfolding plainRules
+  at-plain i = ap (λ (on : ℕ → Bool). on i) q
+
+  pub only-plain : OnlyPlain P mask
+  only-plain i t = sym (at-plain i) ∙ t
+
+  pub mask-plain : (index : List ℕ) → Masks mask index → maskIn index ≡ plainRules P (inForce P)
+  mask-plain index m = fun-ext m ∙ q
+
 -- The first derivation, from the outset.
 module _ {P : Program} (b : Bounded P) (few : P .facts < maxFacts narrow) {marks fired : List ℕ} (w : Holds P outset marks fired 0) where
   pub outset-room : Room P marks 0
@@ -65,13 +80,13 @@ module _ {P : Program} (b : Bounded P) (few : P .facts < maxFacts narrow) {marks
   unfolding rejected
   none-barred f = ap (λ (R : FactSet). R f) (w .shows .r)
 
-  module _ (plain : List ℕ) (q : has plain ≡ plainRules P (inForce P)) where
-    none-met : meets P (has plain) (barredIn marks) (has marks) ≡ false
-    none-met = clear-meets P (has plain) (barredIn marks) (has marks) (λ f t. none-barred f)
+  module _ (index : List ℕ) (indexed : PlainIndexed P index) (q : maskIn index ≡ plainRules P (inForce P)) where
+    none-met : meets P (maskIn index) (barredIn marks) (has marks) ≡ false
+    none-met = clear-meets P (maskIn index) (barredIn marks) (has marks) (λ f t. none-barred f)
 
-    module _ {r : Derivation} {marks′ fired′ : List ℕ} (d : Derived P (has plain) marks fired 0 r marks′ fired′) where
-      closes : r ≡ Closed (0 + length (firedFrom P (has plain) (has marks)))
-      closes = rw none-met at (d .0)
+    module _ {r : Derivation} {marks′ missing′ fired′ : List ℕ} (d : Derived P (maskIn index) marks fired 0 r marks′ missing′ fired′) where
+      closes : r ≡ Closed (0 + length (firedFrom P (maskIn index) (has marks)))
+      closes = rw none-met at (d .answer)
 
       pub never-barred : r ≡ Barred → ⊥
       never-barred e = let z : _≡_ {A = ℕ} 0 1 = cc (e, closes) in omega arith
@@ -79,10 +94,10 @@ module _ {P : Program} (b : Bounded P) (few : P .facts < maxFacts narrow) {marks
       abbrev rules : List ℕ
       rules = firedFrom P (plainRules P (inForce P)) nothing
 
-      same-rules : firedFrom P (has plain) (has marks) ≡ rules
+      same-rules : firedFrom P (maskIn index) (has marks) ≡ rules
       same-rules = rw (q, w .shows .d)
 
-      same-set : derive P (has plain) (has marks) ≡ start P (inForce P) .derived
+      same-set : derive P (maskIn index) (has marks) ≡ start P (inForce P) .derived
       same-set = rw (q, w .shows .d)
 
       few-rules : length rules + missing (P .facts) (start P (inForce P) .derived) ≤ P .facts
@@ -91,30 +106,33 @@ module _ {P : Program} (b : Bounded P) (few : P .facts < maxFacts narrow) {marks
           omega (arith, missing-most (P .facts) nothing)
 
       row-then : fired′ ≡ placed rules 0 fired
-      row-then = d .1 .0 none-met .1 ∙ ap (λ (l : List ℕ). placed l 0 fired) same-rules
+      row-then = d .rules none-met ∙ ap (λ (l : List ℕ). placed l 0 fired) same-rules
 
       enough : 0 + length rules ≤ length fired
       enough = omega (arith, few-rules, w .fired-places)
 
-      low : (f : ℕ) → derive P (has plain) (has marks) f ≡ true → f < length marks
+      low : (f : ℕ) → derive P (maskIn index) (has marks) f ≡ true → f < length marks
       low f t =
           ⊎-elim (λ h. ltb-true f _ h)
-          (λ h. never t (derive-past P (has plain) b (length marks) (omega (arith, w .marks-places)) (has marks) (past-end marks) f (ltb-false f _ h)))
+          (λ h. never t (derive-past P (maskIn index) b (length marks) (omega (arith, w .marks-places)) (has marks) (past-end marks) f (ltb-false f _ h)))
           (either (ltb f (length marks)))
 
-      begun : Began P marks′ fired′ (0 + length rules)
+      begun : Began P index marks′ missing′ fired′ (0 + length rules)
       unfolding steps
       begun =
           record {
+            indexed = indexed;
+            in-force = q;
+            rests = record { counted = subst (λ (S : FactSet). Counted P (plainOnes P) S missing′) same-set (d .counted none-met); closed = derive-closed P (plainRules P (inForce P)) nothing };
             holds =
                 record {
                   shows =
                       record {
-                        d = ap has (d .1 .0 none-met .0) ∙ has-derived P (has plain) b marks (omega (arith, w .marks-places)) ∙ same-set;
-                        r = ap barredIn (d .1 .0 none-met .0) ∙ barred-kept (derive P (has plain) (has marks)) marks low (λ f t. none-barred f) ∙ w .shows .r;
+                        d = ap has (d .facts none-met) ∙ has-derived P (maskIn index) b marks (omega (arith, w .marks-places)) ∙ same-set;
+                        r = ap barredIn (d .facts none-met) ∙ barred-kept (derive P (maskIn index) (has marks)) marks low (λ f t. none-barred f) ∙ w .shows .r;
                       };
                   traced = ap (map (stepBy P)) (sym front);
-                  marks-places = ap length (d .1 .0 none-met .0) ∙ length-paint 1 (derive P (has plain) (has marks)) marks ∙ w .marks-places;
+                  marks-places = ap length (d .facts none-met) ∙ length-paint 1 (derive P (maskIn index) (has marks)) marks ∙ w .marks-places;
                   fired-places = ap length row-then ∙ placed-length rules fired 0 enough ∙ w .fired-places;
                   fits = omega (arith, few-rules);
                   known = λ i m. fired-known P (plainRules P (inForce P)) nothing i (ap (mem i) (sym front) ∙ m);
@@ -125,9 +143,9 @@ module _ {P : Program} (b : Bounded P) (few : P .facts < maxFacts narrow) {marks
           front : take (0 + length rules) fired′ ≡ rules
           front = ap (take (0 + length rules)) row-then ∙ placed-front rules fired 0 enough
 
-      pub began : (n : ℕ) → r ≡ Closed n → Began P marks′ fired′ n
+      pub began : (n : ℕ) → r ≡ Closed n → Began P index marks′ missing′ fired′ n
       began n e =
-          let same : n ≡ 0 + length (firedFrom P (has plain) (has marks)) = cc (e, closes) in
+          let same : n ≡ 0 + length (firedFrom P (maskIn index) (has marks)) = cc (e, closes) in
           rw (same, same-rules) begun
 
 -- A rule more is applied.

@@ -21,7 +21,7 @@ use Rattle.items.specs.Item.{narrow, maxFacts, maxRules, has}
 use Rattle.items.specs.Write.{over}
 use Rattle.bits.specs.Flags.{Flags}
 use Rattle.closure.specs.Steps.{stepBytes}
-use Rattle.premises.specs.Premises.{ripe, roused, Asked, Counted}
+use Rattle.premises.specs.Premises.{Places, inRow, ripe, roused, Asked, Counted}
 use Rattle.premises.specs.Filling.{Listed}
 use Rattle.premises.specs.Waking.{Span}
 use Rattle.stage.specs.Memory.{Holds}
@@ -33,15 +33,15 @@ use Rattle.run.proofs.NextLook.{next-awake, start-awake}
 
 -- What is promised of waking: the facts of the rules from one place up to another enter the set.
 abbrev pub Wakes : Program → List ℕ → List ℕ → ℕ → ℕ → List ℕ → List ℕ → List ℕ → List ℕ → Type 0
-Wakes P asks fired from to missing awake missing′ awake′ = (row : List ℕ) (S : FactSet) (p : ℕ → Bool) → Asked P row asks → Counted P row S missing → Flags p awake → Fresh P S (slice from to fired) → Counted P row (after (conclude P) S (slice from to fired)) missing′ × Flags (roused P row S (after (conclude P) S (slice from to fired)) p) awake′
+Wakes P asks fired from to missing awake missing′ awake′ = (R : Places) (S : FactSet) (p : ℕ → Bool) → Asked P R asks → Counted P R S missing → Flags p awake → Fresh P S (slice from to fired) → Counted P R (after (conclude P) S (slice from to fired)) missing′ × Flags (roused P R S (after (conclude P) S (slice from to fired)) p) awake′
 
 -- The memory holds a stand from which the run goes on to its end, with the places that are awake there and the premises that each place lacks.
-pub record Standing (P : Program) (row order asks marks fired applied lacks awake : List ℕ) (stages n : ℕ) : Type 0 where
+pub record Standing (P : Program) (row order asks marks missing fired applied lacks awake : List ℕ) (stages n : ℕ) : Type 0 where
   pub at : Stand
   pub places : ℕ → Bool
-  pub looking : Looking P row order marks fired n awake at places
-  pub asked : Asked P order asks
-  pub lacking : Counted P order (at .derived) lacks
+  pub looking : Looking P row order marks missing fired n awake at places
+  pub asked : Asked P (inRow order) asks
+  pub lacking : Counted P (inRow order) (at .derived) lacks
   pub applied-shown : has applied ≡ (λ i. mem i (at .applied))
   pub applied-places : length applied ≡ maxRules
   pub counted : stages ≡ stageCount at
@@ -82,7 +82,7 @@ module _ {P : Program} {s : Stand} {marks fired : List ℕ} {n : ℕ} (few : P .
       (ap (λ (i : ℕ). mem i (take n fired)) (sym (getD-take n fired k 0 h)) ∙ getD-mem (take n fired) k (omega (arith, length-take-le n fired inside)))
 
 -- The start: D is closed, and the places whose premises are in D are awake.
-module _ {P : Program} {marks fired : List ℕ} {n : ℕ} (few : P .facts < maxFacts narrow) (g : Began P marks fired n) where
+module _ {P : Program} {index marks missing fired : List ℕ} {n : ℕ} (few : P .facts < maxFacts narrow) (g : Began P index marks missing fired n) where
   pub start-span : Span P fired 0 n
   start-span =
       record {
@@ -96,17 +96,18 @@ module _ {P : Program} {marks fired : List ℕ} {n : ℕ} (few : P .facts < maxF
   unfolding derive
   same-set = ap (after (conclude P) nothing) (g .rules)
 
-  pub standing-start : {row order asks applied lacks awake lacks′ awake′ : List ℕ} → Bounded P → take (length order) row ≡ order → NamesOnly P order → Asked P order asks → Counted P order nothing lacks → Flags (ripe P order nothing) awake → Wakes P asks fired 0 n lacks awake lacks′ awake′ → has applied ≡ (λ i. mem i []) → length applied ≡ maxRules → Standing P row order asks marks fired applied lacks′ awake′ 0 n
+  pub standing-start : {row order asks applied lacks awake lacks′ awake′ : List ℕ} → Bounded P → take (length order) row ≡ order → NamesOnly P order → Asked P (inRow order) asks → Counted P (inRow order) nothing lacks → Flags (ripe P (inRow order) nothing) awake → Wakes P asks fired 0 n lacks awake lacks′ awake′ → has applied ≡ (λ i. mem i []) → length applied ≡ maxRules → Standing P row order asks marks missing fired applied lacks′ awake′ 0 n
   standing-start {order = order} b in-row only asked counts flags wakes shown places =
-      let woken = wakes order nothing (ripe P order nothing) asked counts flags (rw (g .rules) (fired-fresh P (plainRules P (inForce P)) nothing)) in
+      let woken = wakes (inRow order) nothing (ripe P (inRow order) nothing) asked counts flags (rw (g .rules) (fired-fresh P (plainRules P (inForce P)) nothing)) in
       record {
         at = start P (inForce P);
-        places = roused P order nothing (start P (inForce P) .derived) (ripe P order nothing);
+        places = roused P (inRow order) nothing (start P (inForce P) .derived) (ripe P (inRow order) nothing);
         looking =
             record {
               in-row = in-row;
               names-only = only;
               holds = g .holds;
+              rests = g .rests;
               flags = rw same-set at (woken .1);
               waits = start-awake P order;
             };
@@ -119,11 +120,11 @@ module _ {P : Program} {marks fired : List ℕ} {n : ℕ} (few : P .facts < maxF
         onward = sym (run-finish P (inForce P) order);
       }
 
-module _ {P : Program} {row order asks marks fired applied lacks awake : List ℕ} {stages n : ℕ} (w : Standing P row order asks marks fired applied lacks awake stages n) where
+module _ {P : Program} {row order asks marks missing fired applied lacks awake : List ℕ} {stages n : ℕ} (w : Standing P row order asks marks missing fired applied lacks awake stages n) where
   pub few-stages : stages ≤ P .facts
   few-stages = omega (arith, w .paced .room, w .paced .staged, w .counted)
 
-  pub stands : Stands P row marks fired n awake
+  pub stands : Stands P row marks missing fired n awake
   stands = record { order = order; at = w .at; places = w .places; looking = w .looking }
 
   -- without an eligible rule the run has ended
@@ -138,7 +139,7 @@ module _ {P : Program} {row order asks marks fired applied lacks awake : List �
     ended-stages = w .counted ∙ ap stageCount ended-at
 
   -- rule i is taken
-  module _ (few : P .facts < maxFacts narrow) {i m : ℕ} {marks′ fired′ awake′ : List ℕ} (taken : Taken P order (w .at) n i marks′ fired′ awake′ m) where
+  module _ (few : P .facts < maxFacts narrow) {i m : ℕ} {marks′ missing′ fired′ awake′ : List ℕ} (taken : Taken P order (w .at) n i marks′ missing′ fired′ awake′ m) where
     abbrev next : Stand
     next = stage P (inForce P) (w .at) i
 
@@ -178,17 +179,18 @@ module _ {P : Program} {row order asks marks fired applied lacks awake : List �
 
     -- the facts of the stage entered: the run stands one stage further on
     module _ (b : Bounded P) (small : count P ≤ maxRules) {lacks′ awake″ : List ℕ} (wakes : Wakes P asks fired′ n m lacks awake′ lacks′ awake″) where
-      pub standing-on : Standing P row order asks marks′ fired′ (set applied i 1) lacks′ awake″ (stages + 1) m
+      pub standing-on : Standing P row order asks marks′ missing′ fired′ (set applied i 1) lacks′ awake″ (stages + 1) m
       standing-on =
-          let woken = wakes order (w .at .derived) (taken .places) (w .asked) (w .lacking) (taken .flags) fresh in
+          let woken = wakes (inRow order) (w .at .derived) (taken .places) (w .asked) (w .lacking) (taken .flags) fresh in
           record {
             at = next;
-            places = roused P order (w .at .derived) (next .derived) (taken .places);
+            places = roused P (inRow order) (w .at .derived) (next .derived) (taken .places);
             looking =
                 record {
                   in-row = w .looking .in-row;
                   names-only = w .looking .names-only;
                   holds = taken .holds;
+                  rests = taken .rests;
                   flags = rw same-next at (woken .1);
                   waits = next-awake P order (w .at) i (taken .places) chosen (taken .waits);
                 };

@@ -10,15 +10,19 @@ use Rattle.items.specs.Item.{narrow, stepWidth, maxRules, has}
 use Rattle.tables.specs.Layout.{programIn}
 use Rattle.questions.specs.Questions.{namedIn}
 use Rattle.stage.specs.Look.{NamesOnly}
-use Rattle.stage.specs.Memory.{Holds}
+use Rattle.premises.specs.Plain.{maskIn, PlainIndexed}
+use Rattle.stage.specs.Memory.{Holds, StandAtRest}
 
 -- Before D is closed for the first time: no fact is derived, no rule applied.
 abbrev pub outset : Stand
 outset = record { derived = nothing; trace = []; applied = [] }
 
--- D is closed for the first time: the memory holds the start of a run, with the rules that fired.
-pub record Began (P : Program) (marks fired : List ℕ) (n : ℕ) : Type 0 where
+-- D is closed for the first time: the memory holds the start of a run, with the rules that fired; the plain rules are indexed, and what they lack counted.
+pub record Began (P : Program) (index marks missing fired : List ℕ) (n : ℕ) : Type 0 where
+  pub indexed : PlainIndexed P index
+  pub in-force : maskIn index ≡ plainRules P (inForce P)
   pub holds : Holds P (start P (inForce P)) marks fired n
+  pub rests : StandAtRest P (start P (inForce P)) missing
   pub rules : take n fired ≡ firedFrom P (plainRules P (inForce P)) nothing
 
 -- The memory holds a stand with the rules applied, as marks with a place for each rule.

@@ -1,73 +1,53 @@
 -- The look along an order: the places taken so far have no eligible rule, so the first that has one is the first of the order.
-use Prim.Native.Nat.{ℕ, zero, suc, _+_, _<_}
-use mathlib.Core.Path.{_≡_, refl, sym, ap, _∙_}
+use Prim.Native.Nat.{ℕ, _<_}
+use mathlib.Core.Path.{_≡_, refl, sym, ap, subst, _∙_}
 use mathlib.Core.Bool.{Bool, true, false, not, _&&_, _||_}
-use mathlib.Core.List.{List, [], _∷_}
+use mathlib.Core.List.{List}
 use mathlib.Core.Logic.{_⊎_, inl, inr, ⊎-elim}
-use mathlib.Core.Option.{Option, none, some}
+use mathlib.Core.Option.{some}
 use native.Mathlib.Omega.{arith}
-use native.Mathlib.Nat.{zero-add}
 use borrow.Author.Tests.{eqb-true, eq-eqb, ne-eqb}
 use lib.ListN.{length, getD, take, drop}
 use lib.Seq.{getD-take, drop-at, length-take-le}
 use lib.Dec.{eqb}
-use Rattle.theory.specs.Rule.{all, clear, mem, seek, range, upTo, Program, FactSet, inForce, count, rule, exception}
+use Rattle.theory.specs.Rule.{all, clear, mem, Program, Mask, FactSet, inForce, count, rule, exception, plainRules}
 use Rattle.theory.specs.Run.{Stand, rejected, eligible, firstEligible}
 use Rattle.theory.proofs.Bools.{never, or-right, and-right, false-of}
-use Rattle.theory.proofs.Lists.{Found, getD-mem, length-range, clear-anti}
+use Rattle.theory.proofs.Lists.{getD-mem, clear-anti, seek-at, none-passes}
 use Rattle.theory.proofs.Run.{eligible-parts, exception-known, trial-above}
 use Rattle.theory.proofs.Barred.{conclusion-barred}
 use Rattle.items.specs.declared.item.FactId.{FactId}
-use Rattle.items.specs.Item.{narrow, maxFacts, maxRules, factId, has}
+use Rattle.items.specs.Item.{narrow, maxFacts, factId, has}
 use Rattle.marking.specs.Marks.{barred, barredIn}
 use Rattle.closure.specs.Room.{Room}
+use Rattle.closure.specs.Deriving.{AtRest}
 use Rattle.bits.specs.declared.row.Lowest.{Lowest}
 use Rattle.bits.specs.declared.row.Lowest.the-variants.{At, Nothing}
 use Rattle.bits.specs.Flags.{Flags, without, lowestOf, Taken as LowestTaken}
-use Rattle.bits.proofs.RowTaken.{lowest-is, nothing-left}
-use Rattle.stage.specs.Memory.{Holds, Passes}
+use Rattle.bits.proofs.RowTaken.{lowest-is, none-lower, nothing-left}
+use Rattle.stage.specs.Memory.{Holds, StandAtRest, Passes}
 use Rattle.stage.specs.Look.{Awake, AwakeBut, Looking, Taken, Ended}
-
--- The first element that passes, by its place.
-seek-at : (q : ℕ → Bool) (xs : List ℕ) (k : ℕ) → k < length xs → ((j : ℕ) → j < k → q (getD xs j 0) ≡ false) → q (getD xs k 0) ≡ true → seek q xs ≡ some (getD xs k 0)
-seek-at q [] k h out t = absurd (omega arith)
-seek-at q (x ∷ xs) zero h out t = rw (t, seek)
-seek-at q (x ∷ xs) (suc k) h out t = rw (out 0 (omega arith), seek) (seek-at q xs k (omega arith) (λ j l. out (suc j) (omega arith)) t)
-
-none-passes : (q : ℕ → Bool) (xs : List ℕ) → ((k : ℕ) → k < length xs → q (getD xs k 0) ≡ false) → _≡_ {A = Option ℕ} (seek q xs) none
-none-passes q [] out = refl
-none-passes q (x ∷ xs) out = rw (out 0 (omega arith), seek) (none-passes q xs (λ k l. out (suc k) (omega arith)))
-
-getD-upTo : (a n j : ℕ) → j < n → getD (range a n) j 0 ≡ a + j
-getD-upTo a zero j h = absurd (omega arith)
-getD-upTo a (suc n) zero h = omega arith
-getD-upTo a (suc n) (suc j) h = let e : getD (range (suc a) n) j 0 ≡ suc a + j = getD-upTo (suc a) n j (omega arith) in omega arith
-
--- None below the lowest number of a set is in it.
-none-lower : (p : ℕ → Bool) (k : ℕ) → lowestOf p ≡ some k → (j : ℕ) → j < k → p j ≡ false
-none-lower p k e j h =
-    let w : Found p (upTo maxRules) k = lowest-is p k e in
-    let in-list : w .place < maxRules = rw (length-range 0 maxRules) at (w .inside) in
-    let there : getD (upTo maxRules) (w .place) 0 ≡ 0 + w .place = getD-upTo 0 maxRules (w .place) in-list in
-    let lower : j < w .place = omega (arith, w .is) in
-    let here : getD (upTo maxRules) j 0 ≡ 0 + j = getD-upTo 0 maxRules j (omega arith) in
-    ap p (sym (here ∙ zero-add j)) ∙ w .none-before j lower
 
 -- The memory has room for a trial.
 pub held-room : {P : Program} {s : Stand} {marks fired : List ℕ} {n : ℕ} → P .facts < maxFacts narrow → Holds P s marks fired n → Room P marks n
 held-room few w = record { places = w .marks-places; cells-left = rw (w .shows .d) (omega (arith, w .fits)) }
 
+-- The counts are those of the marks.
+pub resting : {P : Program} {s : Stand} {marks missing fired : List ℕ} {n : ℕ} {on : Mask} → on ≡ plainRules P (inForce P) → Holds P s marks fired n → StandAtRest P s missing → AtRest P on (has marks) missing
+resting {P} {s} {marks} {missing} {fired} {n} {on} p w r = subst (λ (S : FactSet). AtRest P on S missing) (sym (w .shows .d)) (subst (λ (o : Mask). AtRest P o (s .derived) missing) (sym p) r)
+
 -- The rule at place k is on its turn.
-pub record Turn (P : Program) (row order marks fired : List ℕ) (n : ℕ) (awake : List ℕ) (s : Stand) (k : ℕ) : Type 0 where
+pub record Turn (P : Program) (row order marks missing fired : List ℕ) (n : ℕ) (awake : List ℕ) (s : Stand) (k : ℕ) : Type 0 where
   pub known : getD row k 0 < count P
   pub excepted : exception P (getD row k 0) ≡ true
   pub premises-in : all (s .derived) (rule P (getD row k 0) .premises) ≡ true
   pub holds : Holds P s marks fired n
+  pub rests : StandAtRest P s missing
   -- where it is refused, the look goes on; where it is not, it is the first
-  pub refused : eligible P (inForce P) s (getD row k 0) ≡ false → (marks′ fired′ : List ℕ) → Holds P s marks′ fired′ n → (p : ℕ → Bool) × Looking P row order marks′ fired′ n awake s p
-  pub passes : (marks′ fired′ : List ℕ) (m : ℕ) → Passes P s (getD row k 0) fired n marks′ fired′ m → Taken P order s n (getD row k 0) marks′ fired′ awake m
+  pub refused : eligible P (inForce P) s (getD row k 0) ≡ false → (marks′ missing′ fired′ : List ℕ) → Holds P s marks′ fired′ n → StandAtRest P s missing′ → (p : ℕ → Bool) × Looking P row order marks′ missing′ fired′ n awake s p
+  pub passes : (marks′ missing′ fired′ : List ℕ) (m : ℕ) → Passes P s (getD row k 0) fired n marks′ missing′ fired′ m → Taken P order s n (getD row k 0) marks′ missing′ fired′ awake m
 
-module _ {P : Program} {row order marks fired : List ℕ} {n : ℕ} {awake : List ℕ} {s : Stand} {p : ℕ → Bool} (w : Looking P row order marks fired n awake s p) where
+module _ {P : Program} {row order marks missing fired : List ℕ} {n : ℕ} {awake : List ℕ} {s : Stand} {p : ℕ → Bool} (w : Looking P row order marks missing fired n awake s p) where
   pub none-found : {r : Lowest} (after : List ℕ) → LowestTaken p r after → r ≡ Nothing → Ended P order s n marks fired
   none-found after t e =
       record {
@@ -114,18 +94,20 @@ module _ {P : Program} {row order marks fired : List ℕ} {n : ℕ} {awake : Lis
     is-exception : exception P (getD row k 0) ≡ true
     is-exception = ap (exception P) same ∙ w .names-only (getD order k 0) (getD-mem order k here)
 
-    turn-at : Turn P row order marks fired n awake′ s k
+    turn-at : Turn P row order marks missing fired n awake′ s k
     turn-at =
         record {
           known = exception-known P (inForce P) (getD row k 0) is-exception;
           excepted = is-exception;
           premises-in = ap (λ (i : ℕ). all (s .derived) (rule P i .premises)) same ∙ w .waits .roused k (lowest-is p k e .passes) .1;
           holds = w .holds;
-          refused = λ out marks′ fired′ h. (without p k, record { in-row = w .in-row; names-only = w .names-only; holds = h; flags = f; waits = refused-there out });
-          passes = λ marks′ fired′ m t.
+          rests = w .rests;
+          refused = λ out marks′ missing′ fired′ h r. (without p k, record { in-row = w .in-row; names-only = w .names-only; holds = h; rests = r; flags = f; waits = refused-there out });
+          passes = λ marks′ missing′ fired′ m t.
               record {
                 first = first-there (t .is-eligible);
                 holds = t .holds;
+                rests = t .rests;
                 added = ap (drop n) (t .added) ∙ drop-at (take n fired) _ n (length-take-le n fired (omega (arith, w .holds .fits, w .holds .fired-places, few)));
                 places = without p k;
                 flags = f;
@@ -133,12 +115,12 @@ module _ {P : Program} {row order marks fired : List ℕ} {n : ℕ} {awake : Lis
               };
         }
 
-  pub turn : P .facts < maxFacts narrow → {r : Lowest} {k : ℕ} {after : List ℕ} → LowestTaken p r after → r ≡ At k → Turn P row order marks fired n after s k
+  pub turn : P .facts < maxFacts narrow → {r : Lowest} {k : ℕ} {after : List ℕ} → LowestTaken p r after → r ≡ At k → Turn P row order marks missing fired n after s k
   turn few {r} {k} {after} t e = turn-at few k (t .lowest k e) after (t .rest k e)
 
 -- The look so far: wherever the memory held a stand at entry, it holds that stand still.
-abbrev pub Onward : Program → List ℕ → List ℕ → List ℕ → ℕ → List ℕ → List ℕ → List ℕ → List ℕ → Type 0
-Onward P row marks₀ fired₀ n awake₀ marks fired awake = (order : List ℕ) (s : Stand) (p : ℕ → Bool) → Looking P row order marks₀ fired₀ n awake₀ s p → (q : ℕ → Bool) × Looking P row order marks fired n awake s q
+abbrev pub Onward : Program → List ℕ → List ℕ → List ℕ → List ℕ → ℕ → List ℕ → List ℕ → List ℕ → List ℕ → List ℕ → Type 0
+Onward P row marks₀ missing₀ fired₀ n awake₀ marks missing fired awake = (order : List ℕ) (s : Stand) (p : ℕ → Bool) → Looking P row order marks₀ missing₀ fired₀ n awake₀ s p → (q : ℕ → Bool) × Looking P row order marks missing fired n awake s q
 
 -- What the mark of a fact that was read tells.
 module _ (marks : List ℕ) {f : FactId} {g : ℕ} (e : f ≡ factId g) where

@@ -14,7 +14,7 @@ use Rattle.theory.specs.Run.{Stand, eligible, stage, firstEligible}
 use Rattle.bits.specs.Flags.{Flags}
 use Rattle.stage.specs.declared.staged.Staged.{Staged}
 use Rattle.stage.specs.declared.staged.Staged.the-variants.{Took, Nothing}
-use Rattle.stage.specs.Memory.{Holds}
+use Rattle.stage.specs.Memory.{Holds, StandAtRest}
 
 -- the order names exception rules of the program alone
 abbrev pub NamesOnly : Program → List ℕ → Type 0
@@ -38,25 +38,27 @@ pub record AwakeBut (P : Program) (order : List ℕ) (s : Stand) (i : ℕ) (p : 
   pub asleep : (k : ℕ) → k < length order → p k ≡ false → (eligibleAt P order s k ≡ false) ⊎ (getD order k 0 ≡ i)
 
 -- The memory holds a stand of a run along an order, with its awake places.
-pub record Looking (P : Program) (row order marks fired : List ℕ) (n : ℕ) (awake : List ℕ) (s : Stand) (p : ℕ → Bool) : Type 0 where
+pub record Looking (P : Program) (row order marks missing fired : List ℕ) (n : ℕ) (awake : List ℕ) (s : Stand) (p : ℕ → Bool) : Type 0 where
   pub in-row : take (length order) row ≡ order
   pub names-only : NamesOnly P order
   pub holds : Holds P s marks fired n
+  pub rests : StandAtRest P s missing
   pub flags : Flags p awake
   pub waits : Awake P order s p
 
 -- It holds some stand.
-pub record Stands (P : Program) (row marks fired : List ℕ) (n : ℕ) (awake : List ℕ) : Type 0 where
+pub record Stands (P : Program) (row marks missing fired : List ℕ) (n : ℕ) (awake : List ℕ) : Type 0 where
   pub order : List ℕ
   pub at : Stand
   pub places : ℕ → Bool
-  pub looking : Looking P row order marks fired n awake at places
+  pub looking : Looking P row order marks missing fired n awake at places
 
 -- The look took rule i, the first that is eligible: the memory holds the stand after its stage, m steps, of which those from n on are the rule's
 -- and those of the closure.
-pub record Taken (P : Program) (order : List ℕ) (s : Stand) (n i : ℕ) (marks fired awake : List ℕ) (m : ℕ) : Type 0 where
+pub record Taken (P : Program) (order : List ℕ) (s : Stand) (n i : ℕ) (marks missing fired awake : List ℕ) (m : ℕ) : Type 0 where
   pub first : firstEligible P (inForce P) order s ≡ some i
   pub holds : Holds P (stage P (inForce P) s i) marks fired m
+  pub rests : StandAtRest P (stage P (inForce P) s i) missing
   pub added : slice n m fired ≡ i ∷ firedFrom P (plainRules P (inForce P)) (conclude P (s .derived) i)
   pub places : ℕ → Bool
   pub flags : Flags places awake
@@ -68,6 +70,6 @@ pub record Ended (P : Program) (order : List ℕ) (s : Stand) (n : ℕ) (marks f
   pub holds : Holds P s marks fired n
 
 -- What a look leaves of n steps before.
-abbrev pub Looked : Program → List ℕ → Stand → ℕ → Staged → List ℕ → List ℕ → List ℕ → Type 0
-Looked P order s n (Took r m) marks fired awake = Taken P order s n (r .0) marks fired awake m
-Looked P order s n Nothing marks fired awake = Ended P order s n marks fired
+abbrev pub Looked : Program → List ℕ → Stand → ℕ → Staged → List ℕ → List ℕ → List ℕ → List ℕ → Type 0
+Looked P order s n (Took r m) marks missing fired awake = Taken P order s n (r .0) marks missing fired awake m
+Looked P order s n Nothing marks missing fired awake = Ended P order s n marks fired

@@ -9,6 +9,7 @@ use Rattle.theory.specs.Derive.{conclude, stepBy, fired as firedFrom}
 use Rattle.theory.specs.Run.{Stand, rejected, eligible, stage}
 use Rattle.items.specs.Item.{narrow, maxFacts, has}
 use Rattle.marking.specs.Marks.{barredIn}
+use Rattle.closure.specs.Deriving.{AtRest}
 use Rattle.closure.specs.declared.derivation.Derivation.{Derivation}
 use Rattle.closure.specs.declared.derivation.Derivation.the-variants.{Closed, Barred}
 
@@ -27,19 +28,25 @@ pub record Holds (P : Program) (s : Stand) (marks fired : List ℕ) (n : ℕ) : 
   pub fits : n + howMany (λ f. not (s .derived f)) (upTo (P .facts)) ≤ P .facts
   pub known : (i : ℕ) → mem i (take n fired) ≡ true → i < count P
 
+-- What each plain rule lacks of D is counted, and D is closed.
+abbrev pub StandAtRest : Program → Stand → List ℕ → Type 0
+StandAtRest P s missing = AtRest P (plainRules P (inForce P)) (s .derived) missing
+
 -- The trial of rule i passes: the rule is eligible, and the memory holds the stand after its stage, m steps; to the n rules of before are
 -- added rule i and those that fire in the closure.
-pub record Passes (P : Program) (s : Stand) (i : ℕ) (fired : List ℕ) (n : ℕ) (marks′ fired′ : List ℕ) (m : ℕ) : Type 0 where
+pub record Passes (P : Program) (s : Stand) (i : ℕ) (fired : List ℕ) (n : ℕ) (marks′ missing′ fired′ : List ℕ) (m : ℕ) : Type 0 where
   pub is-eligible : eligible P (inForce P) s i ≡ true
   pub holds : Holds P (stage P (inForce P) s i) marks′ fired′ m
+  pub rests : StandAtRest P (stage P (inForce P) s i) missing′
   pub added : take m fired′ ≡ take n fired ++ (i ∷ firedFrom P (plainRules P (inForce P)) (conclude P (s .derived) i))
 
 -- It fails: the rule is not eligible, and the memory holds the stand as before.
-pub record Fails (P : Program) (s : Stand) (i n : ℕ) (marks′ fired′ : List ℕ) : Type 0 where
+pub record Fails (P : Program) (s : Stand) (i n : ℕ) (marks′ missing′ fired′ : List ℕ) : Type 0 where
   pub not-eligible : eligible P (inForce P) s i ≡ false
   pub holds : Holds P s marks′ fired′ n
+  pub rests : StandAtRest P s missing′
 
 -- What a trial of rule i answers, and leaves of n rules fired before.
-abbrev pub Tried : Program → Stand → ℕ → List ℕ → ℕ → Derivation → List ℕ → List ℕ → Type 0
-Tried P s i fired n (Closed m) marks′ fired′ = Passes P s i fired n marks′ fired′ m
-Tried P s i fired n Barred marks′ fired′ = Fails P s i n marks′ fired′
+abbrev pub Tried : Program → Stand → ℕ → List ℕ → ℕ → Derivation → List ℕ → List ℕ → List ℕ → Type 0
+Tried P s i fired n (Closed m) marks′ missing′ fired′ = Passes P s i fired n marks′ missing′ fired′ m
+Tried P s i fired n Barred marks′ missing′ fired′ = Fails P s i n marks′ missing′ fired′

@@ -5,8 +5,8 @@ ghost use mathlib.Core.Bool.{Bool};
 ghost use mathlib.Core.List.{List};
 ghost use Rattle.theory.specs.Rule.{inForce, plainRules};
 ghost use Rattle.theory.specs.Run.{Stand};
-ghost use Rattle.items.specs.Item.{has};
 ghost use Rattle.tables.specs.Layout.{programIn, WellFormed};
+ghost use Rattle.premises.specs.Plain.{maskIn, PlainIndexed};
 ghost use Rattle.stage.specs.Look.{Looking, Stands, Looked};
 use crate::staged::Staged;
 use crate::trial::trial;
@@ -19,6 +19,7 @@ use items::item::MAX_RULES;
 use items::item::RuleId;
 use marking::marks::BARRED;
 use marking::marks::IN;
+use premises::plain::PLAIN_WORDS;
 use tables::layout::TABLE_CELLS;
 use tables::own::constraint_at;
 use tables::own::constraint_span;
@@ -28,16 +29,17 @@ use tables::rule::conclusion;
 pub fn first_eligible(
     tables: &[u16; TABLE_CELLS],
     row: &[u16; MAX_RULES],
-    plain: &[u8; MAX_RULES],
+    index: &[u64; PLAIN_WORDS],
     marks: &mut [u8; MAX_FACTS],
+    missing: &mut [u16; MAX_RULES],
     fired: &mut [u16; MAX_FACTS],
     count: usize,
     awake: &mut [u64; ROW_WORDS],
 ) -> Staged
     requires { ⌜ WellFormed (now tables) ⌝ }
-    requires { ⌜ has (now plain) ≡ plainRules (programIn (now tables)) (inForce (programIn (now tables))) ⌝ }
-    requires { ⌜ Stands (programIn (now tables)) (now row) (now marks) (now fired) count (now awake) ⌝ }
-    ensures { λ r. ⌜ ((order : List ℕ) (s : Stand) (p : ℕ → Bool) → Looking (programIn (now (tables .entry))) (now (row .entry)) order (now (marks .entry)) (now (fired .entry)) count (now (awake .entry)) s p → Looked (programIn (now (tables .entry))) order s count r (now (marks .exit)) (now (fired .exit)) (now (awake .exit))) ⌝ }
+    requires { ⌜ PlainIndexed (programIn (now tables)) (now index) × (maskIn (now index) ≡ plainRules (programIn (now tables)) (inForce (programIn (now tables)))) ⌝ }
+    requires { ⌜ Stands (programIn (now tables)) (now row) (now marks) (now missing) (now fired) count (now awake) ⌝ }
+    ensures { λ r. ⌜ ((order : List ℕ) (s : Stand) (p : ℕ → Bool) → Looking (programIn (now (tables .entry))) (now (row .entry)) order (now (marks .entry)) (now (missing .entry)) (now (fired .entry)) count (now (awake .entry)) s p → Looked (programIn (now (tables .entry))) order s count r (now (marks .exit)) (now (missing .exit)) (now (fired .exit)) (now (awake .exit))) ⌝ }
 {
     let found = 'rules: loop {
         let lowest = take(awake);
@@ -64,7 +66,7 @@ pub fn first_eligible(
             at += 1;
         }
         // Its constraints may still be met by the closure with its conclusion, which holds more than D.
-        match trial(tables, plain, rule, marks, fired, count) {
+        match trial(tables, index, rule, marks, missing, fired, count) {
             Derivation::Closed(steps) => {
                 break 'rules Staged::Took { rule, steps };
             }

@@ -7,9 +7,9 @@ use mathlib.Core.Bool.{Bool, true, false, not, cond, _&&_, _||_}
 use mathlib.Core.List.{List, [], _∷_, _++_}
 use mathlib.Core.Logic.{_⊎_, inl, inr, ⊎-elim, _≢_}
 use mathlib.Core.Option.{Option, none, some}
-use borrow.Author.Tests.{eqb-true, eq-eqb}
+use borrow.Author.Tests.{eqb-true, eqb-false, eq-eqb, lt-ltb, le-ltb, ltb-true}
 use lib.ListN.{length, getD, replicate}
-use lib.Dec.{eqb}
+use lib.Dec.{eqb, ltb}
 use Rattle.theory.specs.Rule.{all, clear, any, mem, keep, seek, range, upTo, downFrom, howMany}
 use Rattle.theory.proofs.Bools.{either, never, and-left, and-right, and-both, or-left, or-right, or-cases, or-false-left, or-false-right, not-of-false, false-of-not, false-of, both-ways}
 
@@ -367,3 +367,40 @@ pub range-end : (n i : ℕ) → n ≤ i → range i (n - i) ≡ []
 range-end n i h =
     let none : n - i ≡ 0 = omega arith in
     rw none
+
+-- The first element that passes, by its place; and where none passes.
+pub seek-at : (q : ℕ → Bool) (xs : List ℕ) (k : ℕ) → k < length xs → ((j : ℕ) → j < k → q (getD xs j 0) ≡ false) → q (getD xs k 0) ≡ true → seek q xs ≡ some (getD xs k 0)
+seek-at q [] k h out t = absurd (omega arith)
+seek-at q (x ∷ xs) zero h out t = rw (t, seek)
+seek-at q (x ∷ xs) (suc k) h out t = rw (out 0 (omega arith), seek) (seek-at q xs k (omega arith) (λ j l. out (suc j) (omega arith)) t)
+
+pub none-passes : (q : ℕ → Bool) (xs : List ℕ) → ((k : ℕ) → k < length xs → q (getD xs k 0) ≡ false) → _≡_ {A = Option ℕ} (seek q xs) none
+none-passes q [] out = refl
+none-passes q (x ∷ xs) out = rw (out 0 (omega arith), seek) (none-passes q xs (λ k l. out (suc k) (omega arith)))
+
+pub getD-upTo : (n j : ℕ) → j < n → getD (upTo n) j 0 ≡ j
+getD-upTo n j h = let e : getD (upTo n) j 0 ≡ 0 + j = go 0 n j h in omega arith
+  where
+    go : (a n j : ℕ) → j < n → getD (range a n) j 0 ≡ a + j
+    go a zero j h = absurd (omega arith)
+    go a (suc n) zero h = omega arith
+    go a (suc n) (suc j) h = let e : getD (range (suc a) n) j 0 ≡ suc a + j = go (suc a) n j (omega arith) in omega arith
+
+-- So among the numbers below n.
+pub seek-number : (q : ℕ → Bool) (n i : ℕ) → i < n → ((j : ℕ) → j < i → q j ≡ false) → q i ≡ true → seek q (upTo n) ≡ some i
+seek-number q n i h out t =
+    seek-at q (upTo n) i (omega (arith, length-range 0 n)) (λ j l. ap q (getD-upTo n j (omega arith)) ∙ out j l) (ap q (getD-upTo n i h) ∙ t)
+    ∙ ap (λ (m : ℕ). some m) (getD-upTo n i h)
+
+pub no-number : (q : ℕ → Bool) (n : ℕ) → ((j : ℕ) → j < n → q j ≡ false) → _≡_ {A = Option ℕ} (seek q (upTo n)) none
+no-number q n out = none-passes q (upTo n) (λ k l. let low : k < n = omega (arith, length-range 0 n) in ap q (getD-upTo n k low) ∙ out k low)
+
+-- A test on the numbers below n, and on one number more.
+pub below-more : (n k : ℕ) (t : Bool) → eqb k n ≡ false → ltb k n && t ≡ ltb k (n + 1) && t
+below-more n k t e = let ne : k ≡ n → ⊥ = eqb-false k n e in ap (λ (b : Bool). b && t) (both-ways (ltb k n) (ltb k (n + 1)) (λ h. let l : k < n = ltb-true k n h in lt-ltb k (n + 1) (omega arith)) (λ h. let l : k < n + 1 = ltb-true k (n + 1) h in lt-ltb k n (omega arith)))
+
+pub here-not : (n : ℕ) (t : Bool) → ltb n n && t ≡ false
+here-not n t = ap (λ (b : Bool). b && t) (le-ltb n n (omega arith))
+
+pub here-now : (n : ℕ) (t : Bool) → ltb n (n + 1) && t ≡ t
+here-now n t = ap (λ (b : Bool). b && t) (lt-ltb n (n + 1) (omega arith))

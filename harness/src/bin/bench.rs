@@ -379,6 +379,9 @@ struct Table {
     text: String,
     /// Logarithms of the ratios, by operation.
     ratios: [Vec<f64>; 5],
+    /// By operation, the exponents with which the archive's times grow with the rules,
+    /// from the smallest file of a family to its largest.
+    exponents: [Vec<f64>; 5],
 }
 
 impl Table {
@@ -435,6 +438,14 @@ impl Table {
                 "{name:<8} archive/reference: geometric mean {mean:>8.2}, worst {worst:>8.2}"
             ));
         }
+        for operation in OPERATIONS {
+            let exponents = &self.exponents[operation as usize];
+            let worst = exponents.iter().copied().fold(f64::MIN, f64::max);
+            let name = format!("{operation:?}").to_lowercase();
+            self.line(&format!(
+                "{name:<8} growth of the archive with the rules: exponent at most {worst:.2}"
+            ));
+        }
     }
 }
 
@@ -479,16 +490,27 @@ fn agreeing(name: &str, draft: &Draft) -> Result<Subject, String> {
 }
 
 fn measure() -> Result<Table, String> {
-    let mut table = Table { text: String::new(), ratios: Default::default() };
+    let mut table =
+        Table { text: String::new(), ratios: Default::default(), exponents: Default::default() };
     table.head();
     for (name, family) in FAMILIES {
-        let mut before = [None; 5];
+        let mut before: [Option<Times>; 5] = [None; 5];
+        let mut smallest: [Option<Times>; 5] = [None; 5];
         for size in SIZES {
             let subject = agreeing(name, &family(size))?;
             for operation in OPERATIONS {
                 let now = subject.times(operation);
                 let before = before[operation as usize].replace(now);
                 table.row(name, &subject, operation, TimesRow { now, before });
+                smallest[operation as usize].get_or_insert(now);
+            }
+        }
+        let rules = SIZES[SIZES.len() - 1].0 as f64 / SIZES[0].0 as f64;
+        for (exponents, (first, last)) in
+            table.exponents.iter_mut().zip(smallest.iter().zip(&before))
+        {
+            if let (Some(first), Some(last)) = (first, last) {
+                exponents.push((last.archive / first.archive).ln() / rules.ln());
             }
         }
     }

@@ -1,74 +1,77 @@
--- What is to come finds what the whole finds.
-use Prim.Native.Nat.{_-_, _<_}
-use mathlib.Core.Path.{sym, _∙_}
-use mathlib.Core.Logic.{⊎-elim}
-use denote.Ref.{now}
+-- `lowest_ready`: what waits from here on finds what all that waited find.
+use Prim.Native.Nat.{_<_}
+use mathlib.Core.Path.{_≡_, sym, _∙_}
+use native.Mathlib.Omega.{arith}
 use borrow.Author.Needs.{needs}
 use borrow.Author.Tests.{not-true, not-false}
-use native.Mathlib.Omega.{arith}
-use Rattle.theory.specs.Rule.{count}
+use Rattle.items.specs.Item.{maxRules, has}
 use Rattle.tables.specs.Layout.{programIn}
-use Rattle.tables.proofs.ProgramHeld.{in-table}
-use Rattle.closure.proofs.LowestReady.{Searching, none-searched, all-searched, one-found, masked-out, concluded, unfounded}
+use Rattle.tables.proofs.ProgramHeld.{facts-below}
+use Rattle.bits.specs.declared.row.Lowest.the-variants.{At}
+use Rattle.bits.specs.Flags.{Taken, total}
+use Rattle.premises.specs.Plain.{maskIn}
+use Rattle.closure.specs.Deriving.{Waits}
+use Rattle.closure.proofs.LowestReady.{none-ready, rule-known, off-passed, concluded-passed, one-found, one-left}
 use Rattle.closure.proofs.least.lowest_ready.Statement.{statement}
 use Rattle.closure.proofs.least.lowest_ready.Tie as tie
 
 abbrev Inv-loop : tie.InvT-loop
-Inv-loop tables mask set rules i₀ i = Searching (programIn tables) mask set i
+Inv-loop tables index set ready₀ ready = Waits (programIn tables) (maskIn index) (has set) (has set) ready
 
 abbrev μ-loop : tie.MeasureT-loop
-μ-loop tables mask set rules i₀ i = rules - i
+μ-loop tables index set ready₀ ready = total ready
 
--- the rule looked at is one of the program
-inside : (c : tie.In-loop Inv-loop μ-loop) → c .before .loop .i < count (programIn (now (c .before .before .before .before .args .tables)))
-inside c = omega (arith, c .loop-test .taken, c .before .before .rules-of .ensures)
+-- once a rule is taken
+is-there : (c : tie.After-known-told Inv-loop μ-loop) → c .before .before .before .take .result ≡ At (c .before .number .given .0 .0)
+is-there c = c .before .number .given .1
 
-rules-of-requires : tie.Need-rules-of-requires Inv-loop μ-loop
-rules-of-requires c κs = search needs
+took : (c : tie.After-known-told Inv-loop μ-loop) → Taken (c .before .before .before .before .before .loop .inv .p) (c .before .before .before .take .result) (c .before .before .before .take .last .0)
+took c = c .before .before .before .take .ensures .1 (c .before .before .before .before .before .loop .inv .p) (c .before .before .before .before .before .loop .inv .flags)
+
+inside : (c : tie.After-known-told Inv-loop μ-loop) → c .before .number .given .0 .0 < maxRules
+inside c = c .before .before .before .take .ensures .0 .inside _ (is-there c)
+
+falls : (c : tie.After-known-told Inv-loop μ-loop) → total (c .before .before .before .take .last .0) < total (c .before .before .before .before .before .loop .ready)
+falls c = c .before .before .before .take .ensures .0 .less _ (is-there c)
 
 loop-holds : tie.Need-loop-holds Inv-loop μ-loop
-loop-holds c = none-searched _ _ _
+loop-holds c = c .pre .1
 
-element-copy-out-if1 : tie.Need-element-copy-out-if1 Inv-loop μ-loop
-element-copy-out-if1 c = in-table (c .before .before .before .before .pre .0) (inside c)
+take-requires : tie.Need-take-requires Inv-loop μ-loop
+take-requires c κs = search needs
 
-cast-t11 : tie.Need-cast-t11 Inv-loop μ-loop
-cast-t11 c = omega (arith, in-table (c .before .before .before .before .before .before .pre .0) (inside (c .before .before)))
-
-conclusion-in-requires : tie.Need-conclusion-in-requires Inv-loop μ-loop
-conclusion-in-requires c κs =
-    let p = c .before .before .before .before .before .before .pre in
-    ((p .0, inside (c .before .before)), p .1)
-
-premises-in-requires : tie.Need-premises-in-requires Inv-loop μ-loop
-premises-in-requires c κs =
-    let p = c .before .before .before .before .before .before .before .before .pre in
-    ((p .0, inside (c .before .before .before .before)), p .1)
+enum-told : tie.Need-enum-told Inv-loop μ-loop
+enum-told c = search needs
 
 returns : tie.Need-returns Inv-loop μ-loop
-returns c =
-    one-found (c .before .before .before .before .before .before .before .loop .inv) (inside (c .before .before .before .before .before .before))
-    (c .before .before .before .before .if1 .taken)
-    (sym (c .before .before .before .conclusion-in .ensures) ∙ not-true _ (c .before .before .if2 .taken))
-    (sym (c .before .premises-in .ensures) ∙ c .if3 .taken)
+returns c = (none-ready (c .before .before .before .before .loop .inv) (c .before .before .take .ensures .1 (c .before .before .before .before .loop .inv .p) (c .before .before .before .before .loop .inv .flags)) (c .enum-told .given .1), tt)
 
-add-i : tie.Need-add-i Inv-loop μ-loop
-add-i c = omega arith
+enum-known-number : tie.Need-enum-known-number Inv-loop μ-loop
+enum-known-number c = search needs
 
-loop-less : tie.Need-loop-less Inv-loop μ-loop
-loop-less c = omega arith
+cast-t9 : tie.Need-cast-t9 Inv-loop μ-loop
+cast-t9 c = omega (arith, inside c)
 
-loop-again : tie.Need-loop-again Inv-loop μ-loop
-loop-again c =
-    let w = c .before .before .before .loop .inv in
-    let h = inside (c .before .before) in
-    ⊎-elim
-    (λ v. unfounded w h (sym (v .3 .ensures) ∙ v .4 .left))
-    (⊎-elim (λ v. concluded w h (sym (v .1 .ensures) ∙ not-false _ (v .2 .left))) (λ v. masked-out w h (v .left)))
-    (c .if1 .came)
+marked-in-requires : tie.Need-marked-in-requires Inv-loop μ-loop
+marked-in-requires c κs = (omega (arith, c .marked-in-arg .given .0), inside (c .before))
+
+conclusion-in-requires : tie.Need-conclusion-in-requires Inv-loop μ-loop
+conclusion-in-requires c κs = let p = c .before .before .before .before .before .before .before .before .before .before .pre in ((p .0 .0, rule-known (c .before .before .before .before .before .before .before .before .before .loop .inv) (took (c .before .before .before .before)) _ (is-there (c .before .before .before .before))), omega (arith, p .0 .2, facts-below (p .0 .0)))
 
 returns-2 : tie.Need-returns-2 Inv-loop μ-loop
-returns-2 c = all-searched (c .before .loop .inv) (omega (arith, c .loop-test .left, c .before .before .rules-of .ensures))
+returns-2 c = let on = sym (c .before .before .before .before .marked-in .ensures) ∙ c .before .before .before .if1 .taken in let out = sym (c .before .conclusion-in .ensures) ∙ not-true _ (c .if2 .taken) in (one-found (c .before .before .before .before .before .before .before .before .before .before .before .loop .inv) (took (c .before .before .before .before .before .before)) _ (is-there (c .before .before .before .before .before .before)) on out, one-left (c .before .before .before .before .before .before .before .before .before .before .before .loop .inv) (took (c .before .before .before .before .before .before)) _ (is-there (c .before .before .before .before .before .before)) on out)
+
+loop-less : tie.Need-loop-less Inv-loop μ-loop
+loop-less c = falls (c .before .before .before .before .before .before)
+
+loop-again : tie.Need-loop-again Inv-loop μ-loop
+loop-again c = concluded-passed (c .before .before .before .before .before .before .before .before .before .before .before .loop .inv) (took (c .before .before .before .before .before .before)) _ (is-there (c .before .before .before .before .before .before)) (sym (c .before .conclusion-in .ensures) ∙ not-false _ (c .if2 .left))
+
+loop-less-2 : tie.Need-loop-less-2 Inv-loop μ-loop
+loop-less-2 c = falls (c .before .before .before)
+
+loop-again-2 : tie.Need-loop-again-2 Inv-loop μ-loop
+loop-again-2 c = off-passed (c .before .before .before .before .before .before .before .before .loop .inv) (took (c .before .before .before)) _ (is-there (c .before .before .before)) (sym (c .before .marked-in .ensures) ∙ c .if1 .left)
 
 pub lowest-ready-spec : {M : Type 1} → statement M
 lowest-ready-spec =
@@ -76,14 +79,16 @@ lowest-ready-spec =
     (tie.spec
     Inv-loop
     μ-loop
-    rules-of-requires
     loop-holds
-    element-copy-out-if1
-    cast-t11
-    conclusion-in-requires
-    premises-in-requires
+    take-requires
+    enum-told
     returns
-    add-i
+    enum-known-number
+    cast-t9
+    marked-in-requires
+    conclusion-in-requires
+    returns-2
     loop-less
     loop-again
-    returns-2)
+    loop-less-2
+    loop-again-2)

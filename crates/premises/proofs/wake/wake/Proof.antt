@@ -7,8 +7,8 @@ use lib.ListN.{getD}
 use Rattle.theory.specs.Rule.{rule}
 use Rattle.items.specs.Item.{narrow, maxFacts}
 use Rattle.items.specs.declared.item.FactId.{FactId}
-use Rattle.tables.proofs.ProgramHeld.{facts-below, conclusion-below}
 use Rattle.tables.specs.Layout.{programIn}
+use Rattle.tables.proofs.ProgramHeld.{facts-below, conclusion-below}
 use Rattle.premises.proofs.FactsEntered.{Waking, none-entered, rule-known, one-entered, all-entered}
 use Rattle.premises.proofs.wake.wake.Statement.{statement}
 use Rattle.premises.proofs.wake.wake.Tie as tie
@@ -44,16 +44,16 @@ cast-number : tie.Need-cast-number Inv-loop μ-loop
 cast-number c = omega (arith, small (c .before))
 
 enter-requires : tie.Need-enter-requires Inv-loop μ-loop
-enter-requires c κs = small (c .before .before .before)
+enter-requires c κs = omega (arith, small (c .before .before .before .before), c .before .before .enter-arg .given .0)
 
 add-at : tie.Need-add-at Inv-loop μ-loop
-add-at c = omega (arith, c .before .before .before .before .before .before .before .before .pre .1 .high)
+add-at c = omega (arith, c .before .before .before .before .before .before .before .before .before .pre .1 .high)
 
 loop-less : tie.Need-loop-less Inv-loop μ-loop
 loop-less c = omega arith
 
 loop-again : tie.Need-loop-again Inv-loop μ-loop
-loop-again c = one-entered (c .before .before .before .before .before .before .before .before .pre .0 .in-bounds) (c .before .before .before .before .before .before .before .before .pre .1) (c .before .before .before .before .before .before .before .loop .inv) (c .before .before .before .before .before .before .loop-test .taken) _ (number-is (c .before .before .before .before)) (c .enter .ensures)
+loop-again c = one-entered (c .before .before .before .before .before .before .before .before .before .pre .0 .in-bounds) (c .before .before .before .before .before .before .before .before .before .pre .1) (c .before .before .before .before .before .before .before .before .loop .inv) (c .before .before .before .before .before .before .before .loop-test .taken) _ (number-is (c .before .before .before .before .before)) (small (c .before .before .before .before .before)) (c .enter .ensures)
 
 returns : tie.Need-returns Inv-loop μ-loop
 returns c = all-entered (c .before .before .pre .0 .in-bounds) (c .before .before .pre .1) (c .before .loop .inv) (c .loop-test .left)

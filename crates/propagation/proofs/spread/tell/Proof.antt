@@ -1,11 +1,11 @@
 -- `tell`: the rules in the row are still to be told; each one taken leaves fewer.
-use Prim.Native.Nat.{_<_}
+use Prim.Native.Nat.{_/_, _<_}
 use native.Mathlib.Omega.{arith}
 use borrow.Author.Needs.{needs}
 use Rattle.items.specs.Item.{maxRules}
-use Rattle.bits.specs.Flags.{total}
 use Rattle.tables.specs.Layout.{programIn}
 use Rattle.tables.proofs.ProgramHeld.{rules-below}
+use Rattle.bits.specs.Flags.{wordBits, total, NoneBefore}
 use Rattle.index.specs.Cells.{onIn}
 use Rattle.propagation.specs.State.{Onward}
 use Rattle.propagation.proofs.LiteralsTold.{nothing-yet, Telling, none-told, all-told, RuleTold, one-taken, turn-on, turn-concluded}
@@ -13,36 +13,40 @@ use Rattle.propagation.proofs.spread.tell.Statement.{statement}
 use Rattle.propagation.proofs.spread.tell.Tie as tie
 
 abbrev Inv-loop : tie.InvT-loop
-Inv-loop tables index literal marks₀ missing₀ stack₀ top left₀ top₀ marks missing stack left top' =
-    Telling (programIn tables) (onIn index) left marks missing stack top' × Onward marks₀ top marks top'
+Inv-loop tables index literal marks₀ missing₀ stack₀ top left₀ from₀ top₀ marks missing stack left from top' =
+    Telling (programIn tables) (onIn index) left marks missing stack top' × Onward marks₀ top marks top' × NoneBefore from left
 
 abbrev μ-loop : tie.MeasureT-loop
-μ-loop tables index literal marks₀ missing₀ stack₀ top left₀ top₀ marks missing stack left top' = total left
+μ-loop tables index literal marks₀ missing₀ stack₀ top left₀ from₀ top₀ marks missing stack left from top' = total left
 
 -- the rule taken
-rule-told : (c : tie.After-known-told Inv-loop μ-loop) → RuleTold (c .before .before .before .before .before .loop .inv .0) (c .before .before .before .take .ensures .1) (rules-below (c .before .before .before .before .before .before .before .before .pre .0 .0 .well-formed)) (c .before .rule .given .0 .0) (c .before .rule .given .1)
-rule-told c = one-taken (c .before .before .before .before .before .loop .inv .0) (c .before .before .before .take .ensures .1) (rules-below (c .before .before .before .before .before .before .before .before .pre .0 .0 .well-formed)) (c .before .rule .given .0 .0) (c .before .rule .given .1)
+rule-told : (c : tie.After-known-told Inv-loop μ-loop) → RuleTold (c .before .before .before .before .before .loop .inv .0) (c .before .before .before .take-from .ensures .1 .0) (rules-below (c .before .before .before .before .before .before .before .before .pre .0 .0 .well-formed)) (c .before .rule .given .0 .0) (c .before .rule .given .1)
+rule-told c = one-taken (c .before .before .before .before .before .loop .inv .0) (c .before .before .before .take-from .ensures .1 .0) (rules-below (c .before .before .before .before .before .before .before .before .pre .0 .0 .well-formed)) (c .before .rule .given .0 .0) (c .before .rule .given .1)
 
 in-table : (c : tie.After-known-told Inv-loop μ-loop) → c .before .rule .given .0 .0 < maxRules
-in-table c = c .before .before .before .take .ensures .0 .inside _ (c .before .rule .given .1)
+in-table c = c .before .before .before .take-from .ensures .0 .inside _ (c .before .rule .given .1)
 
-falls : (c : tie.After-known-told Inv-loop μ-loop) → total (c .before .before .before .take .last .0) < total (c .before .before .before .before .before .loop .left)
-falls c = c .before .before .before .take .ensures .0 .less _ (c .before .rule .given .1)
+falls : (c : tie.After-known-told Inv-loop μ-loop) → total (c .before .before .before .take-from .last .0) < total (c .before .before .before .before .before .loop .left)
+falls c = c .before .before .before .take-from .ensures .0 .less _ (c .before .rule .given .1)
+
+-- no word before that of the rule taken has a bit left
+before-there : (c : tie.After-known-told Inv-loop μ-loop) → NoneBefore (c .before .rule .given .0 .0 / wordBits) (c .before .before .before .take-from .last .0)
+before-there c = c .before .before .before .take-from .ensures .1 .1 _ (c .before .rule .given .1)
 
 row-of-requires : tie.Need-row-of-requires Inv-loop μ-loop
 row-of-requires c κs = omega (arith, c .before .pre .0 .1, c .row-of-arg .given .0)
 
 loop-holds : tie.Need-loop-holds Inv-loop μ-loop
-loop-holds c = (none-told (c .before .before .pre .0 .0 .indexed) _ (c .row-of .ensures) (c .before .before .pre .0 .1) (c .before .before .pre .1), nothing-yet _ _)
+loop-holds c = (none-told (c .before .before .pre .0 .0 .indexed) _ (c .row-of .ensures) (c .before .before .pre .0 .1) (c .before .before .pre .1), nothing-yet _ _, λ k h. absurd (omega arith))
 
-take-requires : tie.Need-take-requires Inv-loop μ-loop
-take-requires c κs = search needs
+take-from-requires : tie.Need-take-from-requires Inv-loop μ-loop
+take-from-requires c κs = c .before .loop .inv .2
 
 enum-told : tie.Need-enum-told Inv-loop μ-loop
 enum-told c = search needs
 
 returns : tie.Need-returns Inv-loop μ-loop
-returns c = (all-told (c .before .before .before .before .loop .inv .0) (c .before .before .take .ensures .1) (c .enum-told .given .1), c .before .before .before .before .loop .inv .1)
+returns c = (all-told (c .before .before .before .before .loop .inv .0) (c .before .before .take-from .ensures .1 .0) (c .enum-told .given .1), c .before .before .before .before .loop .inv .1)
 
 enum-known-rule : tie.Need-enum-known-rule Inv-loop μ-loop
 enum-known-rule c = search needs
@@ -72,13 +76,13 @@ loop-less : tie.Need-loop-less Inv-loop μ-loop
 loop-less c = falls (c .before .before .before .before .before .before)
 
 loop-again : tie.Need-loop-again Inv-loop μ-loop
-loop-again c = turn-concluded _ _ _ _ _ (rule-told (c .before .before .before .before .before .before)) (c .before .before .before .before .before .before .before .before .before .before .before .loop .inv .1) (c .before .before .before .if1 .taken) _ _ _ (c .conclude .ensures)
+loop-again c = let t = turn-concluded _ _ _ _ _ (rule-told (c .before .before .before .before .before .before)) (c .before .before .before .before .before .before .before .before .before .before .before .loop .inv .1) (c .before .before .before .if1 .taken) _ _ _ (c .conclude .ensures) in (t .0, t .1, before-there (c .before .before .before .before .before .before))
 
 loop-less-2 : tie.Need-loop-less-2 Inv-loop μ-loop
 loop-less-2 c = falls (c .before .before .before)
 
 loop-again-2 : tie.Need-loop-again-2 Inv-loop μ-loop
-loop-again-2 c = turn-on _ _ _ _ _ (rule-told (c .before .before .before)) (c .before .before .before .before .before .before .before .before .loop .inv .1) (c .if1 .left)
+loop-again-2 c = let t = turn-on _ _ _ _ _ (rule-told (c .before .before .before)) (c .before .before .before .before .before .before .before .before .loop .inv .1) (c .if1 .left) in (t .0, t .1, before-there (c .before .before .before))
 
 pub tell-spec : {M : Type 1} → statement M
 tell-spec =
@@ -88,7 +92,7 @@ tell-spec =
     μ-loop
     row-of-requires
     loop-holds
-    take-requires
+    take-from-requires
     enum-told
     returns
     enum-known-rule

@@ -4,9 +4,9 @@ use mathlib.Core.Path.{_≡_, sym, ap, _∙_}
 use mathlib.Core.Bool.{Bool, false, not}
 use mathlib.Core.List.{List}
 use native.Mathlib.Omega.{arith}
-use denote.Ref.{now}
 use borrow.Author.Needs.{needs}
 use borrow.Author.Tests.{eq-eqb, ne-eqb}
+use denote.Ref.{now}
 use lib.ListN.{getD}
 use Rattle.theory.specs.Rule.{all, clear, count, rule}
 use Rattle.theory.specs.Run.{Stand}
@@ -17,34 +17,34 @@ use Rattle.tables.proofs.ProgramHeld.{facts-below, conclusion-below}
 use Rattle.tables.proofs.PartsSpanned.{within, Testing, none-tested, all-tested, test-fails, test-passes}
 use Rattle.bits.specs.Flags.{total}
 use Rattle.stage.specs.Look.{Looking}
-use Rattle.stage.proofs.FirstFound.{Onward, Turn, turn, none-found, held-room, mark-in, mark-out, mark-barred, concluded, rejected-already, constraint-met}
+use Rattle.stage.proofs.FirstFound.{Onward, Turn, turn, none-found, held-room, resting, mark-in, mark-out, mark-barred, concluded, rejected-already, constraint-met}
 use Rattle.stage.proofs.eligible.first_eligible.Statement.{statement}
 use Rattle.stage.proofs.eligible.first_eligible.Tie as tie
 
 abbrev Inv-loop : tie.InvT-loop
-Inv-loop tables row plain marks fired count awake place rule f end at₀ at =
+Inv-loop tables row index marks missing fired count awake place rule f end at₀ at =
     Testing (λ k. not (has marks k)) (span (constraintAt tables) at₀ end) (constraintAt tables) at₀ end at
 
 abbrev μ-loop : tie.MeasureT-loop
-μ-loop tables row plain marks fired count awake place rule f end at₀ at = end - at
+μ-loop tables row index marks missing fired count awake place rule f end at₀ at = end - at
 
 abbrev Inv-rules : tie.InvT-rules
-Inv-rules tables row plain marks₀ fired₀ count awake₀ marks fired awake = Onward (programIn tables) row marks₀ fired₀ count awake₀ marks fired awake
+Inv-rules tables row index marks₀ missing₀ fired₀ count awake₀ marks missing fired awake = Onward (programIn tables) row marks₀ missing₀ fired₀ count awake₀ marks missing fired awake
 
 abbrev μ-rules : tie.MeasureT-rules
-μ-rules tables row plain marks₀ fired₀ count awake₀ marks fired awake = total awake
+μ-rules tables row index marks₀ missing₀ fired₀ count awake₀ marks missing fired awake = total awake
 
 -- once a place is taken
 fell : (c : tie.After-known-told Inv-loop μ-loop Inv-rules μ-rules) → (c .before .lowest .given .0 .0 < maxRules) × (total (c .before .before .before .take .last .0) < total (c .before .before .before .before .before .rules .awake))
 fell c = let f = c .before .before .before .take .ensures .0 in (f .inside _ (c .before .lowest .given .1), f .less _ (c .before .lowest .given .1))
 
-on-turn : (c : tie.After-known-told Inv-loop μ-loop Inv-rules μ-rules) (order : List ℕ) (s : Stand) (p : ℕ → Bool) → Looking (programIn (now (c .before .before .before .before .before .before .args .tables))) (now (c .before .before .before .before .before .before .args .row)) order (now (c .before .before .before .before .before .before .args .marks)) (now (c .before .before .before .before .before .before .args .fired)) (c .before .before .before .before .before .before .args .count) (now (c .before .before .before .before .before .before .args .awake)) s p → Turn (programIn (now (c .before .before .before .before .before .before .args .tables))) (now (c .before .before .before .before .before .before .args .row)) order (c .before .before .before .before .before .rules .marks) (c .before .before .before .before .before .rules .fired) (c .before .before .before .before .before .before .args .count) (c .before .before .before .take .last .0) s (c .before .lowest .given .0 .0)
+on-turn : (c : tie.After-known-told Inv-loop μ-loop Inv-rules μ-rules) (order : List ℕ) (s : Stand) (p : ℕ → Bool) → Looking (programIn (now (c .before .before .before .before .before .before .args .tables))) (now (c .before .before .before .before .before .before .args .row)) order (now (c .before .before .before .before .before .before .args .marks)) (now (c .before .before .before .before .before .before .args .missing)) (now (c .before .before .before .before .before .before .args .fired)) (c .before .before .before .before .before .before .args .count) (now (c .before .before .before .before .before .before .args .awake)) s p → Turn (programIn (now (c .before .before .before .before .before .before .args .tables))) (now (c .before .before .before .before .before .before .args .row)) order (c .before .before .before .before .before .rules .marks) (c .before .before .before .before .before .rules .missing) (c .before .before .before .before .before .rules .fired) (c .before .before .before .before .before .before .args .count) (c .before .before .before .take .last .0) s (c .before .lowest .given .0 .0)
 on-turn c order s p w =
     let v = c .before .before .before .before .before .rules .inv order s p w in
     turn (v .1) (facts-below (c .before .before .before .before .before .before .pre .0)) (c .before .before .before .take .ensures .1 (v .0) (v .1 .flags)) (c .before .lowest .given .1)
 
 -- at the stand that is held
-here : (c : tie.After-known-told Inv-loop μ-loop Inv-rules μ-rules) → Turn (programIn (now (c .before .before .before .before .before .before .args .tables))) (now (c .before .before .before .before .before .before .args .row)) (c .before .before .before .before .before .before .pre .1 .1 .order) (c .before .before .before .before .before .rules .marks) (c .before .before .before .before .before .rules .fired) (c .before .before .before .before .before .before .args .count) (c .before .before .before .take .last .0) (c .before .before .before .before .before .before .pre .1 .1 .at) (c .before .lowest .given .0 .0)
+here : (c : tie.After-known-told Inv-loop μ-loop Inv-rules μ-rules) → Turn (programIn (now (c .before .before .before .before .before .before .args .tables))) (now (c .before .before .before .before .before .before .args .row)) (c .before .before .before .before .before .before .pre .1 .1 .order) (c .before .before .before .before .before .rules .marks) (c .before .before .before .before .before .rules .missing) (c .before .before .before .before .before .rules .fired) (c .before .before .before .before .before .before .args .count) (c .before .before .before .take .last .0) (c .before .before .before .before .before .before .pre .1 .1 .at) (c .before .lowest .given .0 .0)
 here c = on-turn c _ _ _ (c .before .before .before .before .before .before .pre .1 .1 .looking)
 
 -- once its rule's conclusion is read
@@ -70,11 +70,11 @@ enum-known-lowest c = search needs
 enum-told : tie.Need-enum-told Inv-loop μ-loop Inv-rules μ-rules
 enum-told c = search needs
 
-mul-t21 : tie.Need-mul-t21 Inv-loop μ-loop Inv-rules μ-rules
-mul-t21 c = omega (arith, fell c .0)
+mul-t22 : tie.Need-mul-t22 Inv-loop μ-loop Inv-rules μ-rules
+mul-t22 c = omega (arith, fell c .0)
 
-element-copy-out-t24 : tie.Need-element-copy-out-t24 Inv-loop μ-loop Inv-rules μ-rules
-element-copy-out-t24 c = fell c .0
+element-copy-out-t25 : tie.Need-element-copy-out-t25 Inv-loop μ-loop Inv-rules μ-rules
+element-copy-out-t25 c = fell c .0
 
 conclusion-requires : tie.Need-conclusion-requires Inv-loop μ-loop Inv-rules μ-rules
 conclusion-requires c κs = (c .before .before .before .before .before .before .before .pre .0, here (c .before) .known)
@@ -89,7 +89,7 @@ rules-less : tie.Need-rules-less Inv-loop μ-loop Inv-rules μ-rules
 rules-less c = fell (c .before .before .before .before .before) .1
 
 rules-again : tie.Need-rules-again Inv-loop μ-loop Inv-rules μ-rules
-rules-again c = λ order s p w. let t = on-turn (c .before .before .before .before .before) order s p w in t .refused (concluded (t .holds) _ (mark-in _ (c .before .before .before .conclusion .ensures) (c .if1 .taken))) _ _ (t .holds)
+rules-again c = λ order s p w. let t = on-turn (c .before .before .before .before .before) order s p w in t .refused (concluded (t .holds) _ (mark-in _ (c .before .before .before .conclusion .ensures) (c .if1 .taken))) _ _ _ (t .holds) (t .rests)
 
 element-copy-out-if2 : tie.Need-element-copy-out-if2 Inv-loop μ-loop Inv-rules μ-rules
 element-copy-out-if2 c = few-facts (c .before .before .before)
@@ -98,7 +98,7 @@ rules-less-2 : tie.Need-rules-less-2 Inv-loop μ-loop Inv-rules μ-rules
 rules-less-2 c = fell (c .before .before .before .before .before .before .before) .1
 
 rules-again-2 : tie.Need-rules-again-2 Inv-loop μ-loop Inv-rules μ-rules
-rules-again-2 c = λ order s p w. let t = on-turn (c .before .before .before .before .before .before .before) order s p w in t .refused (rejected-already (t .holds) _ (mark-barred _ (c .before .before .before .before .before .conclusion .ensures) (c .if2 .taken))) _ _ (t .holds)
+rules-again-2 c = λ order s p w. let t = on-turn (c .before .before .before .before .before .before .before) order s p w in t .refused (rejected-already (t .holds) _ (mark-barred _ (c .before .before .before .before .before .conclusion .ensures) (c .if2 .taken))) _ _ _ (t .holds) (t .rests)
 
 constraint-span-requires : tie.Need-constraint-span-requires Inv-loop μ-loop Inv-rules μ-rules
 constraint-span-requires c κs = (c .before .before .before .before .before .before .before .before .before .before .before .before .before .pre .0, here (c .before .before .before .before .before .before .before) .known)
@@ -118,7 +118,7 @@ rules-less-3 : tie.Need-rules-less-3 Inv-loop μ-loop Inv-rules μ-rules
 rules-less-3 c = fell (c .before .before .before .before .before .before .before .before .before .before .before .before .before) .1
 
 rules-again-3 : tie.Need-rules-again-3 Inv-loop μ-loop Inv-rules μ-rules
-rules-again-3 c = λ order s p w. let t = on-turn (c .before .before .before .before .before .before .before .before .before .before .before .before .before) order s p w in t .refused (constraint-met (t .holds) _ (met c)) _ _ (t .holds)
+rules-again-3 c = λ order s p w. let t = on-turn (c .before .before .before .before .before .before .before .before .before .before .before .before .before) order s p w in t .refused (constraint-met (t .holds) _ (met c)) _ _ _ (t .holds) (t .rests)
 
 add-at : tie.Need-add-at Inv-loop μ-loop Inv-rules μ-rules
 add-at c = omega (arith, c .before .before .before .before .before .constraint-span .ensures .high)
@@ -132,16 +132,19 @@ loop-again c = test-passes (c .before .before .before .before .loop .inv) (c .be
 
 trial-requires : tie.Need-trial-requires Inv-loop μ-loop Inv-rules μ-rules
 trial-requires c κs =
-    let p = c .before .before .before .before .before .before .before .before .before .before .before .before .before .before .before .before .before .before .pre in
-    let t = here (c .before .before .before .before .before .before .before .before .before .before .before .before) in (
+    let p = c .before .before .before .before .before .before .before .before .before .before .before .before .before .before .before .before .before .before .before .pre in
+    let t = here (c .before .before .before .before .before .before .before .before .before .before .before .before .before) in (
       (p .0, t .known),
       (
         p .1 .0,
         (
           (held-room (facts-below (p .0)) (t .holds), t .holds .fired-places),
           (
-            mark-out _ (c .before .before .before .before .before .before .before .before .before .before .conclusion .ensures) (c .before .before .before .before .before .before .before .if1 .left),
-            ap (all _) (c .before .before .before .before .constraint-span .ensures .is) ∙ sym (all-tested (c .before .before .before .loop .inv) (c .before .before .loop-test .left)),
+            (
+              mark-out _ (c .before .before .before .before .before .before .before .before .before .before .before .conclusion .ensures) (c .before .before .before .before .before .before .before .before .if1 .left),
+              ap (all _) (c .before .before .before .before .before .constraint-span .ensures .is) ∙ sym (all-tested (c .before .before .before .before .loop .inv) (c .before .before .before .loop-test .left)),
+            ),
+            resting (p .1 .0 .1) (t .holds) (t .rests),
           ),
         ),
       ),
@@ -154,14 +157,14 @@ enum-told-2 : tie.Need-enum-told-2 Inv-loop μ-loop Inv-rules μ-rules
 enum-told-2 c = search needs
 
 rules-less-4 : tie.Need-rules-less-4 Inv-loop μ-loop Inv-rules μ-rules
-rules-less-4 c = fell (c .before .before .before .before .before .before .before .before .before .before .before .before .before .before .before) .1
+rules-less-4 c = fell (c .before .before .before .before .before .before .before .before .before .before .before .before .before .before .before .before) .1
 
 rules-again-4 : tie.Need-rules-again-4 Inv-loop μ-loop Inv-rules μ-rules
 rules-again-4 c =
     λ order s p w.
-    let t = on-turn (c .before .before .before .before .before .before .before .before .before .before .before .before .before .before .before) order s p w in
-    let f = rw (c .enum-told2 .given .1) at (c .before .before .trial .ensures .0 s (t .holds) (t .premises-in) (t .excepted)) in
-    t .refused (f .not-eligible) _ _ (f .holds)
+    let t = on-turn (c .before .before .before .before .before .before .before .before .before .before .before .before .before .before .before .before) order s p w in
+    let f = rw (c .enum-told2 .given .1) at (c .before .before .trial .ensures s (t .holds) (t .premises-in) (t .excepted)) in
+    t .refused (f .not-eligible) _ _ _ (f .holds) (f .rests)
 
 returns : tie.Need-returns Inv-loop μ-loop Inv-rules μ-rules
 returns c = λ order s p w. let v = c .before .before .before .before .rules .inv order s p w in none-found (v .1) _ (c .before .before .take .ensures .1 (v .0) (v .1 .flags)) (c .enum-told .given .1)
@@ -169,8 +172,8 @@ returns c = λ order s p w. let v = c .before .before .before .before .rules .in
 returns-2 : tie.Need-returns-2 Inv-loop μ-loop Inv-rules μ-rules
 returns-2 c =
     λ order s p w.
-    let t = on-turn (c .before .before .before .before .before .before .before .before .before .before .before .before .before .before .before .before) order s p w in
-    t .passes _ _ _ (rw (c .before .steps .given .1) at (c .before .before .before .trial .ensures .0 s (t .holds) (t .premises-in) (t .excepted)))
+    let t = on-turn (c .before .before .before .before .before .before .before .before .before .before .before .before .before .before .before .before .before) order s p w in
+    t .passes _ _ _ _ (rw (c .before .steps .given .1) at (c .before .before .before .trial .ensures s (t .holds) (t .premises-in) (t .excepted)))
 
 pub first-eligible-spec : {M : Type 1} → statement M
 first-eligible-spec =
@@ -184,8 +187,8 @@ first-eligible-spec =
     take-requires
     enum-known-lowest
     enum-told
-    mul-t21
-    element-copy-out-t24
+    mul-t22
+    element-copy-out-t25
     conclusion-requires
     cast-f
     element-copy-out-if1
