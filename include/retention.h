@@ -36,8 +36,8 @@
  *   - In a lent buffer the bytes past those written keep their contents.
  *   - Nothing is kept between calls, and nothing is allocated for the caller.
  *   - The stack that a call needs on x86-64, as measured: retention_accept and
- *     retention_check 37 KB, retention_run and retention_judge 77 KB,
- *     retention_panel 121 KB, retention_search 151 KB.
+ *     retention_check 37 KB, retention_grounds 76 KB, retention_judge 77 KB,
+ *     retention_run 78 KB, retention_panel 121 KB, retention_search 151 KB.
  *
  * Refusals
  *
@@ -79,6 +79,9 @@
  *   the search
  *   40  At most 16 constraint facts?
  *   41  Is there a stable set?
+ *
+ *   the grounds of a fact
+ *   50  Did the run derive the fact? (a number not below the count gets no)
  */
 #ifndef RETENTION_H
 #define RETENTION_H
@@ -94,6 +97,11 @@ extern "C" {
 typedef struct {
     uint32_t refusal, stages, steps;
 } retention_counts;
+
+/* The count of the steps that were kept. */
+typedef struct {
+    uint32_t refusal, count;
+} retention_count;
 
 /* An answer: verdict 1 for stable or yes, 0 for not. */
 typedef struct {
@@ -157,6 +165,23 @@ retention_counts retention_search(const uint8_t *file, size_t file_len,
                                   uint8_t *rule_marks, size_t rule_marks_len,
                                   uint8_t *steps, size_t steps_len,
                                   uint8_t *order, size_t order_len);
+
+/*
+ * The grounds of one fact: runs the file under the order as retention_run does,
+ * and writes the marks of that run, but of its steps only those that the fact
+ * rests on, and returns their count. These are the fact's own step and, with a
+ * step, the step of each premise of its rule. They stand in their old order, and
+ * the bytes past them keep their contents: no other step is written. They are a
+ * proof of the fact that the set of the facts marked 1 admits, and no proof of
+ * it uses only some of their rules.
+ * Questions: 1 to 14, 31 to 33, 50.
+ */
+retention_count retention_grounds(const uint8_t *file, size_t file_len,
+                                  const uint8_t *order, size_t order_len,
+                                  uint32_t fact,
+                                  uint8_t *fact_marks, size_t fact_marks_len,
+                                  uint8_t *rule_marks, size_t rule_marks_len,
+                                  uint8_t *steps, size_t steps_len);
 
 /*
  * Writes what the panel program prints for the file, and returns the length of

@@ -56,6 +56,19 @@ static outcome search(const uint8_t *file, size_t file_len)
     return result;
 }
 
+/* The counts hold the refusal and, for the steps, the count of those kept. */
+static outcome grounds(const uint8_t *file, size_t file_len, const uint8_t *order,
+                       size_t order_len, uint32_t fact)
+{
+    outcome result = untouched();
+    retention_count kept = retention_grounds(file, file_len, order, order_len, fact,
+                                             result.fact_marks, sizeof result.fact_marks,
+                                             result.rule_marks, sizeof result.rule_marks,
+                                             result.steps, sizeof result.steps);
+    result.counts = (retention_counts){kept.refusal, 0, kept.count};
+    return result;
+}
+
 /* The buffer holds the bytes, and past them what it held before the call. */
 static int holds(const uint8_t *buffer, size_t buffer_len, const uint8_t *bytes, size_t len)
 {
@@ -295,6 +308,24 @@ static int attempts_fail(const uint8_t *file, size_t len, const outcome *found,
     return 1;
 }
 
+/* It says yes to the grounds of each fact in the set, and no to them without their first
+   step; a fact outside has none. */
+static int grounds_pass(const uint8_t *file, size_t len, const outcome *found, size_t order_len,
+                        const uint8_t *set, size_t facts)
+{
+    for (uint32_t fact = 0; fact < facts; fact++) {
+        outcome kept = grounds(file, len, found->order, order_len, fact);
+        size_t row = 4 * (size_t)kept.counts.steps;
+        if (set[fact] == 0 && !refused(&kept, 50))
+            return 0;
+        if (set[fact] == 1 && (kept.counts.refusal != 0
+            || !says(retention_check(file, len, set, facts, fact, kept.steps, row), 1)
+            || !says(retention_check(file, len, set, facts, fact, kept.steps + 4, row - 4), 0)))
+            return 0;
+    }
+    return 1;
+}
+
 /* What a caller does with the answer of a search: all of it from its buffers. */
 static void as_a_caller(const uint8_t *file, size_t len, const char *name)
 {
@@ -311,6 +342,8 @@ static void as_a_caller(const uint8_t *file, size_t len, const char *name)
     expect(rows_pass(file, len, &found, set, counts.facts), what);
     snprintf(what, sizeof what, "%s: no other fact has one", name);
     expect(attempts_fail(file, len, &found, set, counts.facts, counts.rules), what);
+    snprintf(what, sizeof what, "%s: each of its facts has its grounds, no other has any", name);
+    expect(grounds_pass(file, len, &found, 3 * (size_t)counts.exceptions, set, counts.facts), what);
     outcome again = run(file, len, found.order, 3 * (size_t)counts.exceptions);
     snprintf(what, sizeof what, "%s: the run under its order leaves the same bytes", name);
     expect(counted(&again, found.counts.stages, found.counts.steps)
@@ -330,6 +363,28 @@ static void callers(void)
     as_a_caller(C, sizeof C, "C");
     as_a_caller(TWO_STABLE, sizeof TWO_STABLE, "example 3.1");
     as_a_caller(large, constrained(large, 16), "512 rules, 16 constraint facts");
+}
+
+/* Of the steps (0,0) (2,2) (1,1) (4,4) three matter for fact 4. */
+static void shorter_grounds(void)
+{
+    outcome kept = grounds(TWO_STABLE, sizeof TWO_STABLE,
+                           BYTES(5, 0, 2, 5, 0, 3, 5, 0, 4, 5, 0, 5), 4);
+    expect(counted(&kept, 0, 3) && HOLDS(kept.fact_marks, BYTES(1, 1, 1, 2, 1, 2))
+               && HOLDS(kept.rule_marks, BYTES(0, 0, 1, 3, 1, 3))
+               && HOLDS(kept.steps, BYTES(6, 0, 0, 0, 6, 2, 0, 2, 6, 4, 0, 4)),
+           "example 3.1: three steps are the grounds of 4");
+    kept = grounds(TWO_STABLE, sizeof TWO_STABLE, BYTES(5, 0, 2, 5, 0, 3, 5, 0, 4, 5, 0, 5), 5);
+    expect(refused(&kept, 50), "example 3.1: 5 is not derived, 50");
+    kept = grounds(A, sizeof A, BYTES(5, 0, 2, 5, 0, 1), 0);
+    expect(counted(&kept, 0, 1) && HOLDS(kept.fact_marks, BYTES(1, 2, 1, 1))
+               && HOLDS(kept.rule_marks, BYTES(0, 3, 1, 0))
+               && HOLDS(kept.steps, BYTES(6, 0, 0, 0)),
+           "A: one step is the ground of 0");
+    kept = grounds(A, sizeof A, BYTES(5, 0, 2, 5, 0, 1), 256);
+    expect(refused(&kept, 50), "A: 256 is no fact, 50");
+    kept = grounds(A, sizeof A, BYTES(5, 0, 2), 256);
+    expect(refused(&kept, 14), "A: the order is asked before the fact, 14");
 }
 
 static int prints(const uint8_t *file, size_t len, const char *text)
@@ -359,6 +414,7 @@ int main(void)
     examples_d_e_f();
     files();
     callers();
+    shorter_grounds();
     panel();
     printf("%d failed\n", failures);
     return failures == 0 ? 0 : 1;

@@ -8,21 +8,43 @@
 #include <stdlib.h>
 #include <string.h>
 
-enum { STACK = 1 << 20, PAINT = 0x5A, MOST_FACTS = 255, MOST_RULES = 512, PAIRS = 16 };
+enum {
+    STACK = 1 << 20,
+    PAINT = 0x5A,
+    MOST_FACTS = 255,
+    MOST_RULES = 512,
+    PAIRS = 16,
+    MOST_PREMISES = 60
+};
 
-static uint8_t file[8192], order[3 * MOST_RULES], found[3 * MOST_RULES];
+static uint8_t file[32767], order[3 * MOST_RULES], found[3 * MOST_RULES];
 static uint8_t fact_marks[MOST_FACTS], rule_marks[MOST_RULES], steps[4 * MOST_FACTS];
 static uint8_t set[MOST_FACTS], text[8192];
 static size_t file_len, order_len, proof_len;
+static uint32_t asked;
 static volatile uint32_t reply;
+
+static uint8_t *begin_file(void)
+{
+    file[0] = 0x10;
+    file[1] = MOST_FACTS;
+    order_len = 0;
+    return file + 2;
+}
+
+static void end_file(uint8_t *at, int rules)
+{
+    *at++ = 0x1F;
+    *at++ = (uint8_t)(rules >> 8);
+    *at++ = (uint8_t)rules;
+    file_len = (size_t)(at - file);
+}
 
 /* Facts that exclude each other in pairs, and a chain from each of them: all constraint
    facts are guessed, one within another. */
-static void make_file(void)
+static void make_pairs(void)
 {
-    uint8_t *at = file;
-    *at++ = 0x10;
-    *at++ = MOST_FACTS;
+    uint8_t *at = begin_file();
     for (int rule = 0; rule < MOST_RULES; rule++) {
         *at++ = 0x01;
         if (rule < PAIRS) {
@@ -38,10 +60,29 @@ static void make_file(void)
             *at++ = (uint8_t)(rule % PAIRS);
         }
     }
-    *at++ = 0x1F;
-    *at++ = MOST_RULES >> 8;
-    *at++ = MOST_RULES & 0xFF;
-    file_len = (size_t)(at - file);
+    end_file(at, MOST_RULES);
+    asked = 0;
+}
+
+/* Each fact from many before it, the nearest as the first premise and as the last: the
+   grounds of the last fact go as deep as there are facts. */
+static void make_stairs(void)
+{
+    uint8_t *at = begin_file();
+    for (int fact = 0; fact < MOST_FACTS; fact++) {
+        *at++ = 0x01;
+        *at++ = (uint8_t)fact;
+        for (int below = 1; below <= fact && below <= MOST_PREMISES; below++) {
+            *at++ = 0x02;
+            *at++ = (uint8_t)(fact - below);
+        }
+        if (fact > 0) {
+            *at++ = 0x02;
+            *at++ = (uint8_t)(fact - 1);
+        }
+    }
+    end_file(at, MOST_FACTS);
+    asked = MOST_FACTS - 1;
 }
 
 static void *nothing(void *unused)
@@ -95,6 +136,15 @@ static void *panel(void *unused)
     return unused;
 }
 
+static void *grounds(void *unused)
+{
+    retention_count kept = retention_grounds(file, file_len, order, order_len, asked,
+                                             fact_marks, sizeof fact_marks, rule_marks,
+                                             sizeof rule_marks, steps, sizeof steps);
+    reply = kept.refusal;
+    return unused;
+}
+
 static size_t used(void *(*call)(void *))
 {
     pthread_t thread;
@@ -119,12 +169,18 @@ int main(void)
     static const struct {
         const char *name;
         void *(*call)(void *);
-    } functions[] = {{"retention_accept", accept}, {"retention_run", run},
-                     {"retention_judge", judge},   {"retention_check", check},
-                     {"retention_search", search}, {"retention_panel", panel}};
-    make_file();
+        void (*make)(void);
+    } functions[] = {{"retention_accept", accept, make_pairs},
+                     {"retention_run", run, make_pairs},
+                     {"retention_judge", judge, make_pairs},
+                     {"retention_check", check, make_pairs},
+                     {"retention_search", search, make_pairs},
+                     {"retention_panel", panel, make_pairs},
+                     {"retention_grounds", grounds, make_pairs},
+                     {"retention_grounds", grounds, make_stairs}};
     size_t own = used(nothing);
     for (size_t n = 0; n < sizeof functions / sizeof functions[0]; n++) {
+        functions[n].make();
         size_t needed = used(functions[n].call) - own;
         if (reply != 0) {
             printf("FAIL %s refused with %u\n", functions[n].name, (unsigned)reply);

@@ -24,6 +24,12 @@ struct VerdictReply {
     verdict: u32,
 }
 
+#[repr(C)]
+struct CountReply {
+    refusal: u32,
+    count: u32,
+}
+
 unsafe extern "C" {
     fn retention_accept(file: *const u8, file_len: usize) -> FileReply;
     fn retention_run(
@@ -68,6 +74,19 @@ unsafe extern "C" {
         order_len: usize,
     ) -> CountsReply;
     fn retention_panel(file: *const u8, file_len: usize, out: *mut u8, out_len: usize) -> u32;
+    fn retention_grounds(
+        file: *const u8,
+        file_len: usize,
+        order: *const u8,
+        order_len: usize,
+        fact: u32,
+        fact_marks: *mut u8,
+        fact_marks_len: usize,
+        rule_marks: *mut u8,
+        rule_marks_len: usize,
+        steps: *mut u8,
+        steps_len: usize,
+    ) -> CountReply;
 }
 
 // Each call below hands over slices with their own lengths. They are valid for
@@ -157,4 +176,30 @@ pub fn search(
 
 pub fn panel(file: &[u8], out: &mut [u8]) -> u32 {
     unsafe { retention_panel(file.as_ptr(), file.len(), out.as_mut_ptr(), out.len()) }
+}
+
+pub fn grounds(
+    file: &[u8],
+    order: &[u8],
+    asked: u32,
+    fact_marks: &mut [u8],
+    rule_marks: &mut [u8],
+    steps: &mut [u8],
+) -> [u32; 2] {
+    let reply = unsafe {
+        retention_grounds(
+            file.as_ptr(),
+            file.len(),
+            order.as_ptr(),
+            order.len(),
+            asked,
+            fact_marks.as_mut_ptr(),
+            fact_marks.len(),
+            rule_marks.as_mut_ptr(),
+            rule_marks.len(),
+            steps.as_mut_ptr(),
+            steps.len(),
+        )
+    };
+    [reply.refusal, reply.count]
 }

@@ -1,9 +1,11 @@
 //! What a caller does with the answer of a search, as cases: the search; the
 //! check of the row for each fact in the set; for facts outside it a row that
-//! tries; and the run under the search's order, in equal buffers.
+//! tries; and the run under the search's order, in equal buffers. And what a caller
+//! does with grounds: the grounds of each fact that the run derives; the check of
+//! that row; and the check of what is left of it without any one step.
 //!
-//! The inputs of the checks and of the run come from the reference's search. If
-//! the engine's search agrees with it, they are what a caller reads from the
+//! The inputs of the checks and of the run come from the reference's search or
+//! grounds. If the engine's agree with them, they are what a caller reads from the
 //! engine's own buffers.
 
 use crate::cases::{Case, Operation, Reply};
@@ -32,15 +34,8 @@ pub fn cases(
     let mut cases = vec![Named::new(title("the search"), search, lent.fill, found.clone())?];
     let answer = Answer::of(&parsed, found);
     let rows = answer.rows().chain(answer.attempts(&parsed));
-    for Row { what, asked, steps, verdict } in rows {
-        let check = Case {
-            set: answer.set.clone(),
-            asked: asked as u32,
-            proof: steps,
-            ..Case::new(Operation::Check, file)
-        };
-        let expected = Reply { numbers: vec![0, u32::from(verdict)], buffers: vec![] };
-        cases.push(Named::new(title(&what), check, lent.fill, expected)?);
+    for row in rows {
+        cases.push(row.checked(title(&row.what), file, &answer.set)?);
     }
     let run = Case {
         rules: answer.order.clone(),
@@ -49,6 +44,69 @@ pub fn cases(
     };
     cases.push(Named::new(title("the run under its order"), run, lent.fill, answer.same_run)?);
     Ok(cases)
+}
+
+/// The cases of grounds under an order. The marks must be the run's.
+pub fn grounds(
+    name: &str,
+    file: &[u8],
+    order: &[u8],
+    lent: &Buffers,
+) -> Result<Vec<Named>, String> {
+    let title = |what: &str| format!("{name}, as a caller: {what}");
+    let run = Case {
+        rules: order.to_vec(),
+        lent: lent.lengths.clone(),
+        ..Case::new(Operation::Run, file)
+    };
+    let end = run.expected(|_| lent.fill);
+    let parsed = RuleFile::parse(file).map_err(|refusal| format!("{name}: {refusal:?}"))?;
+    let set: Vec<u8> = end.buffers[0].iter().take(parsed.facts).map(in_set).collect();
+    let mut cases = Vec::new();
+    for fact in (0..set.len()).filter(|&fact| set[fact] == 1) {
+        let call = Case { operation: Operation::Grounds, asked: fact as u32, ..run.clone() };
+        let found = call.expected(|_| lent.fill);
+        let kept = found.buffers[2][..STEP_BYTES * found.numbers[1] as usize].to_vec();
+        let mut expected = Reply { numbers: found.numbers, buffers: end.buffers.clone() };
+        expected.buffers[2].clone_from(&found.buffers[2]);
+        cases.push(Named::new(
+            title(&format!("the grounds of {fact}")),
+            call,
+            lent.fill,
+            expected,
+        )?);
+        for row in rows_of_grounds(fact, &kept) {
+            cases.push(row.checked(title(&row.what), file, &set)?);
+        }
+    }
+    if cases.is_empty() { Err(format!("{name}: nothing is derived")) } else { Ok(cases) }
+}
+
+/// The kept steps, which prove the fact, and all but one of them, which do not:
+/// "no proof of that fact uses only some of its rules".
+fn rows_of_grounds(fact: usize, kept: &[u8]) -> Vec<Row> {
+    let whole = Row {
+        what: format!("the row kept for {fact}"),
+        asked: fact,
+        steps: kept.to_vec(),
+        verdict: true,
+    };
+    let without = |number: usize| {
+        let place = STEP_BYTES * number;
+        Row {
+            what: format!("no row for {fact} without step {number}"),
+            asked: fact,
+            steps: [&kept[..place], &kept[place + STEP_BYTES..]].concat(),
+            verdict: false,
+        }
+    };
+    let shorter = (0..kept.len() / STEP_BYTES).map(without);
+    std::iter::once(whole).chain(shorter).collect()
+}
+
+/// What a mark says of its fact in the set that a caller hands to the check.
+fn in_set(&mark: &u8) -> u8 {
+    u8::from(mark == 1)
 }
 
 /// What a caller reads from the buffers of a search.
@@ -60,7 +118,7 @@ struct Answer {
     same_run: Reply,
 }
 
-/// A row for a fact, with the verdict that demand 3 gives it.
+/// A row for a fact, with the verdict that demand 3 or wish 1 gives it.
 struct Row {
     what: String,
     asked: usize,
@@ -68,12 +126,25 @@ struct Row {
     verdict: bool,
 }
 
+impl Row {
+    /// The check of the row in a set.
+    fn checked(&self, title: String, file: &[u8], set: &[u8]) -> Result<Named, String> {
+        let check = Case {
+            set: set.to_vec(),
+            asked: self.asked as u32,
+            proof: self.steps.clone(),
+            ..Case::new(Operation::Check, file)
+        };
+        let expected = Reply { numbers: vec![0, u32::from(self.verdict)], buffers: vec![] };
+        Named::new(title, check, 0, expected)
+    }
+}
+
 impl Answer {
     fn of(file: &RuleFile, found: Reply) -> Answer {
         let [fact_marks, _, steps, order] = &found.buffers[..] else {
             unreachable!("a search lends four buffers")
         };
-        let in_set = |&mark: &u8| u8::from(mark == 1);
         Answer {
             set: fact_marks[..file.facts].iter().map(in_set).collect(),
             steps: steps[..STEP_BYTES * found.numbers[2] as usize].to_vec(),

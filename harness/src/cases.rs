@@ -1,7 +1,7 @@
 //! Cases: one call of one operation, with its inputs and the lengths of the
 //! buffers it is lent, and the reply that the reference gives.
 
-use crate::draft::Draft;
+use crate::draft::{Draft, DraftRule};
 use crate::files::{random_draft, spoil_file};
 use crate::random::Random;
 use reference::{Counts, Lent, RULE_NUMBER_BYTES, Refusal, STEP_BYTES, kind};
@@ -18,10 +18,11 @@ pub enum Operation {
     AskList,
     AskSet,
     AskRow,
+    Grounds,
 }
 
 impl Operation {
-    pub const ALL: [Operation; 10] = [
+    pub const ALL: [Operation; 11] = [
         Operation::Accept,
         Operation::Run,
         Operation::Judge,
@@ -32,6 +33,7 @@ impl Operation {
         Operation::AskList,
         Operation::AskSet,
         Operation::AskRow,
+        Operation::Grounds,
     ];
 
     pub fn name(self) -> &'static str {
@@ -46,12 +48,21 @@ impl Operation {
             Operation::AskList => "ask_list",
             Operation::AskSet => "ask_set",
             Operation::AskRow => "ask_row",
+            Operation::Grounds => "grounds",
         }
     }
 
     /// A question by itself. The C interface has no function for these.
     pub fn is_question(self) -> bool {
-        self as usize > Operation::Panel as usize
+        matches!(
+            self,
+            Operation::AskOrder | Operation::AskList | Operation::AskSet | Operation::AskRow
+        )
+    }
+
+    /// Its first buffers are those of a run: fact marks, rule marks and steps.
+    pub fn writes_a_run(self) -> bool {
+        matches!(self, Operation::Run | Operation::Search | Operation::Grounds)
     }
 
     /// The refusals that can come from this operation.
@@ -66,6 +77,7 @@ impl Operation {
             Operation::AskList => &[11, 12, 13],
             Operation::AskSet => &[21, 22],
             Operation::AskRow => &[24, 23],
+            Operation::Grounds => &[11, 12, 13, 14, 31, 32, 33, 50],
         };
         (1..=10).chain(beyond_file.iter().copied()).collect()
     }
@@ -78,6 +90,7 @@ impl Operation {
             Operation::Judge => &["not stable", "stable"],
             Operation::Check => &["no", "yes"],
             Operation::Panel => &["buffer short", "text"],
+            Operation::Grounds => &["steps left out", "all steps kept"],
             _ => &["yes"],
         }
     }
@@ -170,6 +183,14 @@ impl Case {
             (Operation::AskRow, _) => {
                 answer_reply(reference::ask_row(file, self.asked, &self.proof))
             }
+            (Operation::Grounds, [fact_marks, rule_marks, steps]) => {
+                count_reply(reference::grounds(
+                    file,
+                    &self.rules,
+                    self.asked,
+                    Lent { fact_marks, rule_marks, steps },
+                ))
+            }
             _ => unreachable!("a case lends what its operation takes"),
         }
     }
@@ -185,6 +206,13 @@ impl Case {
             _ if numbers[0] != 0 => Met::Refusal(numbers[0]),
             Operation::Accept => Met::Answer(usize::from(numbers[3] > 0)),
             question if question.is_question() => Met::Answer(0),
+            Operation::Grounds => {
+                // Each fact derived has one step.
+                let facts = usize::from(self.file[1]);
+                let marks = reply.buffers[0][..facts].iter();
+                let steps = marks.filter(|&&mark| mark == 1).count();
+                Met::Answer(usize::from(numbers[1] as usize == steps))
+            }
             _ => Met::Answer(usize::from(numbers[1] > 0)),
         }
     }
@@ -204,12 +232,19 @@ fn verdict_reply(result: Result<bool, Refusal>) -> Vec<u32> {
     }
 }
 
+fn count_reply(result: Result<usize, Refusal>) -> Vec<u32> {
+    match result {
+        Ok(count) => vec![0, count as u32],
+        Err(refusal) => vec![refusal as u32, 0],
+    }
+}
+
 fn answer_reply(result: Result<(), Refusal>) -> Vec<u32> {
     vec![result.map_or_else(|refusal| refusal as u32, |()| 0)]
 }
 
 /// The highest refusal number.
-const MOST_REFUSAL: usize = 41;
+const MOST_REFUSAL: usize = 50;
 const OPERATIONS: usize = Operation::ALL.len();
 
 /// How often each refusal and each answer was met, by operation.
@@ -262,12 +297,19 @@ pub fn rule_numbers(rules: &[usize]) -> Vec<u8> {
     rules.iter().flat_map(item).collect()
 }
 
+/// The numbers of the exception rules, ascending.
+fn exceptions(draft: &Draft) -> Vec<usize> {
+    let is_exception =
+        |rule: &DraftRule| rule.items.iter().any(|&(kind, _)| kind == kind::CONSTRAINT);
+    (0..draft.rules.len()).filter(|&rule| is_exception(&draft.rules[rule])).collect()
+}
+
 /// The lengths that the questions 31 to 34 ask for.
 fn needed(operation: Operation, draft: &Draft) -> Vec<usize> {
     let facts = usize::from(draft.facts);
     let mut lengths = vec![facts, draft.rules.len(), STEP_BYTES * facts];
     if operation == Operation::Search {
-        lengths.push(RULE_NUMBER_BYTES * draft.exceptions().len());
+        lengths.push(RULE_NUMBER_BYTES * exceptions(draft).len());
     }
     lengths
 }
@@ -317,12 +359,13 @@ pub fn random_case(random: &mut Random) -> Case {
         spoil_file(random, &mut file);
     }
     let subject = Subject { draft, file };
-    match random.below(20) {
+    match random.below(24) {
         0..2 => Case::new(Operation::Accept, &subject.file),
         2..7 => subject.random_run(random),
         7..11 => subject.random_judge(random),
         11..15 => subject.random_check(random),
         15..19 => subject.random_search(random),
+        19..23 => subject.random_grounds(random),
         _ => subject.random_panel(random),
     }
 }
@@ -333,7 +376,7 @@ impl Subject {
     }
 
     fn shuffled_exceptions(&self, random: &mut Random) -> Vec<usize> {
-        let mut exceptions = self.draft.exceptions();
+        let mut exceptions = exceptions(&self.draft);
         random.shuffle(&mut exceptions);
         exceptions
     }
@@ -345,6 +388,21 @@ impl Subject {
         }
         spoil_lengths(random, &mut case.lent);
         case
+    }
+
+    /// Mostly of a fact that the run derives, where it is not refused.
+    fn random_grounds(&self, random: &mut Random) -> Case {
+        let run = self.random_run(random);
+        let derived = match End::of(&run) {
+            Some(end) => end.steps.chunks(STEP_BYTES).map(|step| u32::from(step[1])).collect(),
+            None => vec![],
+        };
+        let asked = if derived.is_empty() || random.one_in(5) {
+            self.odd_fact(random)
+        } else {
+            derived[random.below(derived.len())]
+        };
+        Case { operation: Operation::Grounds, asked, ..run }
     }
 
     fn random_search(&self, random: &mut Random) -> Case {

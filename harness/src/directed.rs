@@ -105,7 +105,7 @@ fn refused_files() -> Vec<Vec<u8>> {
 
 /// One call of each operation, answered where the file is accepted: the run in
 /// ascending order, its last set with the rules set aside judged and its whole
-/// row of steps checked, which both say yes.
+/// row of steps checked, which both say yes, and the grounds of its last fact.
 pub fn all_operations(file: &[u8]) -> Vec<Case> {
     let run = ascending_run(file);
     let reply = run.expected(|_| 0);
@@ -121,7 +121,7 @@ pub fn all_operations(file: &[u8]) -> Vec<Case> {
     let bare = Case { rules: vec![], lent: vec![], ..run.clone() };
     vec![
         Case { operation: Operation::Accept, ..bare.clone() },
-        run,
+        run.clone(),
         Case {
             operation: Operation::Judge,
             rules: rule_numbers(&set_aside),
@@ -131,6 +131,7 @@ pub fn all_operations(file: &[u8]) -> Vec<Case> {
         Case { operation: Operation::Check, set, asked, proof, ..bare.clone() },
         Case { operation: Operation::Search, lent: with_order, ..bare.clone() },
         Case { operation: Operation::Panel, lent: panel_bytes, ..bare },
+        Case { operation: Operation::Grounds, asked, ..run },
     ]
 }
 
@@ -151,10 +152,11 @@ fn ascending_run(file: &[u8]) -> Case {
 }
 
 fn call_of(operation: Operation, file: &[u8]) -> Case {
-    all_operations(file).swap_remove(operation as usize)
+    let of_operation = |case: &Case| case.operation == operation;
+    all_operations(file).into_iter().find(of_operation).expect("each operation has its call")
 }
 
-/// Runs and judges of example A with orders and lists, right and wrong.
+/// Runs, judges and grounds of example A with orders and lists, right and wrong.
 fn rule_number_cases(a: &[u8]) -> Vec<Case> {
     let rows: [Vec<u8>; 13] = [
         rule_numbers(&[1, 2]),
@@ -177,6 +179,9 @@ fn rule_number_cases(a: &[u8]) -> Vec<Case> {
         let short = vec![3, right.lent[1], right.lent[2]];
         cases.push(Case { rules: row.clone(), lent: short, ..right.clone() });
         cases.push(Case { rules: row.clone(), ..right });
+        for asked in [0, 1, 2, 3, 4] {
+            cases.push(Case { rules: row.clone(), asked, ..call_of(Operation::Grounds, a) });
+        }
         for set in [vec![1, 1, 0, 0], vec![1, 0, 1, 1], vec![1, 0, 2], vec![1, 2, 0, 0]] {
             cases.push(Case { rules: row.clone(), set, ..call_of(Operation::Judge, a) });
         }
@@ -200,11 +205,51 @@ fn check_cases(a: &[u8]) -> Vec<Case> {
     cases
 }
 
+/// Grounds of every fact and of numbers past the count, in buffers that just suffice,
+/// in longer ones, and with each of them one byte too short.
+fn grounds_cases(file: &[u8]) -> Vec<Case> {
+    let right = call_of(Operation::Grounds, file);
+    let facts = right.lent[0];
+    let beyond = [255, 256, 65_536, u32::MAX - 255, u32::MAX];
+    let mut cases = Vec::new();
+    for asked in (0..=facts as u32).chain(beyond) {
+        for more in [0, 3] {
+            let lent = right.lent.iter().map(|length| length + more).collect();
+            cases.push(Case { asked, lent, ..right.clone() });
+        }
+        for buffer in 0..right.lent.len() {
+            let mut short = Case { asked, ..right.clone() };
+            short.lent[buffer] = short.lent[buffer].saturating_sub(1);
+            cases.push(short);
+        }
+    }
+    cases
+}
+
+/// Steps that facts share: a diamond with an exception rule on one side, a rule of
+/// repeated premises, and a fact whose lower rule would come too late.
+fn shared_steps() -> Draft {
+    example(
+        9,
+        &[
+            (6, &[7], &[]),
+            (3, &[2, 1], &[]),
+            (2, &[0], &[]),
+            ALWAYS,
+            (1, &[0], &[8]),
+            (4, &[1, 1, 0, 1], &[]),
+            (5, &[4, 3], &[]),
+            (6, &[3], &[]),
+            (7, &[6], &[]),
+        ],
+    )
+}
+
 /// Every choice of buffers one byte too short, each buffer one byte longer, and
 /// all buffers empty.
 fn buffer_cases(file: &[u8]) -> Vec<Case> {
     let mut cases = Vec::new();
-    for operation in [Operation::Run, Operation::Search, Operation::Panel] {
+    for operation in [Operation::Run, Operation::Search, Operation::Panel, Operation::Grounds] {
         let right = call_of(operation, file);
         let buffers = right.lent.len();
         for chosen in 1..1 << buffers {
@@ -233,7 +278,9 @@ pub fn directed_cases() -> Vec<Case> {
     for file in &files {
         cases.extend(all_operations(file));
         cases.extend(buffer_cases(file));
+        cases.extend(grounds_cases(file));
     }
+    cases.extend(grounds_cases(&shared_steps().bytes()));
     for file in refused_files() {
         cases.extend(all_operations(&file));
     }

@@ -40,13 +40,6 @@ impl Draft {
         bytes.extend([kind::RULE_COUNT, high, low]);
         bytes
     }
-
-    /// The numbers of the exception rules, ascending.
-    pub fn exceptions(&self) -> Vec<usize> {
-        let is_exception =
-            |rule: &DraftRule| rule.items.iter().any(|&(kind, _)| kind == kind::CONSTRAINT);
-        (0..self.rules.len()).filter(|&rule| is_exception(&self.rules[rule])).collect()
-    }
 }
 
 /// Plain rules that lead from one fact to the next.
@@ -54,4 +47,17 @@ pub fn chain(draft: &mut Draft, facts: &[usize]) {
     for pair in facts.windows(2) {
         draft.rule(pair[1], &[pair[0]], &[]);
     }
+}
+
+/// A file whose steps go as deep as they can: fact 0 from nothing, and every other
+/// from those before it, this many of them at most. The nearest stands first and
+/// once more at the end, so that it is met first from either side.
+pub fn stairs(facts: usize, premises: usize) -> Draft {
+    let mut draft = Draft::new(facts);
+    draft.rule(0, &[], &[]);
+    for fact in 1..facts {
+        let nearest_first = (fact.saturating_sub(premises)..fact).rev();
+        draft.rule(fact, &nearest_first.chain([fact - 1]).collect::<Vec<_>>(), &[]);
+    }
+    draft
 }

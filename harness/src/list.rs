@@ -14,13 +14,14 @@
 //! - `sets <name> | file <file> | stable <set> | ..` is a case of the judge for every
 //!   set of facts: these are stable, with no rule listed, and no other is;
 //! - `caller <name> | file <file> | lent ..` is a row of cases (see `caller.rs`), and
-//!   with `refused <number>` only the search that refuses.
+//!   with `refused <number>` only the search that refuses; with `order <order>` it is
+//!   those of grounds.
 //!
 //! Inputs are the fields `file`, `order`, `list`, `set`, `asked`, `row` and, for
 //! other buffers than before, `lent`. What is expected is `refused <number>`, with
-//! every count 0 and every buffer as it was; or the counts, as `1 stages, 2 steps`,
-//! or a verdict; and the buffers that are written: `facts`, `rules`, `steps`,
-//! `order`, `text`, each from its start, and past that as it was.
+//! every count 0 and every buffer as it was; or the counts, as `1 stages, 2 steps`
+//! or `2 kept`, or a verdict; and the buffers that are written: `facts`, `rules`,
+//! `steps`, `order`, `text`, each from its start, and past that as it was.
 //!
 //! The reference must agree with everything that is expected.
 
@@ -119,16 +120,22 @@ impl List {
     fn caller(&self, text: &str) -> Result<Vec<Named>, String> {
         let mut fields = text.split('|').map(str::trim);
         let name = fields.next().unwrap_or_default();
-        let (mut bytes, mut buffers, mut refused) = (None, self.lent_to("search"), None);
+        let (mut bytes, mut buffers, mut refused, mut order) = (None, None, None, None);
         for field in fields {
             match field.split_once(' ') {
                 Some(("file", text)) => bytes = Some(file(text, &self.files)?),
-                Some(("lent", text)) => buffers = lent(text)?,
+                Some(("lent", text)) => buffers = Some(lent(text)?),
                 Some(("refused", text)) => refused = Some(number(text)?),
+                Some(("order", text)) => order = Some(rule_numbers(text)?),
                 _ => return Err(format!("not a field of a caller: {field:?}")),
             }
         }
-        caller::cases(name, &bytes.ok_or("no file")?, &buffers, refused)
+        let bytes = bytes.ok_or("no file")?;
+        let lent = |word: &str| buffers.unwrap_or_else(|| self.lent_to(word));
+        match order {
+            Some(order) => caller::grounds(name, &bytes, &order, &lent("grounds")),
+            None => caller::cases(name, &bytes, &lent("search"), refused),
+        }
     }
 
     fn sets(&self, text: &str) -> Result<Vec<Named>, String> {
@@ -169,6 +176,7 @@ impl List {
                 Operation::AskList => "| list hex 05",
                 Operation::AskSet => "| set 2",
                 Operation::AskRow => "| asked 4294967295 | row hex 06",
+                Operation::Grounds => "| order hex 05 | asked 4294967295 | lent 1 1 1 of 9",
             };
             let expected = match operation {
                 Operation::Panel => refused.replace("refused", "text E"),
@@ -252,6 +260,7 @@ impl CaseDraft {
             Operation::AskList => &["file", "list"],
             Operation::AskSet => &["file", "set"],
             Operation::AskRow => &["file", "asked", "row"],
+            Operation::Grounds => &["file", "order", "asked"],
         };
         let mut draft = CaseDraft {
             case: Case::new(operation, &[]),
@@ -301,9 +310,9 @@ impl CaseDraft {
             return self.reply(numbers);
         }
         match (self.case.operation, word) {
-            (Operation::Run | Operation::Search, "facts") => self.wrote(0, bytes(text)?),
-            (Operation::Run | Operation::Search, "rules") => self.wrote(1, bytes(text)?),
-            (Operation::Run | Operation::Search, "steps") => self.wrote(2, steps(text)?),
+            (writes, "facts") if writes.writes_a_run() => self.wrote(0, bytes(text)?),
+            (writes, "rules") if writes.writes_a_run() => self.wrote(1, bytes(text)?),
+            (writes, "steps") if writes.writes_a_run() => self.wrote(2, steps(text)?),
             (Operation::Search, "order") => self.wrote(3, rule_numbers(text)?),
             (Operation::Panel, "text") => {
                 let text = lines(text);
@@ -327,6 +336,7 @@ impl CaseDraft {
             (Operation::Run | Operation::Search, _) => {
                 self.reply([vec![0], counted(field, &["stages", "steps"])?].concat())
             }
+            (Operation::Grounds, _) => self.reply([vec![0], counted(field, &["kept"])?].concat()),
             _ => Ok(false),
         }
     }
@@ -335,7 +345,7 @@ impl CaseDraft {
         match self.case.operation {
             Operation::Accept => 6,
             Operation::Run | Operation::Search => 3,
-            Operation::Judge | Operation::Check => 2,
+            Operation::Judge | Operation::Check | Operation::Grounds => 2,
             _ => 1,
         }
     }

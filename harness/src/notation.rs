@@ -1,6 +1,6 @@
 //! The notation in which the list of named cases gives files, rows and bytes.
 
-use crate::draft::{Draft, DraftRule};
+use crate::draft::{Draft, DraftRule, stairs};
 use crate::large;
 use reference::kind;
 use std::collections::BTreeMap;
@@ -90,20 +90,44 @@ pub fn rule_numbers(text: &str) -> Bytes {
     })
 }
 
-/// Steps as 06 items: `(2,2) (3,3)`, each its fact and its rule.
+/// Steps as 06 items: `(2,2) (3,3)`, each its fact and its rule, with
+/// `(0,1) to (4,5)` for all between, which go up by one in both.
 pub fn steps(text: &str) -> Bytes {
     bytes_or(text, |text| {
-        let mut bytes = Vec::new();
-        for word in text.split_whitespace() {
-            let inner = word.strip_prefix('(').and_then(|word| word.strip_suffix(')'));
-            let (fact, rule) = inner
-                .and_then(|inner| inner.split_once(','))
-                .ok_or_else(|| format!("not a step: {word:?}"))?;
-            bytes.extend([kind::STEP, number(fact)?]);
-            bytes.extend(number::<u16>(rule)?.to_be_bytes());
+        let mut steps: Vec<(u8, u16)> = Vec::new();
+        let words: Vec<&str> = text.split_whitespace().collect();
+        let mut rest = &words[..];
+        while let [first, after @ ..] = rest {
+            let (fact, rule) = step(first)?;
+            rest = match after {
+                ["to", last, after @ ..] => {
+                    let (last_fact, last_rule) = step(last)?;
+                    steps.extend((fact..=last_fact).zip(rule..=last_rule));
+                    if steps.last() != Some(&(last_fact, last_rule)) {
+                        return Err(format!("not by one in both: {first} to {last}"));
+                    }
+                    after
+                }
+                _ => {
+                    steps.push((fact, rule));
+                    after
+                }
+            };
         }
-        Ok(bytes)
+        let item = |(fact, rule): (u8, u16)| {
+            let [high, low] = rule.to_be_bytes();
+            [kind::STEP, fact, high, low]
+        };
+        Ok(steps.into_iter().flat_map(item).collect())
     })
+}
+
+fn step(word: &str) -> Result<(u8, u16), String> {
+    let inner = word.strip_prefix('(').and_then(|word| word.strip_suffix(')'));
+    let (fact, rule) = inner
+        .and_then(|inner| inner.split_once(','))
+        .ok_or_else(|| format!("not a step: {word:?}"))?;
+    Ok((number(fact)?, number(rule)?))
 }
 
 /// Lines of text, between which ` / ` stands.
@@ -142,6 +166,7 @@ fn file_part(part: &str, named: &BTreeMap<String, Vec<u8>>) -> Bytes {
         ["tangled", rules] => large::tangled(number(rules)?),
         ["ladder", rules] => large::ladder(number(rules)?),
         ["words"] => large::words(),
+        ["stairs", facts, premises] => stairs(number(facts)?, number(premises)?),
         _ => return Err(format!("not a file: {part:?}")),
     };
     Ok(draft.bytes())

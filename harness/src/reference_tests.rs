@@ -74,6 +74,13 @@ fn search_of(file: &[u8]) -> Result<Written, Refusal> {
     written(file, order, |lent, order| search(file, lent, order))
 }
 
+/// The marks of the run, and the kept steps only.
+fn grounds_of(file: &[u8], order: &[usize], fact: u32) -> Result<Written, Refusal> {
+    written(file, order_of(order), |lent, order| {
+        grounds(file, order, fact, lent).map(|steps| Counts { stages: 0, steps })
+    })
+}
+
 fn step(fact: usize, rule: usize) -> Step {
     Step { fact, rule }
 }
@@ -190,6 +197,75 @@ fn questions_asked_by_themselves() {
     assert_eq!(ask_row(&[], 4, &[6]), Err(Refusal::NoFactCount));
 }
 
+#[test]
+fn grounds_of_the_examples() {
+    let a = example_a();
+    let of = |order: &[usize], fact: u32| grounds_of(&a, order, fact).map(|written| written.steps);
+    assert_eq!(of(&[1, 2], 0), Ok(vec![step(0, 0)]));
+    assert_eq!(of(&[1, 2], 1), Ok(vec![step(0, 0), step(1, 1)]));
+    assert_eq!(of(&[2, 1], 2), Ok(vec![step(0, 0), step(2, 2)]));
+    assert_eq!(of(&[2, 1], 3), Ok(vec![step(0, 0), step(2, 2), step(3, 3)]));
+    let refused =
+        [(&[1, 2], 2), (&[1, 2], 3), (&[2, 1], 1), (&[1, 2], 4), (&[1, 2], 256), (&[1, 2], 65_536)];
+    for (order, fact) in refused {
+        assert_eq!(of(order, fact), Err(Refusal::NotDerived));
+    }
+    assert_eq!(of(&[1, 2], u32::MAX), Err(Refusal::NotDerived));
+    assert_eq!(of(&[1], 2), Err(Refusal::ExceptionNotNamed));
+    let shorter = grounds_of(&a, &[2, 1], 0).unwrap();
+    assert_eq!((shorter.fact_marks, shorter.rule_marks), (vec![1, 2, 1, 1], vec![0, 3, 1, 0]));
+}
+
+#[test]
+fn grounds_keep_the_bytes_past_them_and_all_bytes_on_a_refusal() {
+    let after = |fact: u32, lengths: [usize; 3]| {
+        let [mut fact_marks, mut rule_marks, mut steps] = lengths.map(|length| vec![9; length]);
+        let lent =
+            Lent { fact_marks: &mut fact_marks, rule_marks: &mut rule_marks, steps: &mut steps };
+        let reply = grounds(&example_a(), &order_of(&[2, 1]), fact, lent);
+        (reply, [fact_marks, rule_marks, steps])
+    };
+    let kept =
+        [vec![1, 2, 1, 1], vec![0, 3, 1, 0, 9], [[6, 0, 0, 0], [9; 4], [9; 4], [9; 4]].concat()];
+    assert_eq!(after(0, [4, 5, 16]), (Ok(1), kept));
+    for (fact, lengths, refusal) in [
+        (1, [4, 4, 16], Refusal::NotDerived),
+        (1, [3, 3, 15], Refusal::FactMarksShort),
+        (1, [4, 3, 15], Refusal::RuleMarksShort),
+        (u32::MAX, [4, 4, 15], Refusal::StepsShort),
+    ] {
+        let untouched = lengths.map(|length| vec![9; length]);
+        assert_eq!(after(fact, lengths), (Err(refusal), untouched));
+    }
+}
+
+#[test]
+fn the_text_of_the_grounds() {
+    let a = example_a();
+    assert_eq!(grounds_text(&a, 1), "D 0 0\nD 1 1\n");
+    assert_eq!(grounds_text(&a, 2), "E 50\n");
+    assert_eq!(grounds_text(&example_c(), 0), "D 0 0\n");
+    assert_eq!(grounds_text(&example_c(), u32::MAX), "E 50\n");
+    assert_eq!(grounds_text(&[], 0), "E 2\n");
+    assert_eq!(grounds_text(&[0; 32_768], 0), "E 1\n");
+    assert_eq!(grounds_text(&file_of(0, &[]), 0), "E 50\n");
+}
+
+#[test]
+fn words_that_name_a_fact_and_words_that_do_not() {
+    let fact = |word: &str| fact_in_words(&[word.as_bytes()]);
+    assert_eq!(fact("0"), Some(0));
+    assert_eq!(fact("01"), Some(1));
+    assert_eq!(fact("0000000012"), Some(12));
+    assert_eq!(fact("4294967295"), Some(u32::MAX));
+    for word in ["", "00000000001", "4294967296", "9999999999", "+1", "-1", " 1", "1 ", "1a", "x"] {
+        assert_eq!(fact(word), None, "{word:?}");
+    }
+    assert_eq!(fact_in_words(&[]), None);
+    assert_eq!(fact_in_words(&[b"1", b"1"]), None);
+    assert_eq!(fact_in_words(&[b"1", b""]), None);
+}
+
 /// The definitions, without any care for time.
 mod naive {
     use super::super::{FactSet, RuleFile, Step};
@@ -245,6 +321,25 @@ mod naive {
             && rule.premises.is_within(&end.derived)
             && !closure.meets(&rule.constraints)
             && !closure.meets(&end.ruled_out)
+    }
+
+    /// The least set of step numbers that has the fact's own step and, with a
+    /// step, the step of each premise of its rule: what all such sets share.
+    pub fn grounds(file: &RuleFile, steps: &[Step], fact: usize) -> Vec<Step> {
+        let has = |set: usize, number: usize| set >> number & 1 == 1;
+        let has_steps_of = |set: usize, wanted: &dyn Fn(usize) -> bool| {
+            (0..steps.len()).all(|number| !wanted(steps[number].fact) || has(set, number))
+        };
+        let with_premises = |set: usize, number: usize| {
+            let premises = &file.rules[steps[number].rule].premises;
+            has_steps_of(set, &|fact| premises.contains(fact))
+        };
+        let such = |&set: &usize| {
+            has_steps_of(set, &|other| other == fact)
+                && (0..steps.len()).all(|number| !has(set, number) || with_premises(set, number))
+        };
+        let least = (0..1 << steps.len()).filter(such).fold(usize::MAX, |least, set| least & set);
+        (0..steps.len()).filter(|&number| has(least, number)).map(|number| steps[number]).collect()
     }
 
     /// The least set closed under the reduct by the set, listed rules dropped.
@@ -318,6 +413,43 @@ fn the_run_ends_stable_for_the_file_less_the_rules_set_aside() {
         let aside = (0..file.rules.len()).filter(|&number| run.rule_mark(number) == 2);
         assert!(file.is_stable(&aside.collect(), &run.derived.facts));
     }
+}
+
+/// A random file, its run under a random order, and each fact that this derives.
+fn for_each_derived(seed: u64, streams: u64, mut tell: impl FnMut(&RuleFile, &Run, usize)) {
+    for stream in 0..streams {
+        let random = &mut Random::new(seed, stream);
+        let file = random_file(random);
+        let mut order: Vec<usize> = file.exceptions().collect();
+        random.shuffle(&mut order);
+        let run = Run::to_end(&file, &order);
+        run.derived.facts.iter().for_each(|fact| tell(&file, &run, fact));
+    }
+}
+
+#[test]
+fn the_grounds_agree_with_their_definition() {
+    let mut shorter = 0;
+    for_each_derived(5, 10_000, |file, run, fact| {
+        let kept = run.grounds(fact);
+        assert_eq!(kept, naive::grounds(file, &run.steps, fact));
+        shorter += usize::from(kept.len() < run.steps.len());
+    });
+    assert!(shorter > 1_000);
+}
+
+#[test]
+fn the_grounds_are_a_proof_and_no_part_of_its_rules_gives_one() {
+    for_each_derived(6, 10_000, |file, run, fact| {
+        let kept = run.grounds(fact);
+        assert!(file.proves(&kept, fact, &run.derived.facts));
+        let rules: RuleSet = kept.iter().map(|step| step.rule).collect();
+        for left_out in &kept {
+            let mut others = rules;
+            others.remove(left_out.rule);
+            assert!(!run.network.least_set(&others).contains(fact));
+        }
+    });
 }
 
 #[test]

@@ -1,6 +1,6 @@
 //! Makes a failing case smaller as long as it still fails.
 
-use crate::cases::{Case, Operation};
+use crate::cases::Case;
 use reference::{RULE_NUMBER_BYTES, STEP_BYTES, kind};
 use std::ops::Range;
 use std::time::{Duration, Instant};
@@ -99,7 +99,7 @@ fn without_rules(case: &Case, rules: &[Range<usize>], cut: Range<usize>) -> Case
     lower_rule_count(&mut smaller.file, cut.len());
     smaller.rules = renumbered(&case.rules, RULE_NUMBER_BYTES, &cut);
     smaller.proof = renumbered(&case.proof, STEP_BYTES, &cut);
-    if matches!(case.operation, Operation::Run | Operation::Search) {
+    if case.operation.writes_a_run() {
         smaller.lent[1] = smaller.lent[1].saturating_sub(cut.len());
     }
     smaller
@@ -151,7 +151,7 @@ fn without_fact(case: &Case, fact: u8) -> Option<Case> {
         smaller.set.remove(usize::from(fact));
     }
     smaller.asked -= u32::from(smaller.asked > u32::from(fact));
-    if matches!(case.operation, Operation::Run | Operation::Search) {
+    if case.operation.writes_a_run() {
         smaller.lent[0] = smaller.lent[0].saturating_sub(1);
         smaller.lent[2] = smaller.lent[2].saturating_sub(STEP_BYTES);
     }

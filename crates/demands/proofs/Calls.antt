@@ -13,6 +13,7 @@ use Rattle.reader.specs.Accept.{acceptOf}
 use Rattle.items.specs.Item.{has}
 use Rattle.questions.specs.Questions.{rowOf, listQuestions, orderQuestions, setQuestions, rowQuestions, askListQuestions, askOrderQuestions, askSetQuestions, askRowQuestions}
 use Rattle.run.specs.Outcome.{runOutcome, runWritten}
+use Rattle.keeping.specs.Outcome.{groundsOutcome, groundsWritten}
 use Rattle.judge.specs.declared.answer.Judged.the-variants.{Stable, NotStable}
 use Rattle.judge.specs.Judged.{unlisted, judged}
 use Rattle.judge.specs.Judged as judgement
@@ -20,12 +21,15 @@ use Rattle.proofcheck.specs.declared.answer.Checked.the-variants.{Yes, No}
 use Rattle.proofcheck.specs.Checked.{checked}
 use Rattle.proofcheck.specs.Checked as checking
 use Rattle.search.specs.Outcome.{searchOutcome, searchWritten}
+use Rattle.panel_lines.specs.Text.{panelText}
 use Rattle.panel_text.proofs.RefusalText.{panel-refusal}
-use Rattle.retention.specs.Reply.{fileOf, countsOfRan, countsOfSearched, verdictOfJudged, verdictOfChecked, runReply, searchReply}
+use Rattle.grounds_text.specs.Text.{groundsText}
+use Rattle.grounds_text.proofs.RefusalTold.{grounds-refusal}
+use Rattle.retention.specs.Reply.{fileOf, countsOfRan, countsOfSearched, verdictOfJudged, verdictOfChecked, runReply, searchReply, countOfGrounds, groundsReply}
 use Rattle.demands.specs.Demands.{Demand1}
-use Rattle.demands.specs.Calls.{RefusesExactly, listNumbers, orderNumbers, setNumbers, rowNumbers, acceptCall, askCall, askListCall, askOrderCall, askSetCall, askRowCall, runCall, judgeCall, checkCall, searchCall, renderCall, retentionAcceptCall, retentionRunCall, retentionJudgeCall, retentionCheckCall, retentionSearchCall}
+use Rattle.demands.specs.Calls.{RefusesExactly, listNumbers, orderNumbers, setNumbers, rowNumbers, acceptCall, askCall, askListCall, askOrderCall, askSetCall, askRowCall, runCall, groundsCall, judgeCall, checkCall, searchCall, textCall, retentionAcceptCall, retentionRunCall, retentionGroundsCall, retentionJudgeCall, retentionCheckCall, retentionSearchCall}
 use Rattle.demands.proofs.RefusesExactly.{Own, refuses-exactly}
-use Rattle.demands.proofs.OwnNumbers.{file-own, after-file, list-own, order-own, set-own, row-own, run-own, judge-own, check-own, search-own}
+use Rattle.demands.proofs.OwnNumbers.{file-own, after-file, list-own, order-own, set-own, row-own, run-own, grounds-own, judge-own, check-own, search-own}
 use Rattle.demands.proofs.CursorNext.{next-exactly, next-stays}
 
 pub accept-exactly : (file : List ℕ) → RefusesExactly (acceptCall file)
@@ -74,6 +78,16 @@ run-exactly file order facts rules steps =
       first-no = λ r h. rw (h, runOutcome);
     })
 
+pub grounds-exactly : (file order : List ℕ) (fact : ℕ) (facts rules steps : List ℕ) → RefusesExactly (groundsCall file order fact facts rules steps)
+unfolding groundsOutcome groundsWritten
+grounds-exactly file order fact facts rules steps =
+    refuses-exactly 1 (groundsCall file order fact facts rules steps)
+    (record {
+      own-numbers = grounds-own file order fact (length facts) (length rules) (length steps);
+      all-yes = λ h. rw (h, groundsOutcome);
+      first-no = λ r h. rw (h, groundsOutcome);
+    })
+
 pub judge-exactly : (file list set : List ℕ) → RefusesExactly (judgeCall file list set)
 unfolding judged
 judge-exactly file list set =
@@ -113,9 +127,9 @@ search-exactly file facts rules steps order =
     })
 
 -- nothing is asked
-pub render-exactly : (file out : List ℕ) → RefusesExactly (renderCall file out)
-render-exactly file out =
-    refuses-exactly 0 (renderCall file out)
+pub text-exactly : (text out : List ℕ) → RefusesExactly (textCall text out)
+text-exactly text out =
+    refuses-exactly 0 (textCall text out)
     (record { own-numbers = tt; all-yes = λ h. refl; first-no = λ r h. absurd (let z : _≡_ {A = ℕ} 0 1 = cc in omega arith) })
 
 -- The operations for C. But for `retention_accept`, which has one count more, the plain numbers are those of the answer.
@@ -128,6 +142,10 @@ retention-accept-exactly file =
 pub retention-run-exactly : (file order facts rules steps : List ℕ) → RefusesExactly (retentionRunCall file order facts rules steps)
 unfolding runReply countsOfRan
 retention-run-exactly = run-exactly
+
+pub retention-grounds-exactly : (file order : List ℕ) (fact : ℕ) (facts rules steps : List ℕ) → RefusesExactly (retentionGroundsCall file order fact facts rules steps)
+unfolding groundsReply countOfGrounds
+retention-grounds-exactly = grounds-exactly
 
 pub retention-judge-exactly : (file list set : List ℕ) → RefusesExactly (retentionJudgeCall file list set)
 unfolding verdictOfJudged
@@ -153,15 +171,19 @@ every-call =
       ask-set = ask-set-exactly;
       ask-row = ask-row-exactly;
       run = run-exactly;
+      grounds = grounds-exactly;
       judge = judge-exactly;
       check = check-exactly;
       search = search-exactly;
-      render = render-exactly;
+      render = λ file. text-exactly (panelText file);
+      render-grounds = λ file fact. text-exactly (groundsText file fact);
       retention-accept = retention-accept-exactly;
       retention-run = retention-run-exactly;
+      retention-grounds = retention-grounds-exactly;
       retention-judge = retention-judge-exactly;
       retention-check = retention-check-exactly;
       retention-search = retention-search-exactly;
-      retention-panel = render-exactly;
+      retention-panel = λ file. text-exactly (panelText file);
       panel-text = panel-refusal;
+      grounds-text = grounds-refusal;
     }

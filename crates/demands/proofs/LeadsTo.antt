@@ -4,10 +4,9 @@ use Prim.Native.Nat.{ℕ, _<_}
 use native.Mathlib.Omega.{arith}
 use native.Mathlib.Decide.{decLt}
 use mathlib.Core.Path.{_≡_, refl, sym, _∙_, ap, fun-ext, subst}
-use mathlib.Core.Bool.{Bool, true, false, cond}
+use mathlib.Core.Bool.{true, false}
 use mathlib.Core.List.{List, _++_}
 use mathlib.Core.Option.{Option, none}
-use borrow.Author.Tests.{lt-ltb}
 use lib.ListN.{length}
 use lib.Dec.{eqb}
 use Rattle.theory.specs.Rule.{howMany, Program, FactSet, inForce, count, exception, Step}
@@ -18,19 +17,17 @@ use Rattle.theory.proofs.Search.{order-once, order-only}
 use Rattle.theory.proofs.Order.{order-reaches, order-none-aside}
 use Rattle.theory.proofs.Rows.{run-proof, run-admits}
 use Rattle.theory.proofs.Stable.{stable-within, outside-no-proof}
-use Rattle.theory.proofs.Check.{test-of-proof}
 use Rattle.items.specs.declared.refusal.Refusal.{Refusal}
-use Rattle.cursors.specs.Cursor.{itemsAt, stepsStart}
 use Rattle.reader.specs.Questions.{programOf, fileQuestions, fileNo}
 use Rattle.reader.proofs.Accepted.{accepted-file, bounded}
 use Rattle.items.proofs.FirstNo.{all-yes}
-use Rattle.items.specs.Item.{narrow, has}
-use Rattle.questions.specs.Questions.{whole, orderQuestions, setQuestions, rowQuestions, rowOf, bufferQuestions, runQuestions, buffersNo, runNo, checkQuestions, checkNo, naming}
+use Rattle.items.specs.Item.{narrow}
+use Rattle.questions.specs.Questions.{orderQuestions, rowOf, bufferQuestions, runQuestions, buffersNo, runNo, naming, runOf}
 use Rattle.questions.proofs.Orders.{naming-names}
 use Rattle.closure.specs.Steps.{stepBytes}
-use Rattle.run.specs.Outcome.{RunOutcome, runOf, runWritten, runOutcome}
+use Rattle.run.specs.Outcome.{RunOutcome, runWritten, runOutcome}
 use Rattle.run.specs.Outcome as running
-use Rattle.run.proofs.ReadSteps.{steps-read, steps-whole}
+use Rattle.run.proofs.ReadSteps.{steps-read}
 use Rattle.proofcheck.specs.declared.answer.Checked.{Checked}
 use Rattle.proofcheck.specs.declared.answer.Checked.the-variants as checking
 use Rattle.proofcheck.specs.Checked.{checked}
@@ -39,8 +36,8 @@ use Rattle.proofcheck.proofs.Meaning.{checked-means}
 use Rattle.orders.proofs.OrderGroups.{order-width}
 use Rattle.search.proofs.RunUnder.{search-order-yes}
 use Rattle.demands.specs.Results.{setBytes, RowsProve, rowUpTo, EndsAt, LeadsTo}
-use Rattle.demands.proofs.SetsReadBack.{set-back, set-yes}
-use Rattle.demands.proofs.Outcomes.{run-written, check-checked}
+use Rattle.demands.proofs.RowChecked.{set-is, row-checked}
+use Rattle.demands.proofs.Outcomes.{run-written}
 use Rattle.demands.proofs.RunIs.{derived-is, aside-is, trace-is, row-is}
 
 -- a verdict that is not yes is 0
@@ -73,9 +70,6 @@ module _ (file : List ℕ) (accepted : _≡_ {A = Option Refusal} (fileNo file) 
       go (yes l) = l
       go (no n) = never m (within f (omega arith))
 
-  set-is : has (setBytes file M) ≡ M
-  set-is = set-back (P .facts) M within
-
   -- The rows up to each fact's own step, wherever they are written.
   module _ (rows : ℕ → List ℕ) (rows-are : (f : ℕ) → rows f ≡ stepBytes narrow (rowTo f (s .trace))) where
     pub rows-read : (f : ℕ) → rowOf (rows f) ≡ rowTo f (s .trace)
@@ -87,17 +81,10 @@ module _ (file : List ℕ) (accepted : _≡_ {A = Option Refusal} (fileNo file) 
     admits : (f : ℕ) → Admits P M (rowOf (rows f))
     admits f = rw (rows-read f) (subst (λ (X : FactSet). Admits P X (rowTo f (s .trace))) reaches (run-admits P (inForce P) row f))
 
-    may-check : (f : ℕ) → M f ≡ true → _≡_ {A = Option Refusal} (checkNo file (setBytes file M) f (rows f)) none
-    unfolding checkQuestions rowQuestions
-    may-check f m =
-        all-yes (fileQuestions file) (setQuestions (P .facts) (setBytes file M) ++ rowQuestions (P .facts) f (rows f)) accepted
-        (all-yes (setQuestions (P .facts) (setBytes file M)) (rowQuestions (P .facts) f (rows f)) (set-yes (P .facts) M)
-        (rw (lt-ltb f (P .facts) (known f m), ap (λ (bs : List ℕ). whole (itemsAt bs stepsStart)) (rows-are f) ∙ steps-whole (rowTo f (s .trace)))))
-
     yes-said : (f : ℕ) → M f ≡ true → checked file (setBytes file M) f (rows f) ≡ checking.Yes
     yes-said f m =
-        check-checked file (setBytes file M) f (rows f) (may-check f m)
-        ∙ ap (λ (b : Bool). cond b checking.Yes checking.No) (test-of-proof P (inForce P) (has (setBytes file M)) (rowOf (rows f)) f .1 (proves f m, rw set-is (admits f)))
+        ap (checked file (setBytes file M) f) (rows-are f)
+        ∙ row-checked file accepted M within f (known f m) (rowTo f (s .trace)) (rw (rows-read f) at (proves f m)) (rw (rows-read f) at (admits f))
 
     pub rows-prove : RowsProve file M rows
     rows-prove = record { proves = proves; admitted = λ f _. admits f; says-yes = yes-said }
@@ -145,7 +132,7 @@ module _ (file : List ℕ) (accepted : _≡_ {A = Option Refusal} (fileNo file) 
       not-yes (checked file (setBytes file M) f bytes)
       (λ n v.
       let t = checked-means file (setBytes file M) f bytes .yes-exactly n .0 v in
-      outside f out (rowOf bytes) (t .0) (rw set-is at (t .1)))
+      outside f out (rowOf bytes) (t .0) (rw (set-is file accepted M within) at (t .1)))
 
   pub leads-to : LeadsTo file (naming row) M
   leads-to =

@@ -4,6 +4,7 @@ pub mod CursorNext
 pub mod Calls
 pub mod Outcomes
 pub mod SetsReadBack
+pub mod RowChecked
 pub mod RunIs
 pub mod RunJudged
 pub mod LeadsTo
@@ -12,4 +13,5 @@ pub mod Searches
 pub mod SameReplies
 pub mod Demands
 pub mod Starred
+pub mod Wish01
 pub mod Wish08

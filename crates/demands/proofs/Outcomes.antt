@@ -13,8 +13,8 @@ use Rattle.items.specs.Question as refusal
 use Rattle.reader.specs.Questions.{programOf}
 use Rattle.items.proofs.RefusalNumbers.{number-above}
 use Rattle.items.specs.Item.{has}
-use Rattle.questions.specs.Questions.{rowOf, runNo, checkNo, searchNo}
-use Rattle.run.specs.Outcome.{RunOutcome, runOf, runWritten, runOutcome}
+use Rattle.questions.specs.Questions.{rowOf, runNo, checkNo, searchNo, runOf}
+use Rattle.run.specs.Outcome.{RunOutcome, runWritten, runOutcome}
 use Rattle.run.specs.Outcome as run
 use Rattle.run.proofs.Outcomes.{outcome-refused, outcome-written}
 use Rattle.proofcheck.specs.declared.answer.Checked.the-variants as checking

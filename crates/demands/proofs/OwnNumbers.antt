@@ -13,9 +13,9 @@ use Rattle.items.specs.Question.{Question}
 use Rattle.cursors.specs.Cursor.{Token, placeQuestions}
 use Rattle.items.specs.Item.{narrow}
 use Rattle.reader.specs.Questions.{programOf, fileQuestions}
-use Rattle.questions.specs.Questions.{namedIn, namesQuestions, listQuestions, orderQuestions, setQuestions, rowQuestions, bufferQuestions, runQuestions, judgeQuestions, checkQuestions, limitQuestions, earlyQuestions, searchQuestions}
+use Rattle.questions.specs.Questions.{namedIn, namesQuestions, listQuestions, orderQuestions, setQuestions, rowQuestions, bufferQuestions, runQuestions, groundsQuestions, judgeQuestions, checkQuestions, limitQuestions, earlyQuestions, searchQuestions}
 use Rattle.reader.proofs.FileRefusals.{each-append, each-file}
-use Rattle.demands.specs.Calls.{fileNumbers, listNumbers, orderNumbers, setNumbers, rowNumbers, bufferNumbers, limitNumbers, placeNumbers, runNumbers, judgeNumbers, checkNumbers, searchNumbers}
+use Rattle.demands.specs.Calls.{fileNumbers, listNumbers, orderNumbers, setNumbers, rowNumbers, bufferNumbers, limitNumbers, placeNumbers, runNumbers, groundsNumbers, judgeNumbers, checkNumbers, searchNumbers}
 use Rattle.demands.proofs.RefusesExactly.{Own}
 
 -- Questions behind one another have the numbers behind one another.
@@ -76,13 +76,18 @@ pub limits-own : (P : Program) (order : ℕ) → Own limitNumbers (limitQuestion
 unfolding limitQuestions
 limits-own P order = (refl, (refl, tt))
 
--- on a run, a judgement, a proof check and a search
+-- on a run, the grounds for one fact, a judgement, a proof check and a search
 pub run-own : (file order : List ℕ) (facts rules steps : ℕ) → Own runNumbers (runQuestions file order facts rules steps)
 unfolding runQuestions
 run-own file order facts rules steps =
     let P = programOf file in
     after-file (orderNumbers ++ bufferNumbers) file _
     (own-both orderNumbers bufferNumbers (orderQuestions (exception P) (count P) order) _ (order-own (exception P) (count P) order) (buffers-own P facts rules steps))
+
+pub grounds-own : (file order : List ℕ) (fact facts rules steps : ℕ) → Own groundsNumbers (groundsQuestions file order fact facts rules steps)
+unfolding groundsQuestions
+grounds-own file order fact facts rules steps =
+    own-both runNumbers (50 ∷ []) (runQuestions file order facts rules steps) _ (run-own file order facts rules steps) (refl, tt)
 
 pub judge-own : (file list set : List ℕ) → Own judgeNumbers (judgeQuestions file list set)
 unfolding judgeQuestions

@@ -23,10 +23,10 @@ use Rattle.items.specs.Item.{narrow, stepWidth}
 use Rattle.reader.specs.Questions.{programOf, fileQuestions, fileNo}
 use Rattle.reader.proofs.Accepted.{accepted-file, bounded}
 use Rattle.items.proofs.FirstNo.{both-yes}
-use Rattle.questions.specs.Questions.{namedIn, orderQuestions, orderNo, rowOf, bufferQuestions, runQuestions, buffersNo, runNo}
+use Rattle.questions.specs.Questions.{namedIn, orderQuestions, orderNo, rowOf, bufferQuestions, runQuestions, buffersNo, runNo, runOf}
 use Rattle.questions.proofs.OperationAsked.{yes-to-order}
 use Rattle.closure.specs.Steps.{stepBytes}
-use Rattle.run.specs.Outcome.{RunOutcome, runOf, runWritten, runOutcome}
+use Rattle.run.specs.Outcome.{RunOutcome, runWritten, runOutcome}
 use Rattle.run.specs.Outcome as run
 use Rattle.demands.specs.Results.{derivedSet, rejectedSet, plainSet, appliedSet, asideSet, stepRow, RunIs, takenSteps, rowUpTo}
 use Rattle.results.proofs.StepsWritten.{step-bytes-length}

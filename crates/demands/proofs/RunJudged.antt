@@ -15,8 +15,8 @@ use Rattle.items.specs.declared.refusal.Refusal.{Refusal}
 use Rattle.reader.specs.Questions.{programOf, fileQuestions}
 use Rattle.items.proofs.FirstNo.{all-yes}
 use Rattle.items.specs.Item.{has}
-use Rattle.questions.specs.Questions.{namedIn, listQuestions, setQuestions, runNo, judgeQuestions, judgeNo}
-use Rattle.run.specs.Outcome.{RunOutcome, runOf, runOutcome}
+use Rattle.questions.specs.Questions.{namedIn, listQuestions, setQuestions, runNo, judgeQuestions, judgeNo, runOf}
+use Rattle.run.specs.Outcome.{RunOutcome, runOutcome}
 use Rattle.run.specs.Outcome as run
 use Rattle.demands.specs.Results.{derivedSet, asideSet, listed, setOf, RunIs, JudgedStable}
 use Rattle.run.proofs.ReadMarks.{marked-past}

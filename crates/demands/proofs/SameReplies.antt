@@ -11,22 +11,25 @@ use Rattle.theory.specs.Rule.{keep, upTo, Program, FactSet, inForce, nothing, n
 use Rattle.theory.specs.Run.{run, stageCount, stepCount}
 use Rattle.theory.specs.Stable.{orderFor}
 use Rattle.theory.specs.Search.{search}
-use Rattle.theory.proofs.Repeats.{alike-exception, alike-exception-count, alike-constraint-count, alike-run, alike-aside, alike-factMark, alike-factMarks, alike-ruleMarks, alike-isStable, alike-isProof, alike-search, alike-orderFor}
+use Rattle.theory.proofs.Repeats.{alike-exception, alike-exception-count, alike-constraint-count, alike-run, alike-aside, alike-factMark, alike-factMarks, alike-ruleMarks, alike-grounds, alike-isStable, alike-isProof, alike-search, alike-orderFor}
 use Rattle.reader.specs.declared.answer.Accept.the-variants.{Accepted}
 use Rattle.items.specs.declared.refusal.Refusal.{Refusal}
-use Rattle.items.specs.declared.refusal.Refusal.the-variants.{FactMarksShort, RuleMarksShort, StepsShort, OrderShort, TooManyConstraints, NoStableSet}
+use Rattle.items.specs.declared.refusal.Refusal.the-variants.{FactMarksShort, RuleMarksShort, StepsShort, OrderShort, TooManyConstraints, NoStableSet, NotDerived}
 use Rattle.items.specs.Question.{Question, ask, firstNo}
+use Rattle.items.specs.Question as refusal
 use Rattle.items.specs.Item.{narrow, stepWidth, nameWidth, has, maxGuessed}
 use Rattle.reader.specs.Questions.{programOf, fileQuestions, fileNo, exceptions, constraintFacts}
 use Rattle.reader.specs.Accept.{acceptOf}
 use Rattle.reader.proofs.FileAsked.{accepted-answer}
 use Rattle.items.proofs.FirstNo.{first-yes}
 use Rattle.questions.specs.Answer.{answerOf}
-use Rattle.questions.specs.Questions.{rowOf, namedIn, listQuestions, orderQuestions, setQuestions, rowQuestions, askListQuestions, askOrderQuestions, askSetQuestions, askRowQuestions, bufferQuestions, runQuestions, runNo, judgeQuestions, judgeNo, checkQuestions, checkNo, someStable, stableQuestion, limitQuestions, earlyQuestions, searchQuestions, searchNo, each, naming}
+use Rattle.questions.specs.Questions.{rowOf, namedIn, listQuestions, orderQuestions, setQuestions, rowQuestions, askListQuestions, askOrderQuestions, askSetQuestions, askRowQuestions, bufferQuestions, runQuestions, runNo, derivedQuestion, groundsQuestions, groundsNo, judgeQuestions, judgeNo, checkQuestions, checkNo, someStable, stableQuestion, limitQuestions, earlyQuestions, searchQuestions, searchNo, each, naming, runOf}
 use Rattle.closure.specs.Steps.{stepBytes}
 use Rattle.run.specs.declared.answer.Ran.the-variants as ran
-use Rattle.run.specs.Outcome.{RunOutcome, runOf, runWritten, runOutcome}
+use Rattle.run.specs.Outcome.{RunOutcome, runWritten, runOutcome}
 use Rattle.items.specs.Write.{over}
+use Rattle.keeping.specs.declared.answer.Grounds.the-variants as told
+use Rattle.keeping.specs.Outcome.{GroundsOutcome, groundsWritten, groundsRefused, groundsOutcome}
 use Rattle.judge.specs.declared.answer.Judged.{Judged}
 use Rattle.judge.specs.declared.answer.Judged.the-variants as judgement
 use Rattle.judge.specs.Judged.{unlisted, judged}
@@ -36,7 +39,8 @@ use Rattle.proofcheck.specs.Checked.{checked}
 use Rattle.search.specs.declared.answer.Searched.the-variants as searched
 use Rattle.search.specs.Outcome.{SearchOutcome, searchWritten, refusedWith, takenSet, searchOutcome}
 use Rattle.panel_lines.specs.Text.{headLine, stepLine, line, lastLine, rejectedFacts, asideRules, runText, ascending, panelText, shown}
-use Rattle.retention.specs.Reply.{fileOf, verdictOfJudged, verdictOfChecked, runReply, searchReply}
+use Rattle.grounds_text.specs.Text.{textQuestions, textNo, groundsText}
+use Rattle.retention.specs.Reply.{fileOf, verdictOfJudged, verdictOfChecked, runReply, searchReply, groundsReply}
 use Rattle.demands.specs.Results.{SameReplies}
 
 module _ (s t : List ℕ) (yes-s : _≡_ {A = Option Refusal} (fileNo s) none) (yes-t : _≡_ {A = Option Refusal} (fileNo t) none) (a : Alike (programOf s) (programOf t)) where
@@ -129,6 +133,31 @@ module _ (s t : List ℕ) (yes-s : _≡_ {A = Option Refusal} (fileNo s) none) (
           steps = over (stepBytes narrow (end i .trace)) steps;
         }
         | some r ↦ record { answer = ran.Refused r; fact-marks = facts; rule-marks = rules; steps = steps }
+      ]
+    where
+      end : runOf s order ≡ runOf t order
+      end = alike-run a (inForce P) (namedIn order)
+
+  -- The grounds for one fact.
+  grounds-asked : (order : List ℕ) (fact facts rules steps : ℕ) → groundsNo s order fact facts rules steps ≡ groundsNo t order fact facts rules steps
+  unfolding groundsQuestions runQuestions
+  grounds-asked order fact facts rules steps =
+      ap firstNo (append-assoc (fileQuestions s) (orderQuestions (exception P) (count P) order ++ bufferQuestions narrow P facts rules steps) (derivedQuestion (runOf s order) fact ∷ []))
+      ∙ (behind ((orderQuestions (exception P) (count P) order ++ bufferQuestions narrow P facts rules steps) ++ (derivedQuestion (runOf s order) fact ∷ [])) ((orderQuestions (exception Q) (count Q) order ++ bufferQuestions narrow Q facts rules steps) ++ (derivedQuestion (runOf t order) fact ∷ []))
+      (λ i. firstNo ((same-order order i ++ same-buffers facts rules steps i) ++ (ask NotDerived (alike-run a (inForce P) (namedIn order) i .derived fact) ∷ [])))
+      ∙ sym (ap firstNo (append-assoc (fileQuestions t) (orderQuestions (exception Q) (count Q) order ++ bufferQuestions narrow Q facts rules steps) (derivedQuestion (runOf t order) fact ∷ []))))
+
+  same-grounds : (order : List ℕ) (fact : ℕ) (facts rules steps : List ℕ) → groundsOutcome s order fact facts rules steps ≡ groundsOutcome t order fact facts rules steps
+  unfolding groundsOutcome groundsWritten
+  same-grounds order fact facts rules steps i =
+      elim (grounds-asked order fact (length facts) (length rules) (length steps) i) as (λ _. GroundsOutcome) [
+        | none ↦ record {
+          answer = told.Given (length (alike-grounds a fact (end i .trace) i));
+          fact-marks = over (alike-factMarks a (end i) i) facts;
+          rule-marks = over (alike-ruleMarks a (inForce P) (end i) i) rules;
+          steps = over (stepBytes narrow (alike-grounds a fact (end i .trace) i)) steps;
+        }
+        | some r ↦ groundsRefused r facts rules steps
       ]
     where
       end : runOf s order ≡ runOf t order
@@ -235,6 +264,20 @@ module _ (s t : List ℕ) (yes-s : _≡_ {A = Option Refusal} (fileNo s) none) (
   same-text : panelText s ≡ panelText t
   same-text = text-of s yes-s ∙ (same-lines ∙ sym (text-of t yes-t))
 
+  text-asked : (fact : ℕ) → textNo s fact ≡ textNo t fact
+  unfolding textQuestions
+  text-asked fact =
+      behind (derivedQuestion (run P (inForce P) (ascending P)) fact ∷ []) (derivedQuestion (run Q (inForce Q) (ascending Q)) fact ∷ [])
+      (λ i. firstNo (ask NotDerived (same-ascending i .derived fact) ∷ []))
+
+  same-grounds-text : (fact : ℕ) → groundsText s fact ≡ groundsText t fact
+  unfolding groundsText
+  same-grounds-text fact i =
+      elim (text-asked fact i) as (λ _. List ℕ) [
+        | none ↦ each stepLine (alike-grounds a fact (same-ascending i .trace) i)
+        | some r ↦ line 0x45 (refusal.number r)
+      ]
+
   pub same-replies : SameReplies s t
   same-replies =
       record {
@@ -244,12 +287,15 @@ module _ (s t : List ℕ) (yes-s : _≡_ {A = Option Refusal} (fileNo s) none) (
         ask-set = λ set. ap answerOf (set-asked set);
         ask-row = λ fact row. ap answerOf (row-asked fact row);
         run = same-run;
+        grounds = same-grounds;
         judge = same-judge;
         check = same-check;
         search = same-search;
         render = λ room. (ap length same-text, ap (λ (text : List ℕ). shown text room) same-text);
+        render-grounds = λ fact room. (ap length (same-grounds-text fact), ap (λ (text : List ℕ). shown text room) (same-grounds-text fact));
         retention-accept = ap fileOf accepted;
         retention-run = λ order facts rules steps. ap runReply (same-run order facts rules steps);
+        retention-grounds = λ order fact facts rules steps. ap groundsReply (same-grounds order fact facts rules steps);
         retention-judge = λ list set. ap verdictOfJudged (same-judge list set);
         retention-check = λ set fact row. ap verdictOfChecked (same-check set fact row);
         retention-search = λ facts rules steps order. ap searchReply (same-search facts rules steps order);

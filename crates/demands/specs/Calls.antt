@@ -18,21 +18,24 @@ use Rattle.cursors.specs.declared.cursor.Read.the-variants.{Ended, Refused}
 use Rattle.cursors.specs.Cursor.{front, placeQuestions, nextAt}
 use Rattle.reader.specs.Questions.{fileQuestions}
 use Rattle.reader.specs.Accept.{acceptOf}
-use Rattle.questions.specs.Questions.{askListQuestions, askOrderQuestions, askSetQuestions, askRowQuestions, runQuestions, judgeQuestions, checkQuestions, searchQuestions}
+use Rattle.questions.specs.Questions.{askListQuestions, askOrderQuestions, askSetQuestions, askRowQuestions, runQuestions, groundsQuestions, judgeQuestions, checkQuestions, searchQuestions}
 use Rattle.questions.specs.Answer.{answerOf}
 use Rattle.run.specs.Outcome.{runOutcome}
+use Rattle.keeping.specs.Outcome.{groundsOutcome}
 use Rattle.judge.specs.Judged.{judged}
 use Rattle.proofcheck.specs.Checked.{checked}
 use Rattle.search.specs.Outcome.{searchOutcome}
 use Rattle.panel_lines.specs.Text.{panelText, shown}
+use Rattle.grounds_text.specs.Text.{groundsText}
 use Rattle.retention.specs.declared.reply.FileReply.{FileReply}
 use Rattle.retention.specs.declared.reply.Verdict.{Verdict}
-use Rattle.retention.specs.Reply.{fileOf, verdictOfJudged, verdictOfChecked, RunReply, runReply, SearchReply, searchReply}
+use Rattle.retention.specs.Reply.{fileOf, verdictOfJudged, verdictOfChecked, RunReply, runReply, SearchReply, searchReply, GroundsReply, groundsReply}
 use Rattle.items.specs.Question as refusal
 use Rattle.cursors.specs.Cursor as read
 use Rattle.reader.specs.Accept as accepted
 use Rattle.questions.specs.Answer as answer
 use Rattle.run.specs.Outcome as ran
+use Rattle.keeping.specs.Outcome as grounds
 use Rattle.judge.specs.Judged as judgement
 use Rattle.proofcheck.specs.Checked as checking
 use Rattle.search.specs.Outcome as searched
@@ -90,6 +93,9 @@ limitNumbers = 34 ∷ 40 ∷ []
 -- Of each operation that asks more than a file's questions.
 abbrev pub runNumbers : List ℕ
 runNumbers = fileNumbers ++ (orderNumbers ++ bufferNumbers)
+
+abbrev pub groundsNumbers : List ℕ
+groundsNumbers = runNumbers ++ (50 ∷ [])
 
 abbrev pub judgeNumbers : List ℕ
 judgeNumbers = fileNumbers ++ (listNumbers ++ setNumbers)
@@ -164,6 +170,24 @@ runCall file order facts rules steps =
       reply = runReplied (runOutcome file order facts rules steps);
     }
 
+-- `grounds`
+abbrev pub groundsReplied : grounds.GroundsOutcome → Reply
+groundsReplied o =
+    record {
+      number = grounds.number (o .answer);
+      counts = grounds.count (o .answer) ∷ [];
+      left = o .fact-marks ∷ o .rule-marks ∷ o .steps ∷ [];
+    }
+
+abbrev pub groundsCall : List ℕ → List ℕ → ℕ → List ℕ → List ℕ → List ℕ → Call
+groundsCall file order fact facts rules steps =
+    record {
+      questions = groundsQuestions file order fact (length facts) (length rules) (length steps);
+      own = groundsNumbers;
+      lent = facts ∷ rules ∷ steps ∷ [];
+      reply = groundsReplied (groundsOutcome file order fact facts rules steps);
+    }
+
 -- `judge`
 abbrev pub judgeCall : List ℕ → List ℕ → List ℕ → Call
 judgeCall file list set =
@@ -194,15 +218,22 @@ searchCall file facts rules steps order =
       reply = searchReplied (searchOutcome file facts rules steps order);
     }
 
--- `render`: it asks nothing and refuses nothing. A file's first no stands in its text.
-abbrev pub renderCall : List ℕ → List ℕ → Call
-renderCall file out =
+-- A text: it asks nothing and refuses nothing. The first no stands in it.
+abbrev pub textCall : List ℕ → List ℕ → Call
+textCall text out =
     record {
       questions = [];
       own = [];
       lent = out ∷ [];
-      reply = record { number = 0; counts = length (panelText file) ∷ []; left = shown (panelText file) out ∷ [] };
+      reply = record { number = 0; counts = length text ∷ []; left = shown text out ∷ [] };
     }
+
+-- `render` of the panel's text, and of the text of the grounds for a fact.
+abbrev pub renderCall : List ℕ → List ℕ → Call
+renderCall file out = textCall (panelText file) out
+
+abbrev pub renderGroundsCall : List ℕ → ℕ → List ℕ → Call
+renderGroundsCall file fact out = textCall (groundsText file fact) out
 
 -- The operations for C: each is the one above, and replies in plain numbers.
 abbrev pub replying : Call → Reply → Call
@@ -230,6 +261,19 @@ retentionRunCall file order facts rules steps =
         record {
           number = o .reply .refusal;
           counts = o .reply .stages ∷ o .reply .steps ∷ [];
+          left = o .fact-marks ∷ o .rule-marks ∷ o .steps ∷ [];
+        }
+
+-- `retention_grounds`
+abbrev pub retentionGroundsCall : List ℕ → List ℕ → ℕ → List ℕ → List ℕ → List ℕ → Call
+retentionGroundsCall file order fact facts rules steps =
+    replying (groundsCall file order fact facts rules steps) (counted (groundsReply (groundsOutcome file order fact facts rules steps)))
+  where
+    counted : GroundsReply → Reply
+    counted o =
+        record {
+          number = o .reply .refusal;
+          counts = o .reply .count ∷ [];
           left = o .fact-marks ∷ o .rule-marks ∷ o .steps ∷ [];
         }
 

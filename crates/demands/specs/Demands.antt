@@ -21,7 +21,8 @@ use Rattle.proofcheck.specs.Checked as checking
 use Rattle.search.specs.Outcome.{searchOutcome}
 use Rattle.search.specs.Outcome as searching
 use Rattle.panel_lines.specs.Text.{panelText, line}
-use Rattle.demands.specs.Calls.{firstNumber, RefusesExactly, Stays, acceptCall, nextCall, askListCall, askOrderCall, askSetCall, askRowCall, runCall, judgeCall, checkCall, searchCall, renderCall, retentionAcceptCall, retentionRunCall, retentionJudgeCall, retentionCheckCall, retentionSearchCall, retentionPanelCall}
+use Rattle.grounds_text.specs.Text.{groundsText, textQuestions}
+use Rattle.demands.specs.Calls.{firstNumber, RefusesExactly, Stays, acceptCall, nextCall, askListCall, askOrderCall, askSetCall, askRowCall, runCall, groundsCall, judgeCall, checkCall, searchCall, renderCall, renderGroundsCall, retentionAcceptCall, retentionRunCall, retentionGroundsCall, retentionJudgeCall, retentionCheckCall, retentionSearchCall, retentionPanelCall}
 use Rattle.demands.specs.Results.{RunIs, JudgedStable, LeadsTo, SearchIs, LargeEnough, Searchable, Searches, FortyExactly, SameReplies}
 
 -- 1. Any rule file with any order, fact set, proof or buffers gets its result or a refusal number, and a refusal returns its number with zero
@@ -35,18 +36,22 @@ pub record Demand1 : Type 0 where
   pub ask-set : (file set : List ℕ) → RefusesExactly (askSetCall file set)
   pub ask-row : (file : List ℕ) (fact : ℕ) (row : List ℕ) → RefusesExactly (askRowCall file fact row)
   pub run : (file order facts rules steps : List ℕ) → RefusesExactly (runCall file order facts rules steps)
+  pub grounds : (file order : List ℕ) (fact : ℕ) (facts rules steps : List ℕ) → RefusesExactly (groundsCall file order fact facts rules steps)
   pub judge : (file list set : List ℕ) → RefusesExactly (judgeCall file list set)
   pub check : (file set : List ℕ) (fact : ℕ) (row : List ℕ) → RefusesExactly (checkCall file set fact row)
   pub search : (file facts rules steps order : List ℕ) → RefusesExactly (searchCall file facts rules steps order)
   pub render : (file out : List ℕ) → RefusesExactly (renderCall file out)
+  pub render-grounds : (file : List ℕ) (fact : ℕ) (out : List ℕ) → RefusesExactly (renderGroundsCall file fact out)
   pub retention-accept : (file : List ℕ) → RefusesExactly (retentionAcceptCall file)
   pub retention-run : (file order facts rules steps : List ℕ) → RefusesExactly (retentionRunCall file order facts rules steps)
+  pub retention-grounds : (file order : List ℕ) (fact : ℕ) (facts rules steps : List ℕ) → RefusesExactly (retentionGroundsCall file order fact facts rules steps)
   pub retention-judge : (file list set : List ℕ) → RefusesExactly (retentionJudgeCall file list set)
   pub retention-check : (file set : List ℕ) (fact : ℕ) (row : List ℕ) → RefusesExactly (retentionCheckCall file set fact row)
   pub retention-search : (file facts rules steps order : List ℕ) → RefusesExactly (retentionSearchCall file facts rules steps order)
   pub retention-panel : (file out : List ℕ) → RefusesExactly (retentionPanelCall file out)
   -- the panel's text is the line E n exactly where n is the number of the file's first no
   pub panel-text : (file : List ℕ) (n : ℕ) → (panelText file ≡ line 0x45 n) ↔ (firstNumber (fileQuestions file) ≡ some n)
+  pub grounds-text : (file : List ℕ) (fact n : ℕ) → (groundsText file fact ≡ line 0x45 n) ↔ (firstNumber (textQuestions file fact) ≡ some n)
 
 -- 2. The run equals the forward chaining for the order given, its facts are stable for the file less the rules set aside, the judge says stable
 -- exactly when a set is, and the proof check says yes exactly when a list is a proof of the asked fact that the set admits.

@@ -4,4 +4,5 @@ pub mod Results
 pub mod Demands
 pub mod Examples
 pub mod Starred
+pub mod Wish01
 pub mod Wish08

@@ -14,6 +14,7 @@ use mathlib.Core.Logic.{_↔_, _⊎_}
 use lib.Dec.{eqb}
 use Rattle.theory.specs.Chaining.{Disjoint, Applicable, First, Chaining, IsUnion, Inconsistent}
 use Rattle.theory.specs.Stable.{Stable, rowTo, Earliest, anySet, Proof, Admits, factsOf, orderFor}
+use Rattle.keeping.specs.Outcome.{groundsOutcome}
 use Rattle.judge.specs.Judged.{judged}
 use mathlib.Core.Option.{none}
 use Rattle.proofcheck.specs.declared.answer.Checked.the-variants.{Yes}
@@ -23,7 +24,8 @@ use Rattle.items.specs.Question.{firstNo}
 use Rattle.reader.specs.Accept.{acceptOf}
 use Rattle.questions.specs.Answer.{answerOf}
 use Rattle.panel_lines.specs.Text.{panelText, shown}
-use Rattle.retention.specs.Reply.{fileOf, verdictOfJudged, verdictOfChecked, runReply, searchReply}
+use Rattle.grounds_text.specs.Text.{groundsText}
+use Rattle.retention.specs.Reply.{fileOf, verdictOfJudged, verdictOfChecked, runReply, searchReply, groundsReply}
 use Rattle.run.specs.Outcome as run
 use Rattle.judge.specs.declared.answer.Judged.the-variants as judgement
 use Rattle.proofcheck.specs.Checked as check
@@ -244,13 +246,16 @@ pub record SameReplies (s t : List ℕ) : Type 0 where
   pub ask-set : (set : List ℕ) → answerOf (firstNo (askSetQuestions s set)) ≡ answerOf (firstNo (askSetQuestions t set))
   pub ask-row : (fact : ℕ) (row : List ℕ) → answerOf (firstNo (askRowQuestions s fact row)) ≡ answerOf (firstNo (askRowQuestions t fact row))
   pub run : (order facts rules steps : List ℕ) → runOutcome s order facts rules steps ≡ runOutcome t order facts rules steps
+  pub grounds : (order : List ℕ) (fact : ℕ) (facts rules steps : List ℕ) → groundsOutcome s order fact facts rules steps ≡ groundsOutcome t order fact facts rules steps
   pub judge : (list set : List ℕ) → judged s list set ≡ judged t list set
   pub check : (set : List ℕ) (fact : ℕ) (row : List ℕ) → checked s set fact row ≡ checked t set fact row
   pub search : (facts rules steps order : List ℕ) → searchOutcome s facts rules steps order ≡ searchOutcome t facts rules steps order
   pub render : (room : List ℕ) → (length (panelText s) ≡ length (panelText t)) × (shown (panelText s) room ≡ shown (panelText t) room)
+  pub render-grounds : (fact : ℕ) (room : List ℕ) → (length (groundsText s fact) ≡ length (groundsText t fact)) × (shown (groundsText s fact) room ≡ shown (groundsText t fact) room)
   -- The operations for callers in C and Rust; the panel's is `render`.
   pub retention-accept : fileOf (acceptOf s) ≡ fileOf (acceptOf t)
   pub retention-run : (order facts rules steps : List ℕ) → runReply (runOutcome s order facts rules steps) ≡ runReply (runOutcome t order facts rules steps)
+  pub retention-grounds : (order : List ℕ) (fact : ℕ) (facts rules steps : List ℕ) → groundsReply (groundsOutcome s order fact facts rules steps) ≡ groundsReply (groundsOutcome t order fact facts rules steps)
   pub retention-judge : (list set : List ℕ) → verdictOfJudged (judged s list set) ≡ verdictOfJudged (judged t list set)
   pub retention-check : (set : List ℕ) (fact : ℕ) (row : List ℕ) → verdictOfChecked (checked s set fact row) ≡ verdictOfChecked (checked t set fact row)
   pub retention-search : (facts rules steps order : List ℕ) → searchReply (searchOutcome s facts rules steps order) ≡ searchReply (searchOutcome t facts rules steps order)

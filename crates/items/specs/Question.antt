@@ -1,8 +1,8 @@
--- The number of each refusal, a question before a result, and the first no to a list of them (document 01, "Questions before a result"): each no
--- stops with its number.
+-- The number of each refusal, a question before a result, and the first no to a list of them (document 01, "Questions before a result", and the wishes
+-- of document 02): each no stops with its number.
 use Prim.Native.Nat.{ℕ}
 use Rattle.items.specs.declared.refusal.Refusal.{Refusal}
-use Rattle.items.specs.declared.refusal.Refusal.the-variants.{FileTooLong, NoFactCount, FileCutOff, UnknownKind, BodyCutOff, FactTooHigh, NoRuleOpened, TooManyRules, WrongRuleCount, BytesAfterEnd, NotRuleItems, NotAnException, NamedTwice, NotAllNamed, WrongSetLength, NotZeroOrOne, NotStepItems, AskedFactTooHigh, FactMarksShort, RuleMarksShort, StepsShort, OrderShort, TooManyConstraints, NoStableSet}
+use Rattle.items.specs.declared.refusal.Refusal.the-variants.{FileTooLong, NoFactCount, FileCutOff, UnknownKind, BodyCutOff, FactTooHigh, NoRuleOpened, TooManyRules, WrongRuleCount, BytesAfterEnd, NotRuleItems, NotAnException, NamedTwice, NotAllNamed, WrongSetLength, NotZeroOrOne, NotStepItems, AskedFactTooHigh, FactMarksShort, RuleMarksShort, StepsShort, OrderShort, TooManyConstraints, NoStableSet, NotDerived}
 use mathlib.Core.Bool.{Bool, cond}
 use mathlib.Core.List.{List, [], _∷_}
 use mathlib.Core.Option.{Option, none, some}
@@ -32,8 +32,9 @@ number StepsShort = 33
 number OrderShort = 34
 number TooManyConstraints = 40
 number NoStableSet = 41
+number NotDerived = 50
 
--- The refusal that a no gives (`number` is its number in document 01), and the answer.
+-- The refusal that a no gives (`number` is its number in the documents), and the answer.
 pub record Question : Type 0 where
   pub refusal : Refusal
   pub answer : Bool

@@ -1,7 +1,7 @@
 ghost use mathlib.Core.Path.{_≡_};
 ghost use Rattle.items.specs.Question.{number};
 
-// Why an operation refuses: one case for each question of document 01 that can get a no.
+// Why an operation refuses: one case for each question of documents 01 and 02 that can get a no.
 pub enum Refusal {
     FileTooLong,
     NoFactCount,
@@ -27,10 +27,11 @@ pub enum Refusal {
     OrderShort,
     TooManyConstraints,
     NoStableSet,
+    NotDerived,
 }
 
 impl Refusal {
-    // The number that document 01 gives the refusal.
+    // The number that the documents give the refusal.
     pub fn number(self) -> u8
         ensures { λ r. ⌜ r ≡ number self ⌝ }
     {
@@ -59,6 +60,7 @@ impl Refusal {
             Refusal::OrderShort => 34,
             Refusal::TooManyConstraints => 40,
             Refusal::NoStableSet => 41,
+            Refusal::NotDerived => 50,
         }
     }
 }

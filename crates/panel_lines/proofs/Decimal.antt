@@ -1,6 +1,7 @@
 -- Numbers in decimal digits.
-use Prim.Native.Nat.{ℕ, zero, suc, _/_, _%_, _≤_, _<_}
+use Prim.Native.Nat.{ℕ, zero, suc, _/_, _%_, _^_, _≤_, _<_}
 use native.Mathlib.Omega.{arith}
+use native.Mathlib.Nat.{pow-suc}
 use mathlib.Core.Path.{_≡_, refl, ap}
 use mathlib.Core.Bool.{Bool, true, false}
 use mathlib.Core.Logic.{⊎-elim}
@@ -44,6 +45,8 @@ longer n k h =
     (λ e. omega (arith, ap length (more-digits n (ltb-false n 10 e)), length-append (decimal (n / 10)) (digit (n % 10)), h (ltb-false n 10 e)))
     (either (ltb n 10))
 
--- A number below 1000 has at most three digits.
-pub three-digits : (n : ℕ) → n < 1000 → length (decimal n) ≤ 3
-three-digits n h = longer n 2 (λ l. longer (n / 10) 1 (λ m. longer (n / 10 / 10) 0 (λ o. absurd (omega arith))))
+-- A number below 10 to the power of k has at most k digits, for every k but 0.
+pub few-digits : (k n : ℕ) → n < 10 ^ suc k → length (decimal n) ≤ suc k
+few-digits zero n h = longer n 0 (λ l. absurd (omega arith))
+few-digits (suc k) n h =
+    longer n (suc k) (λ l. few-digits k (n / 10) (omega (arith, h, pow-suc 10 (suc k))))

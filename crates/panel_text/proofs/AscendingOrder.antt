@@ -20,7 +20,7 @@ use Rattle.tables.proofs.ProgramHeld.{rules-below}
 use Rattle.marking.proofs.MarksPainted.{unpainted}
 use Rattle.marking.proofs.RulesMarked.{plain-at}
 use Rattle.reader.proofs.Accepted.{accepted-file, rules-few}
-use Rattle.questions.specs.Questions.{orderQuestions, orderNo, bufferQuestions, runQuestions, buffersNo, runNo, naming}
+use Rattle.questions.specs.Questions.{orderQuestions, orderNo, bufferQuestions, runQuestions, buffersNo, tabledNo, runNo, naming}
 use Rattle.items.proofs.FirstNo.{all-yes}
 use Rattle.questions.proofs.OperationAsked.{file-accepted}
 use Rattle.questions.proofs.Orders.{keep-once, order-yes}
@@ -56,13 +56,14 @@ unfolding bufferQuestions
 buffers-yes P f r =
     rw (le-leb (P .facts) (maxFacts narrow) f, le-leb (count P) maxRules r, le-leb (stepWidth narrow * P .facts) (maxFacts narrow * stepWidth narrow) (omega arith))
 
--- So the run refuses nothing.
+-- So nothing of a run in ascending order is refused.
+pub ascending-runs : (P : Program) → P .facts ≤ maxFacts narrow → count P ≤ maxRules → _≡_ {A = Option Refusal} (tabledNo P (naming (ascending P)) (maxFacts narrow) maxRules (maxFacts narrow * stepWidth narrow)) none
+ascending-runs P f r =
+    all-yes (orderQuestions (exception P) (count P) (naming (ascending P))) (bufferQuestions narrow P (maxFacts narrow) maxRules (maxFacts narrow * stepWidth narrow))
+    (ascending-yes (exception P) (count P))
+    (buffers-yes P f r)
+
 pub run-yes : (s : List ℕ) → programOf s .facts < maxFacts narrow → _≡_ {A = Option Refusal} (fileNo s) none → _≡_ {A = Option Refusal} (runNo s (naming (ascending (programOf s))) (maxFacts narrow) maxRules (maxFacts narrow * stepWidth narrow)) none
 unfolding runQuestions
 run-yes s few a =
-    let t = accepted-file s a in
-    let P = programOf s in
-    file-accepted s _ a
-    ∙ all-yes (orderQuestions (exception P) (count P) (naming (ascending P))) (bufferQuestions narrow P (maxFacts narrow) maxRules (maxFacts narrow * stepWidth narrow))
-    (ascending-yes (exception P) (count P))
-    (buffers-yes P (omega (arith, few)) (rules-few t))
+    file-accepted s _ a ∙ ascending-runs (programOf s) (omega (arith, few)) (rules-few (accepted-file s a))

@@ -24,7 +24,7 @@ use Rattle.run.proofs.FewSteps.{Paced, run-paced}
 use Rattle.questions.specs.Questions.{each, naming}
 use Rattle.panel_lines.specs.Text.{newline, spaced, field, line, headLine, stepLine, rejectedFacts, asideRules, runText, ascending, mostSpaced, mostField, mostLine, mostStep, mostHead, textRoom}
 use Rattle.questions.specs.Put.{Fits, Put}
-use Rattle.panel_lines.proofs.Decimal.{three-digits}
+use Rattle.panel_lines.proofs.Decimal.{few-digits}
 
 -- A number of at most three digits.
 abbrev Small : ℕ → Type 0
@@ -32,7 +32,7 @@ Small n = n < 1000
 
 spaced-length : (n : ℕ) → Small n → length (spaced n) ≤ mostSpaced narrow
 unfolding spaced
-spaced-length n h = omega (arith, three-digits n h)
+spaced-length n h = omega (arith, few-digits 2 n h)
 
 field-length : (l n : ℕ) → Small n → length (field l n) ≤ mostField narrow
 unfolding field
@@ -73,11 +73,15 @@ none-written l (n ∷ ns) at before next after p =
 pub order-length : (p : ℕ → Bool) (n : ℕ) → length (naming (keep p (upTo n))) ≤ n * nameWidth
 order-length p n = kept-length ruleItem nameWidth p 0 n (λ i l. omega arith)
 
-pub order-fits : (s : List ℕ) → _≡_ {A = Option Refusal} (fileNo s) none → Fits (naming (ascending (programOf s))) 0 (replicate (maxRules * nameWidth) 0)
-order-fits s a =
+-- The ascending order has room where there is room for a name of each rule.
+pub ascending-fits : (P : Program) → count P ≤ maxRules → Fits (naming (ascending P)) 0 (replicate (maxRules * nameWidth) 0)
+ascending-fits P r =
     record {
-      inside = omega (arith, order-length (exception (programOf s)) (count (programOf s)), rules-few (accepted-file s a), length-replicate {A = ℕ} (maxRules * nameWidth) 0);
+      inside = omega (arith, order-length (exception P) (count P), r, length-replicate {A = ℕ} (maxRules * nameWidth) 0);
     }
+
+pub order-fits : (s : List ℕ) → _≡_ {A = Option Refusal} (fileNo s) none → Fits (naming (ascending (programOf s))) 0 (replicate (maxRules * nameWidth) 0)
+order-fits s a = ascending-fits (programOf s) (rules-few (accepted-file s a))
 
 -- The tables of an accepted file hold few facts.
 pub few-tabled : {s T : List ℕ} → Tabled s T → programOf s .facts < maxFacts narrow
@@ -93,17 +97,25 @@ module _ (P : Program) (b : Bounded P) (f : P .facts < maxFacts narrow) (r : cou
       let fact-small : Small (s .fact) = omega (arith, g .0 .concludes) in
       omega (arith, length-append (stepLine s) (each stepLine row), step-length s fact-small (omega arith), steps-length ok row (adjoin S (s .fact)) (g .1))
 
+  -- A run takes no more steps than there are facts.
+  pub trace-length : (order : List ℕ) → length (each stepLine (run P (inForce P) order .trace)) ≤ P .facts * mostStep narrow
+  trace-length order =
+      let s : Stand = run P (inForce P) order in
+      let pace : Paced P s = run-paced P b (inForce P) order in
+      let taken : stepCount s ≤ P .facts = omega (arith, pace .room) in
+      let steps : length (each stepLine (s .trace)) ≤ length (s .trace) * mostStep narrow = steps-length (granted P (inForce P) (s .applied)) (s .trace) nothing (run-sound P (inForce P) order .grounds) in
+      omega (arith, steps, taken)
+
   text-length : (order : List ℕ) → length (runText P (run P (inForce P) order)) ≤ textRoom narrow
   unfolding runText
   text-length order =
       let s : Stand = run P (inForce P) order in
       let pace : Paced P s = run-paced P b (inForce P) order in
-      let taken : stepCount s ≤ P .facts = omega (arith, pace .room) in
-      let head : length (headLine (P .facts) (count P) (stageCount s)) ≤ mostHead narrow = head-length (P .facts) (count P) (stageCount s) (omega arith) (omega arith) (omega (arith, pace .staged)) in
-      let steps : length (each stepLine (s .trace)) ≤ length (s .trace) * mostStep narrow = steps-length (granted P (inForce P) (s .applied)) (s .trace) nothing (run-sound P (inForce P) order .grounds) in
+      let head : length (headLine (P .facts) (count P) (stageCount s)) ≤ mostHead narrow = head-length (P .facts) (count P) (stageCount s) (omega arith) (omega arith) (omega (arith, pace .staged, pace .room)) in
+      let steps : length (each stepLine (s .trace)) ≤ P .facts * mostStep narrow = trace-length order in
       let facts : length (each (line 0x58) (rejectedFacts P s)) ≤ P .facts * mostLine narrow = kept-length (line 0x58) (mostLine narrow) _ 0 (P .facts) (λ i l. line-length 0x58 i (omega arith)) in
       let rules : length (each (line 0x41) (asideRules P s)) ≤ count P * mostLine narrow = kept-length (line 0x41) (mostLine narrow) _ 0 (count P) (λ i l. line-length 0x41 i (omega arith)) in
-      simp length-append (omega (arith, head, steps, facts, rules, taken))
+      simp length-append (omega (arith, head, steps, facts, rules))
 
 -- The text of every accepted file has room.
 pub text-fits : (s : List ℕ) → programOf s .facts < maxFacts narrow → _≡_ {A = Option Refusal} (fileNo s) none → (order : List ℕ) → length (runText (programOf s) (run (programOf s) (inForce (programOf s)) order)) ≤ textRoom narrow

@@ -9,6 +9,7 @@ use mathlib.Core.Option.{Option, none, some, Option·map}
 use borrow.Author.Tests.{ltb-false}
 use lib.ListN.{getD, drop}
 use lib.Dec.{ltb}
+use Rattle.words.specs.Word.{digitZero, valueBehind}
 use Rattle.theory.specs.Rule.{Program, inForce}
 use Rattle.theory.specs.Run.{Stand, run}
 use Rattle.items.specs.declared.refusal.Refusal.{Refusal}
@@ -17,35 +18,30 @@ use Rattle.reader.specs.Questions.{programOf, fileNo}
 use Rattle.panel_lines.specs.Text.{digit, digits, decimal, newline, spaced, field, line, headLine, runText, ascending, panelText}
 use Rattle.panel_text.proofs.RunLines.{refused-text, accepted-text}
 
--- The value of a row of digits behind those of n.
-abbrev value : ℕ → List ℕ → ℕ
-value n [] = n
-value n (b ∷ bs) = value (n * 10 + (b - 0x30)) bs
-
-value-append : (n : ℕ) (xs ys : List ℕ) → value n (xs ++ ys) ≡ value (value n xs) ys
+value-append : (n : ℕ) (xs ys : List ℕ) → valueBehind n (xs ++ ys) ≡ valueBehind (valueBehind n xs) ys
 value-append n [] ys = refl
-value-append n (x ∷ xs) ys = value-append (n * 10 + (x - 0x30)) xs ys
+value-append n (x ∷ xs) ys = value-append (n * 10 + (x - digitZero)) xs ys
 
 -- The digits of a number have its value.
-digits-value : (k n : ℕ) → n ≤ k → value 0 (digits k n) ≡ n
+pub digits-value : (k n : ℕ) → n ≤ k → valueBehind 0 (digits k n) ≡ n
 digits-value zero n h = omega arith
 digits-value (suc k) n h = go (ltb n 10) refl (digits-value k (n / 10))
   where
-    go : (b : Bool) → ltb n 10 ≡ b → (n / 10 ≤ k → value 0 (digits k (n / 10)) ≡ n / 10) → value 0 (digits (suc k) n) ≡ n
+    go : (b : Bool) → ltb n 10 ≡ b → (n / 10 ≤ k → valueBehind 0 (digits k (n / 10)) ≡ n / 10) → valueBehind 0 (digits (suc k) n) ≡ n
     go true e r = rw e (omega arith)
     go false e r =
         let many : 10 ≤ n = ltb-false n 10 e in
         rw (e, value-append 0 (digits k (n / 10)) (digit (n % 10)), r (omega arith)) (omega arith)
 
 -- The end of a line is no digit: behind the digits of n it counts as 0.
-line-value : (letter n : ℕ) → value 0 (drop 2 (line letter n)) ≡ n * 10
+line-value : (letter n : ℕ) → valueBehind 0 (drop 2 (line letter n)) ≡ n * 10
 unfolding line field spaced decimal
 line-value letter n = value-append 0 (decimal n) newline ∙ rw (digits-value n n (omega arith)) (omega arith)
 
 -- A line tells its number.
-line-tells : (letter n m : ℕ) → line letter n ≡ line letter m → n ≡ m
+pub line-tells : (letter n m : ℕ) → line letter n ≡ line letter m → n ≡ m
 line-tells letter n m e =
-    let tens : n * 10 ≡ m * 10 = sym (line-value letter n) ∙ ap (λ (l : List ℕ). value 0 (drop 2 l)) e ∙ line-value letter m in
+    let tens : n * 10 ≡ m * 10 = sym (line-value letter n) ∙ ap (λ (l : List ℕ). valueBehind 0 (drop 2 l)) e ∙ line-value letter m in
     omega arith
 
 -- The text of a run begins with F, a line of a letter with that letter.
@@ -53,7 +49,7 @@ run-begins : (P : Program) (s : Stand) → getD (runText P s) 0 0 ≡ 0x46
 unfolding runText headLine field
 run-begins P s = refl
 
-line-begins : (letter n : ℕ) → getD (line letter n) 0 0 ≡ letter
+pub line-begins : (letter n : ℕ) → getD (line letter n) 0 0 ≡ letter
 unfolding line field
 line-begins letter n = refl
 

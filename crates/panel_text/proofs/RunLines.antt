@@ -36,7 +36,7 @@ use Rattle.questions.proofs.Orders.{naming-names}
 use Rattle.panel_text.proofs.AscendingOrder.{run-yes}
 
 -- the row of the steps taken
-front-steps : (row : List Taken) (room : List ℕ) → rowOf (take (length row * stepWidth narrow) (over (stepBytes narrow row) room)) ≡ row
+pub front-steps : (row : List Taken) (room : List ℕ) → rowOf (take (length row * stepWidth narrow) (over (stepBytes narrow row) room)) ≡ row
 front-steps row room =
     let taken : length row * stepWidth narrow ≡ stepWidth narrow * length row = omega arith in
     ap (λ (n : ℕ). rowOf (take n (over (stepBytes narrow row) room))) taken ∙ ap rowOf (steps-front row room) ∙ steps-read row

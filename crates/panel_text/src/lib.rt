@@ -5,8 +5,8 @@ ghost use lib.ListN.{length};
 ghost use Rattle.panel_lines.specs.Text.{panelText, shown, textRoom};
 ghost use Rattle.items.specs.Item.{narrow};
 
-mod lines;
-mod order;
+pub mod lines;
+pub mod order;
 pub mod text;
 
 use text::TEXT_ROOM;

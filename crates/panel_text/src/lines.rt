@@ -22,7 +22,7 @@ const IN_R: u8 = 2;
 const SET_ASIDE: u8 = 2;
 
 // A line for each step of a row.
-fn put_steps(out: &mut [u8], from: usize, row: &[u8]) -> usize
+pub fn put_steps(out: &mut [u8], from: usize, row: &[u8]) -> usize
     requires { ⌜ Fits (each stepLine (rowOf (now row))) from (now out) ⌝ }
     ensures { λ r. ⌜ Put (each stepLine (rowOf (now (row .entry)))) from (now (out .entry)) r (now (out .exit)) ⌝ }
 {

@@ -29,7 +29,7 @@ const MOST_FIELD: usize = 1 + MOST_SPACED;
 
 const MOST_LINE: usize = MOST_FIELD + 1;
 
-const MOST_STEP: usize = MOST_FIELD + MOST_SPACED + 1;
+pub const MOST_STEP: usize = MOST_FIELD + MOST_SPACED + 1;
 
 const MOST_HEAD: usize = 3 * (MOST_FIELD + 1);
 

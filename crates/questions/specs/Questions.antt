@@ -8,7 +8,7 @@ use lib.ListN.{length}
 use lib.Dec.{eqb, ltb, leb}
 use Rattle.theory.specs.Rule.{all, mem, upTo, nothing, adjoin, count, exception, Program, FactSet, inForce, Step}
 use Rattle.items.specs.declared.refusal.Refusal.{Refusal}
-use Rattle.items.specs.declared.refusal.Refusal.the-variants.{NotRuleItems, NotAnException, NamedTwice, NotAllNamed, WrongSetLength, NotZeroOrOne, NotStepItems, AskedFactTooHigh, FactMarksShort, RuleMarksShort, StepsShort, OrderShort, TooManyConstraints, NoStableSet}
+use Rattle.items.specs.declared.refusal.Refusal.the-variants.{NotRuleItems, NotAnException, NamedTwice, NotAllNamed, WrongSetLength, NotZeroOrOne, NotStepItems, AskedFactTooHigh, FactMarksShort, RuleMarksShort, StepsShort, OrderShort, TooManyConstraints, NoStableSet, NotDerived}
 use Rattle.items.specs.Item.{narrow, classOf, whereSaid, Width, stepWidth, nameWidth, maxGuessed}
 use Rattle.cursors.specs.Cursor.{Token, item, bad, itemsAt, orderStart, stepsStart}
 use Rattle.items.specs.Question.{Question, ask, firstNo}
@@ -19,6 +19,7 @@ use mathlib.Core.Path.{_≡_}
 use mathlib.Core.Logic.{_↔_}
 use Rattle.theory.specs.Stable.{Stable}
 use Rattle.theory.specs.Search.{search}
+use Rattle.theory.specs.Run.{Stand, run}
 use Rattle.items.specs.Write.{ruleItem}
 
 -- whole items throughout
@@ -168,6 +169,22 @@ runNo file order facts rules steps = firstNo (runQuestions file order facts rule
 abbrev pub tabledNo : Program → List ℕ → ℕ → ℕ → ℕ → Option Refusal
 tabledNo P order facts rules steps =
     firstNo (orderQuestions (exception P) (count P) order ++ bufferQuestions narrow P facts rules steps)
+
+-- The run of a file under an order.
+abbrev pub runOf : List ℕ → List ℕ → Stand
+runOf file order = run (programOf file) (inForce (programOf file)) (namedIn order)
+
+-- Did the run derive the fact? (document 02, wish 1)
+abbrev pub derivedQuestion : Stand → ℕ → Question
+derivedQuestion s fact = ask NotDerived (s .derived fact)
+
+-- The grounds for one fact: the run's questions, then this one.
+unfoldable pub groundsQuestions : List ℕ → List ℕ → ℕ → ℕ → ℕ → ℕ → List Question
+groundsQuestions file order fact facts rules steps =
+    runQuestions file order facts rules steps ++ (derivedQuestion (runOf file order) fact ∷ [])
+
+abbrev pub groundsNo : List ℕ → List ℕ → ℕ → ℕ → ℕ → ℕ → Option Refusal
+groundsNo file order fact facts rules steps = firstNo (groundsQuestions file order fact facts rules steps)
 
 -- The judge: the file, the list, then the set.
 unfoldable pub judgeQuestions : List ℕ → List ℕ → List ℕ → List Question

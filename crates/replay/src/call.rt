@@ -70,6 +70,7 @@ fn reply(
     let head = row(bytes, places[0]);
     let file = row(bytes, file);
     let second = row(bytes, places[3]);
+    let fact = (number(head, 6) << 16) | number(head, 8);
     let operation = number(head, 0);
     match operation {
         2 => {
@@ -81,10 +82,11 @@ fn reply(
             [a.refusal, a.stages, a.steps, 0, 0, 0]
         }
         6 => [retention::retention_panel(file, f), 0, 0, 0, 0, 0],
-        _ => {
-            let fact = (number(head, 6) << 16) | number(head, 8);
-            answer(operation, file, second, row(bytes, places[4]), fact)
+        11 => {
+            let a = retention::retention_grounds(file, second, fact, f, r, s);
+            [a.refusal, a.count, 0, 0, 0, 0]
         }
+        _ => answer(operation, file, second, row(bytes, places[4]), fact),
     }
 }
 

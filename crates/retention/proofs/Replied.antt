@@ -6,8 +6,11 @@ use Rattle.run.specs.declared.answer.Ran.{Ran}
 use Rattle.run.specs.Outcome as ran
 use Rattle.search.specs.declared.answer.Searched.{Searched}
 use Rattle.search.specs.Outcome as searched
+use Rattle.keeping.specs.declared.answer.Grounds.{Grounds}
+use Rattle.keeping.specs.Outcome as grounds
+use Rattle.retention.specs.declared.reply.Count.{Count}
 use Rattle.retention.specs.declared.reply.RunCounts.{RunCounts}
-use Rattle.retention.specs.Reply.{countsOfRan, countsOfSearched, RunReply, runReply, SearchReply, searchReply}
+use Rattle.retention.specs.Reply.{countsOfRan, countsOfSearched, RunReply, runReply, SearchReply, searchReply, countOfGrounds, GroundsReply, groundsReply}
 
 pub run-replied : (a : Ran) (r : RunCounts) (facts rules steps : List ℕ) (o : ran.RunOutcome) → r ≡ countsOfRan a → _≡_ {A = ran.RunOutcome} (record { answer = a; fact-marks = facts; rule-marks = rules; steps = steps }) o → _≡_ {A = RunReply} (record { reply = r; fact-marks = facts; rule-marks = rules; steps = steps }) (runReply o)
 unfolding runReply
@@ -16,3 +19,7 @@ run-replied a r facts rules steps o said left = rw (said, ← left, runReply)
 pub search-replied : (a : Searched) (r : RunCounts) (facts rules steps order : List ℕ) (o : searched.SearchOutcome) → r ≡ countsOfSearched a → _≡_ {A = searched.SearchOutcome} (record { answer = a; fact-marks = facts; rule-marks = rules; steps = steps; order = order }) o → _≡_ {A = SearchReply} (record { reply = r; fact-marks = facts; rule-marks = rules; steps = steps; order = order }) (searchReply o)
 unfolding searchReply
 search-replied a r facts rules steps order o said left = rw (said, ← left, searchReply)
+
+pub grounds-replied : (a : Grounds) (r : Count) (facts rules steps : List ℕ) (o : grounds.GroundsOutcome) → r ≡ countOfGrounds a → _≡_ {A = grounds.GroundsOutcome} (record { answer = a; fact-marks = facts; rule-marks = rules; steps = steps }) o → _≡_ {A = GroundsReply} (record { reply = r; fact-marks = facts; rule-marks = rules; steps = steps }) (groundsReply o)
+unfolding groundsReply
+grounds-replied a r facts rules steps o said left = rw (said, ← left, groundsReply)

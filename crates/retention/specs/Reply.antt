@@ -13,6 +13,9 @@ use Rattle.proofcheck.specs.declared.answer.Checked.{Checked}
 use Rattle.proofcheck.specs.Checked as checked
 use Rattle.search.specs.declared.answer.Searched.{Searched}
 use Rattle.search.specs.Outcome as searched
+use Rattle.keeping.specs.declared.answer.Grounds.{Grounds}
+use Rattle.keeping.specs.Outcome as grounds
+use Rattle.retention.specs.declared.reply.Count.{Count}
 use Rattle.retention.specs.declared.reply.FileReply.{FileReply}
 use Rattle.retention.specs.declared.reply.RunCounts.{RunCounts}
 use Rattle.retention.specs.declared.reply.Verdict.{Verdict}
@@ -45,6 +48,9 @@ verdictOfJudged a = record { refusal = judged.number a; verdict = judged.verdict
 unfoldable pub verdictOfChecked : Checked → Verdict
 verdictOfChecked a = record { refusal = checked.number a; verdict = checked.verdict a }
 
+unfoldable pub countOfGrounds : Grounds → Count
+countOfGrounds a = record { refusal = grounds.number a; count = grounds.count a }
+
 -- The reply of a run and the three buffers, from the run's outcome.
 pub record RunReply : Type 0 where
   pub reply : RunCounts
@@ -56,6 +62,22 @@ unfoldable pub runReply : ran.RunOutcome → RunReply
 runReply o =
     record {
       reply = countsOfRan (o .answer);
+      fact-marks = o .fact-marks;
+      rule-marks = o .rule-marks;
+      steps = o .steps;
+    }
+
+-- The reply of the grounds for one fact and the three buffers, from their outcome.
+pub record GroundsReply : Type 0 where
+  pub reply : Count
+  pub fact-marks : List ℕ
+  pub rule-marks : List ℕ
+  pub steps : List ℕ
+
+unfoldable pub groundsReply : grounds.GroundsOutcome → GroundsReply
+groundsReply o =
+    record {
+      reply = countOfGrounds (o .answer);
       fact-marks = o .fact-marks;
       rule-marks = o .rule-marks;
       steps = o .steps;

@@ -7,11 +7,13 @@ ghost use Rattle.run.specs.Outcome.{runOutcome};
 ghost use Rattle.judge.specs.Judged.{judged};
 ghost use Rattle.proofcheck.specs.Checked.{checked};
 ghost use Rattle.search.specs.Outcome.{searchOutcome};
+ghost use Rattle.keeping.specs.Outcome.{groundsOutcome};
 ghost use Rattle.panel_lines.specs.Text.{panelText, shown};
-ghost use Rattle.retention.specs.Reply.{fileOf, verdictOfJudged, verdictOfChecked, RunReply, runReply, SearchReply, searchReply};
+ghost use Rattle.retention.specs.Reply.{fileOf, verdictOfJudged, verdictOfChecked, RunReply, runReply, SearchReply, searchReply, GroundsReply, groundsReply};
 
 pub mod reply;
 
+use reply::Count;
 use reply::FileReply;
 use reply::RunCounts;
 use reply::Verdict;
@@ -36,6 +38,21 @@ pub extern "C" fn retention_run(
     ensures { λ r. ⌜ _≡_ {A = RunReply} (record { reply = r; fact-marks = now («fact_marks» .exit); rule-marks = now («rule_marks» .exit); steps = now (steps .exit) }) (runReply (runOutcome (now (file .entry)) (now (order .entry)) (now («fact_marks» .entry)) (now («rule_marks» .entry)) (now (steps .entry)))) ⌝ }
 {
     reply::of_ran(run::run(file, order, fact_marks, rule_marks, steps))
+}
+
+// Runs a file under an order, and keeps of its steps those that matter for a fact.
+#[no_mangle]
+pub extern "C" fn retention_grounds(
+    file: &[u8],
+    order: &[u8],
+    fact: u32,
+    fact_marks: &mut [u8],
+    rule_marks: &mut [u8],
+    steps: &mut [u8],
+) -> Count
+    ensures { λ r. ⌜ _≡_ {A = GroundsReply} (record { reply = r; fact-marks = now («fact_marks» .exit); rule-marks = now («rule_marks» .exit); steps = now (steps .exit) }) (groundsReply (groundsOutcome (now (file .entry)) (now (order .entry)) fact (now («fact_marks» .entry)) (now («rule_marks» .entry)) (now (steps .entry)))) ⌝ }
+{
+    reply::of_grounds(keeping::grounds(file, order, fact, fact_marks, rule_marks, steps))
 }
 
 // Is a set stable for a file less some listed exception rules?

@@ -1,8 +1,9 @@
 // The replies, and each answer as a reply. A refusal has its number and 0 for every other value.
 ghost use mathlib.Core.Path.{_≡_};
-ghost use Rattle.retention.specs.Reply.{fileOf, countsOfRan, countsOfSearched, verdictOfJudged, verdictOfChecked};
+ghost use Rattle.retention.specs.Reply.{fileOf, countsOfRan, countsOfSearched, verdictOfJudged, verdictOfChecked, countOfGrounds};
 use items::write::STEP_WIDTH;
 use judge::answer::Judged;
+use keeping::answer::Grounds;
 use proofcheck::answer::Checked;
 use reader::answer::Accept;
 use run::answer::Ran;
@@ -32,6 +33,13 @@ pub struct RunCounts {
 pub struct Verdict {
     pub refusal: u32,
     pub verdict: u32,
+}
+
+// One count.
+#[repr(C)]
+pub struct Count {
+    pub refusal: u32,
+    pub count: u32,
 }
 
 pub fn of_accept(a: Accept) -> FileReply
@@ -130,6 +138,21 @@ pub fn of_checked(a: Checked) -> Verdict
         Checked::Refused(r) => Verdict {
             refusal: r.number() as u32,
             verdict: 0,
+        },
+    }
+}
+
+pub fn of_grounds(a: Grounds) -> Count
+    ensures { λ r. ⌜ r ≡ countOfGrounds a ⌝ }
+{
+    match a {
+        Grounds::Given { steps } => Count {
+            refusal: 0,
+            count: steps as u32,
+        },
+        Grounds::Refused(r) => Count {
+            refusal: r.number() as u32,
+            count: 0,
         },
     }
 }

@@ -2,6 +2,7 @@ pub mod FewSteps
 pub mod MemoryShown
 pub mod NextLook
 pub mod StandsKept
+pub mod RunHeld
 pub mod RunAsked
 pub mod Outcomes
 pub mod ReadMarks

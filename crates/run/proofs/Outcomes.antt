@@ -11,8 +11,8 @@ use Rattle.items.specs.Question.{noNumber}
 use Rattle.reader.specs.Questions.{programOf}
 use Rattle.closure.specs.Steps.{stepBytes}
 use Rattle.run.specs.declared.answer.Ran.the-variants.{Done, Refused}
-use Rattle.questions.specs.Questions.{runNo}
-use Rattle.run.specs.Outcome.{RunOutcome, runOf, runWritten, runOutcome, number, RunNumbers}
+use Rattle.questions.specs.Questions.{runNo, runOf}
+use Rattle.run.specs.Outcome.{RunOutcome, runWritten, runOutcome, number, RunNumbers}
 use Rattle.items.specs.Write.{over}
 use Rattle.items.specs.Item.{narrow}
 

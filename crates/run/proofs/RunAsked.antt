@@ -16,12 +16,12 @@ use Rattle.reader.specs.Asked.{fileAsked}
 use Rattle.reader.specs.Scanned.{Tabled}
 use Rattle.reader.proofs.Accepted.{all-asked}
 use Rattle.questions.specs.declared.answer.Answer.the-variants.{Yes, No}
-use Rattle.questions.specs.Questions.{namedIn, listQuestions, orderQuestions, bufferQuestions, tabledNo, runQuestions, runNo}
+use Rattle.questions.specs.Questions.{namedIn, listQuestions, orderQuestions, bufferQuestions, tabledNo, runQuestions, runNo, runOf}
 use Rattle.questions.specs.Answer.{answerOf}
 use Rattle.questions.proofs.OperationAsked.{file-refused, file-accepted, yes-to-list, Passed}
 use Rattle.questions.proofs.NamesAsked.{said-yes, said-no}
 use Rattle.naming.proofs.FewNamed.{few-named}
-use Rattle.run.specs.Outcome.{RunOutcome, runOf, runWritten}
+use Rattle.run.specs.Outcome.{RunOutcome, runWritten}
 use Rattle.run.specs.Stands.{MayRun, runIn}
 
 module _ (P : Program) (few : count P ≤ maxRules) (order : List ℕ) (facts rules steps : ℕ) where

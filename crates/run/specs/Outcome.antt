@@ -5,12 +5,12 @@ use mathlib.Core.List.{List}
 use mathlib.Core.Option.{Option, none, some}
 use lib.ListN.{length}
 use Rattle.theory.specs.Rule.{Program, inForce}
-use Rattle.theory.specs.Run.{Stand, run, factMarks, ruleMarks, stageCount, stepCount}
+use Rattle.theory.specs.Run.{Stand, factMarks, ruleMarks, stageCount, stepCount}
 use Rattle.items.specs.declared.refusal.Refusal.{Refusal}
 use Rattle.items.specs.Question as refusal
 use Rattle.items.specs.Question.{noNumber}
 use Rattle.reader.specs.Questions.{programOf}
-use Rattle.questions.specs.Questions.{namedIn, runNo}
+use Rattle.questions.specs.Questions.{runNo, runOf}
 use Rattle.items.specs.Write.{over}
 use Rattle.items.specs.Item.{narrow}
 use Rattle.closure.specs.Steps.{stepBytes}
@@ -23,10 +23,6 @@ pub record RunOutcome : Type 0 where
   pub fact-marks : List ℕ
   pub rule-marks : List ℕ
   pub steps : List ℕ
-
--- The run of a file under an order.
-abbrev pub runOf : List ℕ → List ℕ → Stand
-runOf file order = run (programOf file) (inForce (programOf file)) (namedIn order)
 
 -- What a run that ends at s answers, and writes over the front of each buffer.
 unfoldable pub runWritten : Program → Stand → List ℕ → List ℕ → List ℕ → RunOutcome

@@ -1,12 +1,12 @@
 -- Internal: how the working memory of a run holds where the run stands.
-use Prim.Native.Nat.{ℕ, _*_, _≤_}
+use Prim.Native.Nat.{ℕ, _*_, _<_, _≤_}
 use mathlib.Core.Path.{_≡_}
 use mathlib.Core.List.{List, []}
 use lib.ListN.{length, take}
 use Rattle.theory.specs.Rule.{mem, Program, inForce, count, nothing, plainRules}
 use Rattle.theory.specs.Derive.{fired as firedFrom}
-use Rattle.theory.specs.Run.{Stand, start, run}
-use Rattle.items.specs.Item.{narrow, stepWidth, maxRules, has}
+use Rattle.theory.specs.Run.{Stand, start, run, stageCount, stepCount}
+use Rattle.items.specs.Item.{narrow, maxFacts, stepWidth, maxRules, has}
 use Rattle.tables.specs.Layout.{programIn}
 use Rattle.questions.specs.Questions.{namedIn}
 use Rattle.stage.specs.Look.{NamesOnly}
@@ -36,6 +36,13 @@ pub record Ordered (P : Program) (row : List ℕ) (names : ℕ) : Type 0 where
   pub places : length row ≡ maxRules
   pub few : names ≤ maxRules
   pub names-only : NamesOnly P (take names row)
+
+-- The counts of a run. Both fit in a number of two bytes.
+pub record RunCounted (s : Stand) (stages steps : ℕ) : Type 0 where
+  pub stages-counted : stages ≡ stageCount s
+  pub steps-counted : steps ≡ stepCount s
+  pub few-stages : stages < maxFacts narrow
+  pub few-steps : steps < maxFacts narrow
 
 -- The run of the program that the tables hold, under an order.
 abbrev pub runIn : List ℕ → List ℕ → Stand

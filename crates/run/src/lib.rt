@@ -5,7 +5,7 @@ ghost use Rattle.questions.specs.Questions.{runNo};
 ghost use lib.ListN.{length};
 
 pub mod answer;
-mod stages;
+pub mod stages;
 
 use answer::Ran;
 use questions::answer::Answer;

@@ -1,4 +1,5 @@
 // The stages of a run on the tables of an accepted file, under an accepted order. Internal.
+ghost use Prim.Native.Nat.{_≤_};
 ghost use mathlib.Core.Path.{_≡_};
 ghost use lib.ListN.{length, take};
 ghost use Rattle.theory.specs.Rule.{inForce};
@@ -9,7 +10,8 @@ ghost use Rattle.questions.specs.Questions.{namedIn};
 ghost use Rattle.premises.specs.Plain.{Zeroed};
 ghost use Rattle.stage.specs.Memory.{Holds};
 ghost use Rattle.run.specs.Outcome.{RunOutcome, runWritten};
-ghost use Rattle.run.specs.Stands.{outset, Began, Held, Ordered, MayRun, runIn};
+ghost use Rattle.stage.specs.Look.{NamesOnly};
+ghost use Rattle.run.specs.Stands.{outset, Began, Held, Ordered, RunCounted, MayRun, runIn};
 use crate::answer::Ran;
 use bits::matrix::MATRIX_WORDS;
 use bits::row::ROW_WORDS;
@@ -22,9 +24,7 @@ use naming::row::order_row;
 use premises::fill::index_row;
 use premises::plain::PLAIN_WORDS;
 use premises::wake::wake;
-use results::marks::write_fact_marks;
-use results::marks::write_rule_marks;
-use results::steps::write_steps;
+use results::written::write_results;
 use stage::eligible::first_eligible;
 use stage::staged::Staged;
 use tables::layout::TABLE_CELLS;
@@ -58,7 +58,7 @@ fn begin(
 
 // All stages along the order that stands in a row, from working memory that is empty. A stage takes the first eligible rule among the places that
 // are awake; the facts that it derives wake the places whose premises they complete.
-pub fn all_stages(
+fn all_stages(
     tables: &[u16; TABLE_CELLS],
     row: &[u16; MAX_RULES],
     names: usize,
@@ -109,6 +109,26 @@ pub fn all_stages(
     }
 }
 
+// The run under an order that names exception rules alone, in working memory that is empty. What it derived stands in the marks, the rules of its
+// steps among those that fired, the rules of its stages among those applied.
+pub fn run_in_memory(
+    tables: &[u16; TABLE_CELLS],
+    order: &[u8],
+    marks: &mut [u8; MAX_FACTS],
+    fired: &mut [u16; MAX_FACTS],
+    applied: &mut [u8; MAX_RULES],
+) -> RunCounts
+    requires { ⌜ WellFormed (now tables) ⌝ }
+    requires { ⌜ NamesOnly (programIn (now tables)) (namedIn (now order)) × (length (namedIn (now order)) ≤ maxRules) ⌝ }
+    requires { ⌜ Held (programIn (now tables)) outset (now marks) (now fired) (now applied) 0 ⌝ }
+    ensures { λ r. ⌜ Held (programIn (now (tables .entry))) (runIn (now (tables .entry)) (now (order .entry))) (now (marks .exit)) (now (fired .exit)) (now (applied .exit)) (r .steps) ⌝ }
+    ensures { λ r. ⌜ RunCounted (runIn (now (tables .entry)) (now (order .entry))) (r .stages) (r .steps) ⌝ }
+{
+    let mut row = [0u16; MAX_RULES];
+    let names = order_row(order, &mut row);
+    all_stages(tables, &row, names, marks, fired, applied)
+}
+
 // The run under an order that names exception rules alone, into buffers that are large enough.
 pub fn run_tabled(
     tables: &[u16; TABLE_CELLS],
@@ -121,18 +141,23 @@ pub fn run_tabled(
     requires { ⌜ MayRun (programIn (now tables)) (namedIn (now order)) (length (now «fact_marks»)) (length (now «rule_marks»)) (length (now steps)) ⌝ }
     ensures { λ r. ⌜ _≡_ {A = RunOutcome} (record { answer = r; fact-marks = now («fact_marks» .exit); rule-marks = now («rule_marks» .exit); steps = now (steps .exit) }) (runWritten (programIn (now (tables .entry))) (runIn (now (tables .entry)) (now (order .entry))) (now («fact_marks» .entry)) (now («rule_marks» .entry)) (now (steps .entry))) ⌝ }
 {
-    let mut row = [0u16; MAX_RULES];
-    let names = order_row(order, &mut row);
     let mut marks = [0u8; MAX_FACTS];
     let mut fired = [0u16; MAX_FACTS];
     let mut applied = [0u8; MAX_RULES];
-    let taken = all_stages(tables, &row, names, &mut marks, &mut fired, &mut applied);
-    let facts = tables::layout::facts_of(tables);
-    write_fact_marks(&marks, facts, fact_marks);
-    write_rule_marks(tables, &applied, &marks, rule_marks);
-    write_steps(tables, &fired, taken.steps, steps);
+    let taken = run_in_memory(tables, order, &mut marks, &mut fired, &mut applied);
+    let count = taken.steps;
+    write_results(
+        tables,
+        &marks,
+        &applied,
+        &fired,
+        count,
+        fact_marks,
+        rule_marks,
+        steps,
+    );
     Ran::Done {
         stages: taken.stages as u16,
-        steps: taken.steps as u16,
+        steps: count as u16,
     }
 }

@@ -65,7 +65,7 @@ at-clear : (P : Program) (T : FactSet) (row : List Step) → ((k : ℕ) → k < 
 at-clear P T [] h = refl
 at-clear P T (s ∷ row) h = and-both (h 0 (omega arith)) (at-clear P T row (λ k l. h (suc k) (omega arith)))
 
-ends-last : (f : ℕ) (row : List Step) → endsWith f row ≡ true → (0 < length row) × (stepAt row (length row - 1) .fact ≡ f)
+pub ends-last : (f : ℕ) (row : List Step) → endsWith f row ≡ true → (0 < length row) × (stepAt row (length row - 1) .fact ≡ f)
 ends-last f [] e = never e refl
 ends-last f (s ∷ []) e = (omega arith, eqb-true (s .fact) f e)
 ends-last f (s ∷ t ∷ row) e =

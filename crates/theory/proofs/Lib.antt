@@ -21,4 +21,5 @@ pub mod Search
 pub mod Repeats
 pub mod Absent
 pub mod Check
+pub mod Keeping
 pub mod Bounds

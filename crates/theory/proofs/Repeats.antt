@@ -1,6 +1,6 @@
 -- Repeats within a rule change nothing: programs that are alike have the same counts, runs, marks, stable sets, proofs and searches, each by one
 -- equation. The counts of facts and of rules are equal by `Alike` itself.
-use Prim.Native.Nat.{ℕ, suc, _≤_, _<_}
+use Prim.Native.Nat.{ℕ, zero, suc, _≤_, _<_}
 use native.Mathlib.Omega.{arith}
 use native.Mathlib.Decide.{decLt}
 use mathlib.Core.Path.{_≡_, refl, sym, _∙_, ap, subst}
@@ -17,6 +17,7 @@ use Rattle.theory.specs.Derive.{lowest, conclude, fired, derive, stepBy,
 use Rattle.theory.specs.Run.{Stand, rejected, spares, trial, eligible, stage, start, run, setAside, factMark, ruleMark, factMarks, ruleMarks}
 use Rattle.theory.specs.Check.{leastOf, isStable, stepHolds, stepsHold, rowClear, endsWith, isProof}
 use Rattle.theory.specs.Stable.{reduct, Stable, stepAt, factsOf, Proof, Admits, Earlier, Earliest, upheld, orderGroups, orderFor}
+use Rattle.theory.specs.Keeping.{select, wanted, keptSteps, groundsOf}
 use Rattle.theory.specs.Search.{guessed, fits, hunt, search}
 use Rattle.theory.specs.Repeats.{once, withoutRepeats}
 use Rattle.theory.proofs.Bools.{either, never, both-ways}
@@ -244,6 +245,20 @@ module _ {P Q : Program} (a : Alike P Q) where
   rowClear-alike : (T : FactSet) (row : List Step) → rowClear P T row ≡ rowClear Q T row
   rowClear-alike T [] = refl
   rowClear-alike T (s ∷ row) = λ t. constraints-alike T (s .by) t && rowClear-alike T row t
+
+  -- The same steps are kept.
+  wanted-alike : (f : ℕ) (row : List Step) (g : ℕ) → wanted P f row g ≡ wanted Q f row g
+  wanted-alike f [] g = refl
+  wanted-alike f (s ∷ row) g = λ t. wanted-alike f row g t || (wanted-alike f row (s .fact) t && premises-same (s .by) g t)
+
+  kept-alike : (f : ℕ) (row : List Step) (k : ℕ) → keptSteps P f row k ≡ keptSteps Q f row k
+  kept-alike f [] k = refl
+  kept-alike f (s ∷ row) zero = wanted-alike f row (s .fact)
+  kept-alike f (s ∷ row) (suc k) = kept-alike f row k
+
+  pub alike-grounds : (f : ℕ) (row : List Step) → groundsOf P f row ≡ groundsOf Q f row
+  unfolding groundsOf
+  alike-grounds f row t = select (λ k. kept-alike f row k t) row
 
   -- The proof check answers the same.
   pub alike-isProof : (on : Mask) (M : FactSet) (row : List Step) (f : ℕ) → isProof P on M row f ≡ isProof Q on M row f

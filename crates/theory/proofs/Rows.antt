@@ -49,15 +49,6 @@ row-last f (s ∷ row) m = go (eqb f (s .fact)) refl (row-last f row)
         rw e (deep (rowTo f row) (row-length f row m′) (r m′))
 
 module _ (P : Program) (on : Mask) (s : Stand) (v : Sound P on s) where
-  -- the facts of the row are in D
-  row-inside : (f : ℕ) → Sub (factsOf (rowTo f (s .trace))) (s .derived)
-  row-inside f g m =
-      rw (v .facts g, row-splits f (s .trace), facts-append (rowTo f (s .trace)) (restAfter f (s .trace)) g)
-      (rw m refl)
-
-  row-grounds : (f : ℕ) → Grounds P (granted P on (s .applied)) nothing (rowTo f (s .trace))
-  row-grounds f = grounds-front P (granted P on (s .applied)) (rowTo f (s .trace)) (restAfter f (s .trace)) nothing (subst (λ (row : List Step). Grounds P (granted P on (s .applied)) nothing row) (row-splits f (s .trace)) (v .grounds))
-
   -- a rule that the run may use is in force, and D meets none of its constraints
   granted-clear : (i : ℕ) → granted P on (s .applied) i ≡ true → clear (s .derived) (rule P i .constraints) ≡ true
   unfolding spares plainRules
@@ -71,26 +62,43 @@ module _ (P : Program) (on : Mask) (s : Stand) (v : Sound P on s) where
   unfolding plainRules
   granted-in-force i g = ⊎-elim (λ e. and-left (on i) (plain P i) e) (λ e. v .in-force i e) (or-cases (plainRules P on i) _ g)
 
+  -- a row of facts in D that is grounded by rules that the run may use: D admits it, and it is a proof of the fact of its last step
+  module _ (row : List Step) (g : Grounds P (granted P on (s .applied)) nothing row) where
+    pub grounded-admits : Admits P (s .derived) row
+    grounded-admits k l = granted-clear (stepAt row k .by) (grounds-at P (granted P on (s .applied)) row nothing g k l .granted)
+
+    pub grounded-proof : (f : ℕ) → Sub (factsOf row) (s .derived) → 0 < length row → stepAt row (length row - 1) .fact ≡ f → Proof P on row f
+    grounded-proof f inside some last =
+        record {
+          not-empty = some;
+          last = last;
+          known = λ k l. at k l .known;
+          in-force = λ k l. granted-in-force (stepAt row k .by) (at k l .granted);
+          concludes = λ k l. at k l .concludes;
+          founded = λ k l. at k l .founded;
+          consistent = λ k l. clear-anti (factsOf row) (s .derived) (usedRule P row k .constraints) inside (grounded-admits k l);
+        }
+      where
+        at : (k : ℕ) → k < length row → Grounded P (granted P on (s .applied)) (factsOf (take k row)) (stepAt row k)
+        at k l = grounds-at P (granted P on (s .applied)) row nothing g k l
+
+  -- the facts of the row up to f are in D
+  row-inside : (f : ℕ) → Sub (factsOf (rowTo f (s .trace))) (s .derived)
+  row-inside f g m =
+      rw (v .facts g, row-splits f (s .trace), facts-append (rowTo f (s .trace)) (restAfter f (s .trace)) g)
+      (rw m refl)
+
+  row-grounds : (f : ℕ) → Grounds P (granted P on (s .applied)) nothing (rowTo f (s .trace))
+  row-grounds f = grounds-front P (granted P on (s .applied)) (rowTo f (s .trace)) (restAfter f (s .trace)) nothing (subst (λ (row : List Step). Grounds P (granted P on (s .applied)) nothing row) (row-splits f (s .trace)) (v .grounds))
+
   pub sound-admits : (f : ℕ) → Admits P (s .derived) (rowTo f (s .trace))
-  sound-admits f k l = granted-clear (stepAt (rowTo f (s .trace)) k .by) (grounds-at P (granted P on (s .applied)) (rowTo f (s .trace)) nothing (row-grounds f) k l .granted)
+  sound-admits f = grounded-admits (rowTo f (s .trace)) (row-grounds f)
 
   pub sound-proof : (f : ℕ) → s .derived f ≡ true → Proof P on (rowTo f (s .trace)) f
-  sound-proof f d =
-      record {
-        not-empty = row-length f (s .trace) m;
-        last = row-last f (s .trace) m;
-        known = λ k l. at k l .known;
-        in-force = λ k l. granted-in-force (stepAt (rowTo f (s .trace)) k .by) (at k l .granted);
-        concludes = λ k l. at k l .concludes;
-        founded = λ k l. at k l .founded;
-        consistent = λ k l. clear-anti (factsOf (rowTo f (s .trace))) (s .derived) (usedRule P (rowTo f (s .trace)) k .constraints) (row-inside f) (sound-admits f k l);
-      }
+  sound-proof f d = grounded-proof (rowTo f (s .trace)) (row-grounds f) f (row-inside f) (row-length f (s .trace) m) (row-last f (s .trace) m)
     where
       m : factsOf (s .trace) f ≡ true
       m = sym (v .facts f) ∙ d
-
-      at : (k : ℕ) → k < length (rowTo f (s .trace)) → Grounded P (granted P on (s .applied)) (factsOf (take k (rowTo f (s .trace)))) (stepAt (rowTo f (s .trace)) k)
-      at k l = grounds-at P (granted P on (s .applied)) (rowTo f (s .trace)) nothing (row-grounds f) k l
 
 -- The row of steps from the first up to a fact's own step is a proof of the fact.
 pub run-proof : (P : Program) (on : Mask) (order : List ℕ) (f : ℕ) → run P on order .derived f ≡ true → Proof P on (rowTo f (run P on order .trace)) f

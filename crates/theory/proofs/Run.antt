@@ -2,20 +2,20 @@
 use Prim.Native.Nat.{ℕ, _<_}
 use mathlib.Core.Path.{_≡_, refl, sym, _∙_}
 use mathlib.Core.Bool.{Bool, true, false, not, _&&_, _||_}
-use mathlib.Core.List.{List, [], _∷_, _++_, map}
+use mathlib.Core.List.{List, [], _∷_, _++_, map, map-append}
 use mathlib.Core.Logic.{_⊎_, inl, inr, ⊎-elim}
 use mathlib.Core.Option.{Option, none, some}
 use borrow.Author.Tests.{ltb-true}
 use lib.Dec.{eqb, ltb}
-use Rattle.theory.specs.Rule.{all, clear, mem, Program, Mask, FactSet, Sub, nothing, null, count, rule, plain, exception, Closed, plainRules}
-use Rattle.theory.specs.Derive.{conclude, fired, steps, stepBy}
+use Rattle.theory.specs.Rule.{all, clear, mem, Program, Mask, FactSet, Sub, nothing, null, count, rule, plain, exception, Step, Closed, plainRules}
+use Rattle.theory.specs.Derive.{conclude, Fresh, fired, steps, stepBy}
 use Rattle.theory.specs.Run.{Stand, rejected, spares, trial, eligible, stage, start, firstEligible, run, kept}
 use Rattle.theory.specs.Chaining.{Disjoint, Names}
 use Rattle.theory.specs.Stable.{factsOf}
 use Rattle.theory.proofs.Bools.{never, and-left, and-right, and-both, or-left, or-right, or-cases, not-of-false, false-of-not, false-of}
 use Rattle.theory.proofs.Lists.{seek-some, seek-none, all-elem, all-append, any-witness, clear-elem, mem-cases, mem-here, mem-there, mem-append}
 use Rattle.theory.proofs.Walk as walk
-use Rattle.theory.proofs.Derive.{union, openRules, open-most, open-less, adjoin-has, adjoin-above, derive-above, derive-closed, derive-facts, fired-trail}
+use Rattle.theory.proofs.Derive.{union, openRules, open-most, open-less, adjoin-has, adjoin-above, derive-above, derive-closed, derive-facts, fired-trail, fired-fresh}
 use Rattle.theory.proofs.Grounds.{Grounds, grounds-mono, grounds-append, trail-grounds, facts-append, facts-of-steps}
 
 -- no element stands twice
@@ -23,19 +23,31 @@ abbrev pub NoRepeat : List ℕ → Type 0
 NoRepeat [] = Unit {0}
 NoRepeat (x ∷ xs) = (mem x xs ≡ false) × NoRepeat xs
 
-pub no-repeat-more : (xs : List ℕ) (y : ℕ) → NoRepeat xs → mem y xs ≡ false → NoRepeat (xs ++ (y ∷ []))
-no-repeat-more [] y n m = (refl, tt)
-no-repeat-more (x ∷ xs) y n m = (
-  false-of (mem x (xs ++ (y ∷ []))) clash,
-  no-repeat-more xs y (n .1) (false-of (mem y xs) (λ t. never (mem-there y x xs t) m)),
+pub no-repeat-append : (xs ys : List ℕ) → NoRepeat xs → NoRepeat ys → ((x : ℕ) → mem x xs ≡ true → mem x ys ≡ true → ⊥) → NoRepeat (xs ++ ys)
+no-repeat-append [] ys n m apart = m
+no-repeat-append (x ∷ xs) ys n m apart = (
+  false-of (mem x (xs ++ ys)) (λ t. ⊎-elim (λ e. never e (n .0)) (λ e. apart x (mem-here x xs) e) (or-cases (mem x xs) _ (rw (mem-append x xs ys) at t))),
+  no-repeat-append xs ys (n .1) m (λ y t u. apart y (mem-there y x xs t) u),
 )
+
+pub no-repeat-more : (xs : List ℕ) (y : ℕ) → NoRepeat xs → mem y xs ≡ false → NoRepeat (xs ++ (y ∷ []))
+no-repeat-more xs y n m =
+    no-repeat-append xs (y ∷ []) n (refl, tt) (λ x t u. ⊎-elim (λ e. never (rw (← e) t) m) (λ e. never e refl) (mem-cases x y [] u))
+
+-- the facts of a row of steps, in their order
+abbrev pub stepFacts : List Step → List ℕ
+stepFacts row = map (λ s. s .fact) row
+
+-- rules that each add a fact which is not yet in the set add no fact twice, and none that was in it
+pub fresh-once : (P : Program) (is : List ℕ) (S : FactSet) → Fresh P S is → NoRepeat (stepFacts (map (stepBy P) is)) × ((f : ℕ) → mem f (stepFacts (map (stepBy P) is)) ≡ true → S f ≡ false)
+fresh-once P [] S t = (tt, λ f m. never m refl)
+fresh-once P (i ∷ is) S t = go (fresh-once P is (conclude P S i) (t .2))
   where
-    clash : mem x (xs ++ (y ∷ [])) ≡ true → ⊥
-    clash t =
-        ⊎-elim
-        (λ e. never e (n .0))
-        (λ e. ⊎-elim (λ q. never (rw q (mem-here y xs)) (rw (← q) at m)) (λ q. never q refl) (mem-cases x y [] e))
-        (or-cases (mem x xs) _ (rw (mem-append x xs (y ∷ [])) at t))
+    go : NoRepeat (stepFacts (map (stepBy P) is)) × ((f : ℕ) → mem f (stepFacts (map (stepBy P) is)) ≡ true → conclude P S i f ≡ false) → NoRepeat (stepFacts (map (stepBy P) (i ∷ is))) × ((f : ℕ) → mem f (stepFacts (map (stepBy P) (i ∷ is))) ≡ true → S f ≡ false)
+    go later = (
+      (false-of (mem (rule P i .conclusion) (stepFacts (map (stepBy P) is))) (λ m. never (adjoin-has S (rule P i .conclusion)) (later .1 (rule P i .conclusion) m)), later .0),
+      λ f m. ⊎-elim (λ e. rw e (t .1)) (λ e. false-of (S f) (λ u. never (adjoin-above S (rule P i .conclusion) f u) (later .1 f e))) (mem-cases f (rule P i .conclusion) (stepFacts (map (stepBy P) is)) m),
+    )
 
 -- the rules that a run may use by then: the plain ones in force, and those applied
 abbrev pub granted : Program → Mask → List ℕ → Mask
@@ -46,6 +58,7 @@ pub record Sound (P : Program) (on : Mask) (s : Stand) : Type 0 where
   pub closed : Closed P (plainRules P on) (s .derived)
   pub facts : (f : ℕ) → s .derived f ≡ factsOf (s .trace) f
   pub grounds : Grounds P (granted P on (s .applied)) nothing (s .trace)
+  pub once : NoRepeat (stepFacts (s .trace))
   pub spared : spares P (s .derived) (s .applied) ≡ true
   pub concluded : (i : ℕ) → mem i (s .applied) ≡ true → s .derived (rule P i .conclusion) ≡ true
   pub excepted : (i : ℕ) → mem i (s .applied) ≡ true → exception P i ≡ true
@@ -100,6 +113,7 @@ module _ (P : Program) (on : Mask) where
         closed = derive-closed P (plainRules P on) nothing;
         facts = λ f. derive-facts P (plainRules P on) nothing f ∙ sym (facts-of-steps P (fired P (plainRules P on) nothing) f);
         grounds = grounds-mono P (plainRules P on) (granted P on []) (λ i t. or-left _ _ t) (steps P (plainRules P on) nothing) nothing nothing (λ f t. t) (trail-grounds P (plainRules P on) (fired P (plainRules P on) nothing) nothing (fired-trail P (plainRules P on) nothing));
+        once = fresh-once P (fired P (plainRules P on) nothing) nothing (fired-fresh P (plainRules P on) nothing) .0;
         spared = refl;
         concluded = λ i m. never m refl;
         excepted = λ i m. never m refl;
@@ -166,6 +180,18 @@ module _ (P : Program) (on : Mask) where
             founded = t .premises-in;
           }
 
+  stage-once : (s : Stand) (i : ℕ) → Sound P on s → Eligible P on s i → NoRepeat (stepFacts (stage P on s i .trace))
+  unfolding steps
+  stage-once s i v t =
+      rw (map-append (λ (x : Step). x .fact) (s .trace) (map (stepBy P) new))
+      (no-repeat-append (stepFacts (s .trace)) (stepFacts (map (stepBy P) new)) (v .once) (fresh .0) (λ f m u. never (v .facts f ∙ m) (fresh .1 f u)))
+    where
+      new : List ℕ
+      new = i ∷ fired P (plainRules P on) (conclude P (s .derived) i)
+
+      fresh : NoRepeat (stepFacts (map (stepBy P) new)) × ((f : ℕ) → mem f (stepFacts (map (stepBy P) new)) ≡ true → s .derived f ≡ false)
+      fresh = fresh-once P new (s .derived) (exception-known i (t .excepted), t .conclusion-out, fired-fresh P (plainRules P on) (conclude P (s .derived) i))
+
   pub stage-sound : (s : Stand) (i : ℕ) → Sound P on s → Eligible P on s i → Sound P on (stage P on s i)
   unfolding spares
   stage-sound s i v t =
@@ -173,6 +199,7 @@ module _ (P : Program) (on : Mask) where
         closed = derive-closed P (plainRules P on) (conclude P (s .derived) i);
         facts = stage-facts s i v;
         grounds = stage-grounds s i v t;
+        once = stage-once s i v t;
         spared = rw (all-append (λ j. clear (trial P on (s .derived) i) (rule P j .constraints)) (s .applied) (i ∷ [])) (and-both (t .spares-rejected) (and-both (t .spares-own) refl));
         concluded = λ j m. ⊎-elim (λ e. trial-above (s .derived) i _ (v .concluded j e)) (λ q. rw q (trial-has (s .derived) i)) (applied-cases (s .applied) i j m);
         excepted = λ j m. ⊎-elim (λ e. v .excepted j e) (λ q. rw q (t .excepted)) (applied-cases (s .applied) i j m);

@@ -6,6 +6,7 @@ pub mod Walk
 pub mod Derive
 pub mod Run
 pub mod Stable
+pub mod Keeping
 pub mod Repeats
 pub mod Examples
 -- What only code and proofs use.

@@ -12,9 +12,9 @@ mod draft;
 #[path = "../random.rs"]
 mod random;
 
-use draft::{Draft, chain};
+use draft::{Draft, chain, stairs};
 use random::Random;
-use reference::{Lent, STEP_BYTES};
+use reference::{Lent, RuleFile, STEP_BYTES};
 use std::hint::black_box;
 use std::process::ExitCode;
 use std::time::{Duration, Instant};
@@ -221,10 +221,11 @@ fn rule_numbers(rules: impl IntoIterator<Item = usize>) -> Vec<u8> {
 
 impl Subject {
     /// The judge gets the end of the ascending run with the rules set aside, the
-    /// check the whole row of its steps.
+    /// check the whole row of its steps, the grounds its last fact.
     fn new(draft: &Draft) -> Subject {
         let file = draft.bytes();
-        let order = rule_numbers(draft.exceptions());
+        let parsed = RuleFile::parse(&file).expect("the file is accepted");
+        let order = rule_numbers(parsed.exceptions());
         let mut buffers = Buffers {
             fact_marks: vec![0; usize::from(draft.facts)],
             rule_marks: vec![0; draft.rules.len()],
@@ -260,7 +261,18 @@ impl Subject {
         let stable = archive::judge(&self.file, &self.list, &self.set) == [0, 1];
         let checked = archive::check(&self.file, &self.set, self.asked, &self.proof);
         let proved = checked == [0, u32::from(!self.proof.is_empty())];
-        searched && same_panel && accepted && stable && proved
+        searched && same_panel && accepted && stable && proved && self.agrees_on_grounds()
+    }
+
+    fn agrees_on_grounds(&self) -> bool {
+        let mut ours = self.buffers.clone();
+        let mut theirs = self.buffers.clone();
+        let lent = ours.lent().0;
+        let expected = match reference::grounds(&self.file, &self.order, self.asked, lent) {
+            Ok(count) => [0, count as u32],
+            Err(refusal) => [refusal as u32, 0],
+        };
+        self.archive_grounds(&mut theirs) == expected && ours == theirs
     }
 
     fn archive_search(&self, buffers: &mut Buffers) -> [u32; 3] {
@@ -271,6 +283,11 @@ impl Subject {
     fn archive_run(&self, buffers: &mut Buffers) -> [u32; 3] {
         let Buffers { fact_marks, rule_marks, steps, .. } = buffers;
         archive::run(&self.file, &self.order, fact_marks, rule_marks, steps)
+    }
+
+    fn archive_grounds(&self, buffers: &mut Buffers) -> [u32; 2] {
+        let Buffers { fact_marks, rule_marks, steps, .. } = buffers;
+        archive::grounds(&self.file, &self.order, self.asked, fact_marks, rule_marks, steps)
     }
 
     fn times(&self, operation: Operation) -> Times {
@@ -301,6 +318,13 @@ impl Subject {
                     reference::search(black_box(file), lent, order)
                 },
             ),
+            Operation::Grounds => side_by_side(
+                || self.archive_grounds(&mut theirs),
+                || {
+                    let lent = ours.lent().0;
+                    reference::grounds(black_box(file), &self.order, self.asked, lent)
+                },
+            ),
         }
     }
 }
@@ -312,10 +336,18 @@ enum Operation {
     Judge,
     Check,
     Search,
+    Grounds,
 }
 
-const OPERATIONS: [Operation; 5] =
-    [Operation::Accept, Operation::Run, Operation::Judge, Operation::Check, Operation::Search];
+const OPERATIONS: [Operation; 6] = [
+    Operation::Accept,
+    Operation::Run,
+    Operation::Judge,
+    Operation::Check,
+    Operation::Search,
+    Operation::Grounds,
+];
+const COUNT: usize = OPERATIONS.len();
 
 /// Median seconds of one call.
 #[derive(Clone, Copy)]
@@ -378,10 +410,10 @@ fn median(mut times: Vec<f64>) -> f64 {
 struct Table {
     text: String,
     /// Logarithms of the ratios, by operation.
-    ratios: [Vec<f64>; 5],
+    ratios: [Vec<f64>; COUNT],
     /// By operation, the exponents with which the archive's times grow with the rules,
     /// from the smallest file of a family to its largest.
-    exponents: [Vec<f64>; 5],
+    exponents: [Vec<f64>; COUNT],
 }
 
 impl Table {
@@ -481,6 +513,13 @@ const WORST_SEARCHES: [Single; 3] = [
     ("wide above lowest", wide_above_lowest),
 ];
 
+/// All steps are kept, from the last back to the first, one behind another.
+const DEEPEST_GROUNDS: [Single; 3] = [
+    ("stairs, 32 facts", || stairs(32, 1)),
+    ("stairs, 1 premise", || stairs(255, 1)),
+    ("stairs, 60 premises", || stairs(255, 60)),
+];
+
 /// The most constraint facts that the search takes.
 const MOST_GUESSED: usize = 16;
 
@@ -494,8 +533,8 @@ fn measure() -> Result<Table, String> {
         Table { text: String::new(), ratios: Default::default(), exponents: Default::default() };
     table.head();
     for (name, family) in FAMILIES {
-        let mut before: [Option<Times>; 5] = [None; 5];
-        let mut smallest: [Option<Times>; 5] = [None; 5];
+        let mut before: [Option<Times>; COUNT] = [None; COUNT];
+        let mut smallest: [Option<Times>; COUNT] = [None; COUNT];
         for size in SIZES {
             let subject = agreeing(name, &family(size))?;
             for operation in OPERATIONS {
@@ -525,10 +564,12 @@ fn measure() -> Result<Table, String> {
             table.row(name, &subject, operation, TimesRow { now, before: None });
         }
     }
-    for (name, file) in WORST_SEARCHES {
+    let worst = WORST_SEARCHES.map(|single| (single, Operation::Search));
+    let deepest = DEEPEST_GROUNDS.map(|single| (single, Operation::Grounds));
+    for ((name, file), operation) in worst.into_iter().chain(deepest) {
         let subject = agreeing(name, &file())?;
-        let now = subject.times(Operation::Search);
-        table.row(name, &subject, Operation::Search, TimesRow { now, before: None });
+        let now = subject.times(operation);
+        table.row(name, &subject, operation, TimesRow { now, before: None });
     }
     table.summary();
     Ok(table)

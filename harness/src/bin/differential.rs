@@ -26,7 +26,7 @@ mod shrink;
 
 use cases::{Case, Met, Operation, Reply, Tally, random_case};
 use directed::{all_operations, directed_cases, examples};
-use draft::Draft;
+use draft::{Draft, stairs};
 use random::Random;
 use std::process::ExitCode;
 use std::sync::Mutex;
@@ -106,6 +106,9 @@ fn call_archive(case: &Case) -> Result<Reply, String> {
             archive::search(file, fact_marks, rule_marks, steps, order).to_vec()
         }
         (Operation::Panel, [out]) => vec![archive::panel(file, out)],
+        (Operation::Grounds, [fact_marks, rule_marks, steps]) => {
+            archive::grounds(file, rules, case.asked, fact_marks, rule_marks, steps).to_vec()
+        }
         _ => unreachable!("a case lends what its operation takes"),
     };
     if lent.iter().chain(&inputs).any(|fenced| !fenced.is_intact()) {
@@ -175,6 +178,9 @@ fn purposeful_cases() -> Vec<Case> {
         cases.extend(neighbours(&draft.bytes()));
     }
     cases.extend(neighbours(&mixed_file()));
+    for premises in [1, 60] {
+        cases.extend(all_operations(&stairs(255, premises).bytes()));
+    }
     cases
 }
 
@@ -268,6 +274,9 @@ fn report_difference(number: usize, case: Case) {
         Operation::Check => {
             println!("set      {}\nfact     {}", hex(&case.set), case.asked);
             println!("proof    {}", hex(&case.proof));
+        }
+        Operation::Grounds => {
+            println!("order    {}\nfact     {}", hex(&case.rules), case.asked);
         }
         _ => {}
     }

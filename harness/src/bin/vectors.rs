@@ -49,7 +49,7 @@ use random::Random;
 use std::process::ExitCode;
 
 const SEED: u64 = 1;
-const RANDOM_VECTORS: usize = 3_500;
+const RANDOM_VECTORS: usize = 4_200;
 /// The reader has some more room for the file, and this for each buffer.
 const MOST_BYTES: usize = 1_200_000;
 const MOST_LENT: usize = 16_384;
@@ -77,7 +77,9 @@ fn put_numbers(out: &mut Vec<u8>, numbers: &[u32]) {
 fn inputs(case: &Case) -> [&[u8]; 2] {
     match case.operation {
         Operation::Accept | Operation::Search | Operation::Panel => [&[], &[]],
-        Operation::Run | Operation::AskOrder | Operation::AskList => [&case.rules, &[]],
+        Operation::Run | Operation::AskOrder | Operation::AskList | Operation::Grounds => {
+            [&case.rules, &[]]
+        }
         Operation::Judge => [&case.rules, &case.set],
         Operation::Check => [&case.set, &case.proof],
         Operation::AskSet => [&case.set, &[]],

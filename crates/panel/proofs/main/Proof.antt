@@ -1,19 +1,11 @@
 -- `main`: what was read lies inside the input's room, and the text inside its own.
-use Prim.Native.Nat.{ℕ, _+_, _≤_}
 use mathlib.Core.Path.{sym}
 use native.Mathlib.Omega.{arith}
-use lib.ListN.{length, length-replicate}
 use lib.Seq.{length-take-le}
-use Rattle.items.specs.Item.{maxBytes}
+use Rattle.input.proofs.BytesRead.{read-inside, read-front}
 use borrow.Author.Needs.{needs}
 use Rattle.panel.proofs.main.Statement.{statement}
 use Rattle.panel.proofs.main.Tie as tie
-
--- what was read lies inside the room
-inside : (c : tie.After-known-told) → c .before .n .given .0 .0 ≤ length (c .before .before .before .before .read-input .last .0)
-inside c =
-    let read : c .before .n .given .0 .0 ≤ maxBytes + 1 = rw (c .before .n .given .1) at (c .before .before .before .before .read-input .ensures) in
-    omega (arith, c .before .before .before .before .read-input .kept .0, length-replicate {A = ℕ} (maxBytes + 1) 0)
 
 slice-aggregate-read-input : tie.Need-slice-aggregate-read-input
 slice-aggregate-read-input c = search needs
@@ -28,10 +20,10 @@ enum-known-n : tie.Need-enum-known-n
 enum-known-n c = search needs
 
 array-share-prefix-room : tie.Need-array-share-prefix-room
-array-share-prefix-room c = inside c
+array-share-prefix-room c = read-inside _ _ (c .before .before .before .before .read-input .ensures) _ (c .before .n .given .1)
 
 slice-aggregate-render : tie.Need-slice-aggregate-render
-slice-aggregate-render c = sym (length-take-le _ _ (inside (c .before)))
+slice-aggregate-render c = read-front _ _ (c .before .before .before .before .before .read-input .ensures) _ (c .before .before .n .given .1)
 
 slice-aggregate-render-2 : tie.Need-slice-aggregate-render-2
 slice-aggregate-render-2 c = search needs

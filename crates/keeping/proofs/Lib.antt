@@ -1,0 +1,2 @@
+pub mod GroundsTold
+pub mod GroundsAsked

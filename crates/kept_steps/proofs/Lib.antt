@@ -1,0 +1,3 @@
+pub mod StepsPlaced
+pub mod KeepLaws
+pub mod StepsRetained

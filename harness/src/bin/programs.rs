@@ -1,0 +1,326 @@
+//! Runs the program `grounds` and compares what it writes to standard output and
+//! to standard error with the text of the reference.
+//!
+//! programs <grounds> <file>..
+//!
+//! It is asked for every fact of the files, and for some numbers past them; of
+//! files made on purpose; with words that name no fact; and with input that comes
+//! in pieces, is too long, or cannot be read.
+
+#[path = "../draft.rs"]
+mod draft;
+#[path = "../large.rs"]
+mod large;
+
+use draft::{Draft, chain, stairs};
+use reference::{fact_in_words, grounds_text};
+use std::ffi::OsStr;
+use std::fs::File;
+use std::io::{ErrorKind, Write};
+use std::os::fd::OwnedFd;
+use std::os::unix::ffi::OsStrExt;
+use std::os::unix::net::UnixStream;
+use std::process::{Command, ExitCode, Output, Stdio};
+use std::thread::sleep;
+use std::time::Duration;
+
+/// The longest file that is not too long.
+const LONGEST: usize = 32_767;
+/// Between two pieces of input, so that a read ends with the first.
+const PAUSE: Duration = Duration::from_millis(20);
+/// How the line begins that says which words the program takes.
+const USAGE: &str = "usage: grounds FACT";
+
+/// What stands behind the program's standard input.
+#[derive(Clone)]
+enum Input {
+    /// A pipe into which these come one after another.
+    Pieces(Vec<Vec<u8>>),
+    /// A socket from which these can be read, but not that they end.
+    Broken(Vec<u8>),
+    /// A directory, which cannot be read.
+    Directory,
+    Closed,
+}
+
+impl Input {
+    fn whole(bytes: &[u8]) -> Input {
+        Input::Pieces(vec![bytes.to_vec()])
+    }
+
+    /// The bytes in pieces of this length.
+    fn in_pieces(bytes: &[u8], length: usize) -> Input {
+        Input::Pieces(bytes.chunks(length).map(<[u8]>::to_vec).collect())
+    }
+
+    /// What the program can read to the end.
+    fn bytes(&self) -> Option<Vec<u8>> {
+        match self {
+            Input::Pieces(pieces) => Some(pieces.concat()),
+            Input::Broken(_) | Input::Directory | Input::Closed => None,
+        }
+    }
+}
+
+/// One call of the program.
+struct Trial {
+    name: String,
+    words: Vec<Vec<u8>>,
+    input: Input,
+}
+
+impl Trial {
+    fn new(name: String, words: &[&str], input: Input) -> Trial {
+        let words = words.iter().map(|word| word.as_bytes().to_vec()).collect();
+        Trial { name, words, input }
+    }
+
+    /// What it is to write to standard output, and whether it is to say its usage.
+    fn expected(&self) -> (String, bool) {
+        let words: Vec<&[u8]> = self.words.iter().map(Vec::as_slice).collect();
+        match (fact_in_words(&words), self.input.bytes()) {
+            (None, _) => (String::new(), true),
+            (Some(_), None) => (String::new(), false),
+            (Some(fact), Some(file)) => (grounds_text(&file, fact), false),
+        }
+    }
+
+    fn passes(&self, program: &str) -> Result<(), String> {
+        let output = self.call(program).map_err(|error| format!("{}: {error}", self.name))?;
+        let (text, usage) = self.expected();
+        let said = String::from_utf8_lossy(&output.stderr);
+        let one_line = said.find('\n') == Some(said.len().wrapping_sub(1));
+        let said_right =
+            if usage { one_line && said.starts_with(USAGE) } else { output.stderr.is_empty() };
+        let ended = output.status.code().is_some();
+        if ended && said_right && output.stdout == text.as_bytes() {
+            return Ok(());
+        }
+        let wrote = String::from_utf8_lossy(&output.stdout);
+        Err(format!(
+            "{}: {}, wrote {wrote:?} and to standard error {said:?}\nexpected {text:?} and {}",
+            self.name,
+            output.status,
+            if usage { "one line of usage" } else { "nothing" },
+        ))
+    }
+
+    fn call(&self, program: &str) -> std::io::Result<Output> {
+        let mut command = match &self.input {
+            Input::Closed => {
+                let mut shell = Command::new("sh");
+                shell.args(["-c", "exec \"$0\" \"$@\" <&-", program]);
+                shell
+            }
+            _ => Command::new(program),
+        };
+        command.args(self.words.iter().map(|word| OsStr::from_bytes(word)));
+        command.stdout(Stdio::piped()).stderr(Stdio::piped());
+        match &self.input {
+            Input::Pieces(pieces) => return call_in_pieces(command, pieces),
+            Input::Broken(bytes) => command.stdin(broken(bytes)?),
+            Input::Directory => command.stdin(File::open(".")?),
+            Input::Closed => &mut command,
+        };
+        command.spawn()?.wait_with_output()
+    }
+}
+
+/// The program may end before it has read all: then there is no one to write to.
+fn call_in_pieces(mut command: Command, pieces: &[Vec<u8>]) -> std::io::Result<Output> {
+    let mut child = command.stdin(Stdio::piped()).spawn()?;
+    let mut pipe = child.stdin.take().expect("it was asked for");
+    for (number, piece) in pieces.iter().enumerate() {
+        if number > 0 {
+            sleep(PAUSE);
+        }
+        match pipe.write_all(piece) {
+            Err(error) if error.kind() == ErrorKind::BrokenPipe => break,
+            written => written?,
+        }
+    }
+    drop(pipe);
+    child.wait_with_output()
+}
+
+/// The other end is closed while a byte sent to it is unread, so the read after the
+/// last byte fails.
+fn broken(bytes: &[u8]) -> std::io::Result<OwnedFd> {
+    let (mut ours, mut theirs) = UnixStream::pair()?;
+    theirs.write_all(&[0])?;
+    ours.write_all(bytes)?;
+    Ok(theirs.into())
+}
+
+type PlainRule<'a> = (usize, &'a [usize], &'a [usize]);
+
+/// Fact 0, from nothing.
+const ALWAYS: PlainRule = (0, &[], &[]);
+
+fn file_of(facts: usize, rules: &[PlainRule]) -> Vec<u8> {
+    let mut draft = Draft::new(facts);
+    for (conclusion, premises, constraints) in rules {
+        draft.rule(*conclusion, premises, constraints);
+    }
+    draft.bytes()
+}
+
+fn example_a() -> Vec<u8> {
+    file_of(4, &[ALWAYS, (1, &[0], &[2]), (2, &[0], &[1]), (3, &[2], &[])])
+}
+
+/// A chain, and a rule that repeats its end until the file has this length.
+fn long_file(length: usize) -> Vec<u8> {
+    let mut draft = Draft::new(100);
+    draft.rule(0, &[], &[]);
+    chain(&mut draft, &(0..99).collect::<Vec<_>>());
+    let missing = (length - draft.bytes().len()) / 2 - 1;
+    draft.rule(99, &vec![98; missing], &[]);
+    let bytes = draft.bytes();
+    assert_eq!(bytes.len(), length);
+    bytes
+}
+
+/// Every fact of a file, the count, and numbers past it.
+fn every_fact(name: &str, file: &[u8]) -> Vec<Trial> {
+    let facts = file.get(1).map_or(0, |&count| u32::from(count));
+    let beyond = [255, 256, 65_536, u32::MAX - 255, u32::MAX];
+    let asked = (0..=facts).chain(beyond);
+    let trial = |fact: u32| {
+        let word = fact.to_string();
+        Trial::new(format!("{name}, fact {fact}"), &[&word], Input::whole(file))
+    };
+    asked.map(trial).collect()
+}
+
+/// Files with nothing to ask for, with nothing derived, and with steps to leave out.
+fn small_files() -> Vec<(&'static str, Vec<u8>)> {
+    let diamond = [ALWAYS, (1, &[0], &[]), (2, &[0], &[]), (3, &[1, 2], &[]), (4, &[0], &[])];
+    let old_order =
+        [(2, &[][..], &[][..]), (1, &[0], &[]), ALWAYS, (3, &[1, 2], &[]), (4, &[2], &[])];
+    let two_ways = [(0, &[][..], &[1][..]), (1, &[], &[0]), (2, &[0], &[]), (2, &[1], &[])];
+    vec![
+        ("no facts", file_of(0, &[])),
+        ("no rules", file_of(2, &[])),
+        ("a rule set aside", file_of(1, &[(0, &[], &[0])])),
+        ("a diamond", file_of(5, &diamond)),
+        ("old order", file_of(5, &old_order)),
+        ("two ways", file_of(3, &two_ways)),
+    ]
+}
+
+/// Files of many facts and rules, deep and shallow.
+fn large_files() -> Vec<(&'static str, Vec<u8>)> {
+    vec![
+        ("512 rules and 16 constraint facts", large::exceptions(512, 16).bytes()),
+        ("a ring", large::ring(512).bytes()),
+        ("tangled", large::tangled(512).bytes()),
+        ("a ladder", large::ladder(512).bytes()),
+        ("a chain across words", large::words().bytes()),
+        ("stairs", stairs(255, 60).bytes()),
+        ("the longest file", long_file(LONGEST)),
+    ]
+}
+
+/// A file for each refusal that the file's questions give.
+fn refused_files() -> Vec<(&'static str, Vec<u8>)> {
+    vec![
+        ("no input", vec![]),
+        ("10", vec![0x10]),
+        ("10 01", vec![0x10, 1]),
+        ("10 01 05", vec![0x10, 1, 5]),
+        ("10 01 01", vec![0x10, 1, 1]),
+        ("10 01 01 01", vec![0x10, 1, 1, 1]),
+        ("10 01 02 00", vec![0x10, 1, 2, 0]),
+        ("513 rules", large::ring(513).bytes()),
+        ("10 00 1F 00 01", vec![0x10, 0, 0x1F, 0, 1]),
+        ("10 00 1F 00 00 00", vec![0x10, 0, 0x1F, 0, 0, 0]),
+        ("32,768 bytes", [long_file(LONGEST), vec![0]].concat()),
+        ("32,769 bytes", [long_file(LONGEST), vec![0, 0]].concat()),
+        ("more than a pipe holds", vec![0x10; 1_000_000]),
+    ]
+}
+
+/// Single words, between which a stroke stands.
+const WORDS: &str = "|0|1|2|01|10|+1|-1| 1|1 |1\n|0x1|1.0|1,0|1a|a|\u{661}|-|--|-h|0000000000|\
+    00000000000|0000000001|00000000001|1000000000|10000000000|4294967295|4294967296|4294967297|\
+    8589934593|9999999999";
+
+/// Words before a file of which facts 0 and 1 are derived.
+fn trials_of_words(file: &[u8]) -> Vec<Trial> {
+    let long = "1".repeat(300);
+    let single = WORDS.split('|').chain([&long[..]]).map(|word| vec![word]);
+    let other =
+        [vec![], vec!["1", "1"], vec!["1", ""], vec!["", "1"], vec!["1", "x"], vec!["0"; 9]];
+    let trial =
+        |words: Vec<&str>| Trial::new(format!("words {words:?}"), &words, Input::whole(file));
+    let mut trials: Vec<Trial> = single.chain(other).map(trial).collect();
+    for word in [&b"\xFF"[..], b"1\xFF", b"\xC3\x28"] {
+        let words = vec![word.to_vec()];
+        trials.push(Trial { name: format!("word {word:?}"), words, input: Input::whole(file) });
+    }
+    trials
+}
+
+/// Input of other kinds, each with a word that names a fact and with one that does
+/// not.
+fn trials_of_input(file: &[u8]) -> Vec<Trial> {
+    let longest = long_file(LONGEST);
+    let too_long = [&longest[..], &[0]].concat();
+    let inputs = [
+        ("byte by byte", Input::in_pieces(file, 1)),
+        ("two pieces", Input::in_pieces(file, file.len() - 1)),
+        ("the longest file in pieces", Input::in_pieces(&longest, 10_000)),
+        ("32,768 bytes in pieces", Input::in_pieces(&too_long, LONGEST)),
+        ("a read that fails", Input::Directory),
+        ("a read that fails past the file", Input::Broken(file.to_vec())),
+        ("a read that fails within the file", Input::Broken(file[..5].to_vec())),
+        ("closed", Input::Closed),
+    ];
+    let trial = |name: &str, word: &str, input: &Input| {
+        Trial::new(format!("{name}, word {word}"), &[word], input.clone())
+    };
+    inputs
+        .iter()
+        .flat_map(|(name, input)| ["1", "x"].map(|word| trial(name, word, input)))
+        .collect()
+}
+
+fn trials(paths: &[String]) -> Result<Vec<Trial>, String> {
+    let mut trials = Vec::new();
+    for path in paths {
+        let file = std::fs::read(path).map_err(|error| format!("{path}: {error}"))?;
+        trials.extend(every_fact(path, &file));
+    }
+    let a = example_a();
+    for (name, file) in [small_files(), large_files(), refused_files()].concat() {
+        trials.extend(every_fact(name, &file));
+    }
+    trials.extend(trials_of_words(&a));
+    trials.extend(trials_of_input(&a));
+    Ok(trials)
+}
+
+fn run(program: &str, paths: &[String]) -> Result<(), String> {
+    let trials = trials(paths)?;
+    for trial in &trials {
+        trial.passes(program)?;
+    }
+    println!("{} calls of {program} agree", trials.len());
+    Ok(())
+}
+
+fn main() -> ExitCode {
+    let arguments: Vec<String> = std::env::args().skip(1).collect();
+    let [program, paths @ ..] = &arguments[..] else {
+        eprintln!("usage: programs <grounds> <file>..");
+        return ExitCode::FAILURE;
+    };
+    match run(program, paths) {
+        Ok(()) => ExitCode::SUCCESS,
+        Err(message) => {
+            println!("FAIL: {message}");
+            ExitCode::FAILURE
+        }
+    }
+}
