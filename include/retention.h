@@ -8,7 +8,8 @@
  *   10  fact count, 1 byte (0 to 255); first, and only there
  *   01  opens a rule, 1 byte: its conclusion
  *   02  a premise of the rule last opened, 1 byte
- *   03  a constraint of it, 1 byte
+ *   03  a constraint of it, 1 byte; a rule has at most 24 items of these two
+ *       kinds together, repeats counted
  *   1F  rule count, 2 bytes (0 to 512); last
  *
  * Beside the file:
@@ -36,15 +37,16 @@
  *   - In a lent buffer the bytes past those written keep their contents.
  *   - Nothing is kept between calls, and nothing is allocated for the caller.
  *   - The stack that a call needs on x86-64, as measured: retention_accept and
- *     retention_check 37 KB, retention_grounds 76 KB, retention_judge 77 KB,
- *     retention_run 78 KB, retention_panel 121 KB, retention_search 151 KB.
+ *     retention_check 29 KB, retention_grounds 68 KB, retention_judge 69 KB,
+ *     retention_run 70 KB, retention_panel 105 KB, retention_search 135 KB.
  *
  * Refusals
  *
  * Each is the number of the first question that gets a no. The questions are
- * asked in the order given with each function.
+ * asked in the order given with each function. The file's are 1 to 7, 51 and 8
+ * to 10, in the order below.
  *
- *   the file, from the start; 3 to 10 for each next item
+ *   the file, from the start; 3 to 10 and 51 for each next item
  *    1  At most 32,767 bytes?
  *    2  Does it begin with a whole 10 item?
  *    3  Is there a next byte?
@@ -52,6 +54,7 @@
  *    5  Is the body whole?
  *    6  01, 02, 03: is the fact below the count?
  *    7  02, 03: has a rule been opened?
+ *   51  02, 03: has that rule fewer than 24 items of these kinds before it?
  *    8  01: fewer than 512 rules before it?
  *    9  1F: does it give the number of rules?
  *   10  1F: does the file end there?
@@ -117,7 +120,7 @@ typedef struct {
 /*
  * Is the file accepted, and what does it count? The counts give the sizes of
  * the buffers that the other functions need.
- * Questions: 1 to 10.
+ * Questions: the file's.
  */
 retention_file retention_accept(const uint8_t *file, size_t file_len);
 
@@ -126,7 +129,7 @@ retention_file retention_accept(const uint8_t *file, size_t file_len);
  * mark for each fact (0 open, 1 derived, 2 ruled out), one for each rule
  * (0 plain, 1 applied at a stage, 2 set aside, 3 other), and the steps in order,
  * as 06 items.
- * Questions: 1 to 14, 31 to 33.
+ * Questions: the file's, 11 to 14, 31 to 33.
  */
 retention_counts retention_run(const uint8_t *file, size_t file_len,
                                const uint8_t *order, size_t order_len,
@@ -136,7 +139,7 @@ retention_counts retention_run(const uint8_t *file, size_t file_len,
 
 /*
  * Is the set stable for the file less the listed exception rules?
- * Questions: 1 to 13, 21, 22.
+ * Questions: the file's, 11 to 13, 21, 22.
  */
 retention_verdict retention_judge(const uint8_t *file, size_t file_len,
                                   const uint8_t *list, size_t list_len,
@@ -145,7 +148,7 @@ retention_verdict retention_judge(const uint8_t *file, size_t file_len,
 /*
  * Is the row of steps a proof of the fact that the set admits? An empty row,
  * or an unknown fact or rule in a step, gets the verdict 0 and no refusal.
- * Questions: 1 to 10, 21, 22, 24, 23.
+ * Questions: the file's, 21, 22, 24, 23.
  */
 retention_verdict retention_check(const uint8_t *file, size_t file_len,
                                   const uint8_t *set, size_t set_len,
@@ -158,7 +161,7 @@ retention_verdict retention_check(const uint8_t *file, size_t file_len,
  * which the run ends at that set, as 05 items, and the marks and steps of that
  * run. The set is the facts marked 1. The steps from the first up to a fact's
  * own are a proof of it that the set admits.
- * Questions: 1 to 10, 31 to 34, 40, 41.
+ * Questions: the file's, 31 to 34, 40, 41.
  */
 retention_counts retention_search(const uint8_t *file, size_t file_len,
                                   uint8_t *fact_marks, size_t fact_marks_len,
@@ -174,7 +177,7 @@ retention_counts retention_search(const uint8_t *file, size_t file_len,
  * the bytes past them keep their contents: no other step is written. They are a
  * proof of the fact that the set of the facts marked 1 admits, and no proof of
  * it uses only some of their rules.
- * Questions: 1 to 14, 31 to 33, 50.
+ * Questions: the file's, 11 to 14, 31 to 33, 50.
  */
 retention_count retention_grounds(const uint8_t *file, size_t file_len,
                                   const uint8_t *order, size_t order_len,
@@ -188,7 +191,7 @@ retention_count retention_grounds(const uint8_t *file, size_t file_len,
  * that text. Where the buffer is shorter nothing is written; a call with length
  * 0 asks for the length. The text of a refusal is "E n" and a line end, and
  * there is no zero byte after the text.
- * Questions: 1 to 10, answered by the text.
+ * Questions: the file's, answered by the text.
  */
 uint32_t retention_panel(const uint8_t *file, size_t file_len,
                          uint8_t *out, size_t out_len);

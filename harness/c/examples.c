@@ -405,6 +405,74 @@ static void panel(void)
     expect(prints(NOTHING, "E 2\n"), "panel for empty input");
 }
 
+/* A file of 3 facts begins; its length so far. */
+static size_t begin_file(uint8_t *file)
+{
+    file[0] = 0x10;
+    file[1] = 3;
+    return 2;
+}
+
+/* Adds the rule 0< with so many premises, all 1, and so many constraints, all 2. */
+static size_t add_rule(uint8_t *file, size_t len, size_t premises, size_t constraints)
+{
+    file[len++] = 1;
+    file[len++] = 0;
+    for (size_t item = 0; item < premises + constraints; item++) {
+        file[len++] = item < premises ? 2 : 3;
+        file[len++] = item < premises ? 1 : 2;
+    }
+    return len;
+}
+
+static size_t one_rule(uint8_t *file, size_t premises, size_t constraints)
+{
+    return end_file(file, add_rule(file, begin_file(file), premises, constraints), 1);
+}
+
+/* The first rule has 24 premises, the second so many constraints. */
+static size_t two_rules(uint8_t *file, size_t constraints)
+{
+    size_t len = add_rule(file, begin_file(file), 24, 0);
+    return end_file(file, add_rule(file, len, 0, constraints), 2);
+}
+
+/* The 25th premise or constraint item of one rule is refused, by every function. */
+static void rules_too_long(void)
+{
+    uint8_t file[256];
+    size_t len = one_rule(file, 23, 1);
+    retention_file found = retention_accept(file, len);
+    expect(found.refusal == 0 && found.facts == 3 && found.rules == 1 && found.exceptions == 1
+               && found.constraints == 1, "23 premises and a constraint are accepted");
+    len = two_rules(file, 24);
+    found = retention_accept(file, len);
+    expect(found.refusal == 0 && found.rules == 2 && found.exceptions == 1,
+           "24 items in each of two rules are accepted");
+    len = two_rules(file, 25);
+    expect_refusal(file, len, 51, "24 items in one rule, 25 in the next: 51");
+    len = one_rule(file, 24, 1);
+    expect_refusal(file, len, 51, "24 premises and a constraint: 51");
+    len = one_rule(file, 25, 0);
+    expect_refusal(file, len, 51, "25 equal premises: 51");
+    file[2 + 2 + 2 * 24 + 1] = 3;
+    expect_refusal(file, len, 6, "a 25th premise of a fact too high: 6");
+    expect_refusal(file, 2 + 2 + 2 * 24 + 1, 5, "a 25th premise that is cut: 5");
+
+    len = one_rule(file, 25, 0);
+    outcome result = run(file, len, NOTHING);
+    expect(refused(&result, 51), "run of 25 premises: 51");
+    result = search(file, len);
+    expect(refused(&result, 51), "search of 25 premises: 51");
+    result = grounds(file, len, NOTHING, 0);
+    expect(refused(&result, 51), "grounds of 25 premises: 51");
+    retention_verdict reply = retention_judge(file, len, NOTHING, BYTES(0, 0, 0));
+    expect(reply.refusal == 51 && reply.verdict == 0, "judge of 25 premises: 51");
+    reply = retention_check(file, len, BYTES(0, 0, 0), 0, NOTHING);
+    expect(reply.refusal == 51 && reply.verdict == 0, "check of 25 premises: 51");
+    expect(prints(file, len, "E 51\n"), "panel for 25 premises");
+}
+
 int main(void)
 {
     example_a();
@@ -416,6 +484,7 @@ int main(void)
     callers();
     shorter_grounds();
     panel();
+    rules_too_long();
     printf("%d failed\n", failures);
     return failures == 0 ? 0 : 1;
 }

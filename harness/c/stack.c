@@ -1,6 +1,7 @@
 /* Measures how much stack each function of the interface needs: the call is made on a
    thread whose stack was painted before, and what is no longer painted was used. What a
-   thread needs for itself is measured by an empty call and left out. */
+   thread needs for itself is measured by an empty call and left out. Each function is
+   called on every file, and the most that it used is printed. */
 #include <retention.h>
 
 #include <pthread.h>
@@ -8,16 +9,20 @@
 #include <stdlib.h>
 #include <string.h>
 
+#define COUNT(array) (sizeof(array) / sizeof((array)[0]))
+
 enum {
     STACK = 1 << 20,
     PAINT = 0x5A,
     MOST_FACTS = 255,
     MOST_RULES = 512,
+    MOST_OWN_ITEMS = 24,
     PAIRS = 16,
-    MOST_PREMISES = 60
+    /* no accepted file is longer */
+    MOST_BYTES = 2 + MOST_RULES * (2 + 2 * MOST_OWN_ITEMS) + 3
 };
 
-static uint8_t file[32767], order[3 * MOST_RULES], found[3 * MOST_RULES];
+static uint8_t file[MOST_BYTES], order[3 * MOST_RULES], found[3 * MOST_RULES];
 static uint8_t fact_marks[MOST_FACTS], rule_marks[MOST_RULES], steps[4 * MOST_FACTS];
 static uint8_t set[MOST_FACTS], text[8192];
 static size_t file_len, order_len, proof_len;
@@ -40,39 +45,61 @@ static void end_file(uint8_t *at, int rules)
     file_len = (size_t)(at - file);
 }
 
+/* A rule with one premise or constraint, as often as it may stand there. */
+static uint8_t *add_rule(uint8_t *at, int conclusion, uint8_t kind, int fact)
+{
+    *at++ = 0x01;
+    *at++ = (uint8_t)conclusion;
+    for (int item = 0; item < MOST_OWN_ITEMS; item++) {
+        *at++ = kind;
+        *at++ = (uint8_t)fact;
+    }
+    return at;
+}
+
 /* Facts that exclude each other in pairs, and a chain from each of them: all constraint
-   facts are guessed, one within another. */
+   facts are guessed, one within another. No accepted file has more rules or items. */
 static void make_pairs(void)
 {
     uint8_t *at = begin_file();
     for (int rule = 0; rule < MOST_RULES; rule++) {
-        *at++ = 0x01;
         if (rule < PAIRS) {
-            *at++ = (uint8_t)rule;
-            *at++ = 0x03;
-            *at++ = (uint8_t)(rule ^ 1);
+            at = add_rule(at, rule, 0x03, rule ^ 1);
             order[order_len++] = 0x05;
             order[order_len++] = 0;
             order[order_len++] = (uint8_t)rule;
         } else {
-            *at++ = (uint8_t)(PAIRS + rule % (MOST_FACTS - PAIRS));
-            *at++ = 0x02;
-            *at++ = (uint8_t)(rule % PAIRS);
+            at = add_rule(at, PAIRS + rule % (MOST_FACTS - PAIRS), 0x02, rule % PAIRS);
         }
     }
     end_file(at, MOST_RULES);
     asked = 0;
 }
 
-/* Each fact from many before it, the nearest as the first premise and as the last: the
-   grounds of the last fact go as deep as there are facts. */
+/* Every rule is an exception rule: the longest order and the most constraint items. */
+static void make_exceptions(void)
+{
+    uint8_t *at = begin_file();
+    for (int rule = 0; rule < MOST_RULES; rule++) {
+        at = add_rule(at, rule % (MOST_FACTS - PAIRS), 0x03,
+                      MOST_FACTS - PAIRS + rule % PAIRS);
+        order[order_len++] = 0x05;
+        order[order_len++] = (uint8_t)(rule >> 8);
+        order[order_len++] = (uint8_t)rule;
+    }
+    end_file(at, MOST_RULES);
+    asked = 0;
+}
+
+/* Each fact from as many before it as a rule may name, the nearest as the first premise
+   and as the last: the grounds of the last fact go as deep as there are facts. */
 static void make_stairs(void)
 {
     uint8_t *at = begin_file();
     for (int fact = 0; fact < MOST_FACTS; fact++) {
         *at++ = 0x01;
         *at++ = (uint8_t)fact;
-        for (int below = 1; below <= fact && below <= MOST_PREMISES; below++) {
+        for (int below = 1; below <= fact && below < MOST_OWN_ITEMS; below++) {
             *at++ = 0x02;
             *at++ = (uint8_t)(fact - below);
         }
@@ -166,27 +193,30 @@ static size_t used(void *(*call)(void *))
 
 int main(void)
 {
+    static void (*const files[])(void) = {make_pairs, make_exceptions, make_stairs};
+    /* The judge and the check take what the run left. */
     static const struct {
         const char *name;
         void *(*call)(void *);
-        void (*make)(void);
-    } functions[] = {{"retention_accept", accept, make_pairs},
-                     {"retention_run", run, make_pairs},
-                     {"retention_judge", judge, make_pairs},
-                     {"retention_check", check, make_pairs},
-                     {"retention_search", search, make_pairs},
-                     {"retention_panel", panel, make_pairs},
-                     {"retention_grounds", grounds, make_pairs},
-                     {"retention_grounds", grounds, make_stairs}};
+    } functions[] = {{"retention_accept", accept}, {"retention_run", run},
+                     {"retention_judge", judge},   {"retention_check", check},
+                     {"retention_search", search}, {"retention_panel", panel},
+                     {"retention_grounds", grounds}};
     size_t own = used(nothing);
-    for (size_t n = 0; n < sizeof functions / sizeof functions[0]; n++) {
-        functions[n].make();
-        size_t needed = used(functions[n].call) - own;
-        if (reply != 0) {
-            printf("FAIL %s refused with %u\n", functions[n].name, (unsigned)reply);
-            return EXIT_FAILURE;
+    size_t needed[COUNT(functions)] = {0};
+    for (size_t f = 0; f < COUNT(files); f++) {
+        files[f]();
+        for (size_t n = 0; n < COUNT(functions); n++) {
+            size_t more = used(functions[n].call) - own;
+            if (reply != 0) {
+                printf("FAIL %s refused with %u\n", functions[n].name, (unsigned)reply);
+                return EXIT_FAILURE;
+            }
+            if (needed[n] < more)
+                needed[n] = more;
         }
-        printf("stack %-18s %4zu KB\n", functions[n].name, (needed + 1023) / 1024);
     }
+    for (size_t n = 0; n < COUNT(functions); n++)
+        printf("stack %-18s %4zu KB\n", functions[n].name, (needed[n] + 1023) / 1024);
     return EXIT_SUCCESS;
 }

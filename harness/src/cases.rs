@@ -2,7 +2,7 @@
 //! buffers it is lent, and the reply that the reference gives.
 
 use crate::draft::{Draft, DraftRule};
-use crate::files::{random_draft, spoil_file};
+use crate::files::{lengthen_rule, random_draft, spoil_file};
 use crate::random::Random;
 use reference::{Counts, Lent, RULE_NUMBER_BYTES, Refusal, STEP_BYTES, kind};
 
@@ -79,7 +79,7 @@ impl Operation {
             Operation::AskRow => &[24, 23],
             Operation::Grounds => &[11, 12, 13, 14, 31, 32, 33, 50],
         };
-        (1..=10).chain(beyond_file.iter().copied()).collect()
+        (1..=10).chain([51]).chain(beyond_file.iter().copied()).collect()
     }
 
     /// The names of its answers where nothing is refused.
@@ -244,7 +244,7 @@ fn answer_reply(result: Result<(), Refusal>) -> Vec<u32> {
 }
 
 /// The highest refusal number.
-const MOST_REFUSAL: usize = 50;
+const MOST_REFUSAL: usize = 51;
 const OPERATIONS: usize = Operation::ALL.len();
 
 /// How often each refusal and each answer was met, by operation.
@@ -353,7 +353,10 @@ struct Subject {
 
 /// A case of any operation, from its own random numbers.
 pub fn random_case(random: &mut Random) -> Case {
-    let draft = random_draft(random);
+    let mut draft = random_draft(random);
+    if random.one_in(20) {
+        lengthen_rule(random, &mut draft);
+    }
     let mut file = draft.bytes();
     if random.one_in(8) {
         spoil_file(random, &mut file);

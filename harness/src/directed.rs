@@ -2,11 +2,8 @@
 //! operation, and calls that could be refused for two reasons at once.
 
 use crate::cases::{Case, Operation, rule_numbers};
-use crate::draft::Draft;
-use reference::{RuleFile, STEP_BYTES};
-
-/// The longest file that is accepted.
-const LONGEST: usize = 32_767;
+use crate::draft::{Draft, MOST_OWN_ITEMS};
+use reference::{RuleFile, STEP_BYTES, kind};
 
 type PlainRule<'a> = (usize, &'a [usize], &'a [usize]);
 
@@ -64,13 +61,51 @@ fn late_rules() -> Draft {
     draft
 }
 
-/// A file of 511 rules and the longest length, by premises repeated.
-fn longest_file() -> Vec<u8> {
-    let mut draft = example(2, &[ALWAYS; 511]);
-    let missing = (LONGEST - draft.bytes().len()) / 2;
-    let last = draft.rules.last_mut().expect("there are rules");
-    last.items.extend(std::iter::repeat_n((reference::kind::PREMISE, 1), missing));
-    draft.bytes()
+/// Rules as long as they may be, where each item matters: 24 waits for all of 0 to 23;
+/// 25 has the constraints 26 to 49, and 50 has 27 to 49 and, as its last, 24.
+fn rules_at_the_cap() -> Draft {
+    let mut draft = Draft::new(51);
+    let premises: Vec<usize> = (0..MOST_OWN_ITEMS).collect();
+    let constraints: Vec<usize> = (26..26 + MOST_OWN_ITEMS).collect();
+    draft.rule(24, &premises, &[]);
+    premises.iter().for_each(|&fact| draft.rule(fact, &[], &[]));
+    draft.rule(25, &[], &constraints);
+    draft.rule(50, &[], &[&constraints[1..], &[24]].concat());
+    draft
+}
+
+/// Files around the 25th item of a rule, and that item against other refusals. Before
+/// it stands a rule with as many items as may be, by turns premises and constraints.
+fn files_around_the_cap() -> Vec<Vec<u8>> {
+    let full_rule = [&[kind::CONCLUSION, 0][..], &[2, 1, 3, 2].repeat(12)].concat();
+    let after_full = |end: &[u8]| [&[0x10, 3][..], &full_rule, end].concat();
+    let opened = |rules: usize| [&[0x10, 1][..], &[1, 0].repeat(rules)].concat();
+    let ends: [&[u8]; 16] = [
+        &[],
+        &[5],
+        &[2],
+        &[2, 3],
+        &[3, 3],
+        &[2, 2],
+        &[3, 2],
+        &[2, 2, 2],
+        &[2, 2, 2, 3],
+        &[2, 2, 5],
+        &[2, 1, 0x1F, 0, 1],
+        &[3, 1, 0x1F, 0, 2],
+        &[3, 1, 0x1F, 0, 1, 0],
+        &[1, 1, 2, 2, 0x1F, 0, 2],
+        &[0x1F, 0, 2],
+        &[0x1F, 0, 1, 0],
+    ];
+    let mut files: Vec<Vec<u8>> = ends.iter().map(|end| after_full(end)).collect();
+    files.push(after_full(&[&full_rule[..], &[0x1F, 0, 2]].concat()));
+    files.push(after_full(&[&full_rule[..], &[3, 2, 0x1F, 0, 2]].concat()));
+    files.push([&[0x10, 3][..], &full_rule[2..], &[2, 2]].concat());
+    for (rules, end) in [(512, &[][..]), (512, &[1, 0]), (513, &[])] {
+        files.push([&opened(rules)[..], &[2, 0].repeat(25), end].concat());
+    }
+    files
 }
 
 /// The files that are refused; many would get a no to a later question too.
@@ -284,9 +319,11 @@ pub fn directed_cases() -> Vec<Case> {
     for file in refused_files() {
         cases.extend(all_operations(&file));
     }
-    cases.extend(all_operations(&[0; LONGEST + 1]));
+    for file in files_around_the_cap() {
+        cases.extend(all_operations(&file));
+    }
+    cases.extend(all_operations(&rules_at_the_cap().bytes()));
     cases.extend(all_operations(&late_rules().bytes()));
-    cases.push(call_of(Operation::Accept, &longest_file()));
     cases.extend(rule_number_cases(a));
     cases.extend(check_cases(a));
     cases.extend(all_operations(&sixteen));

@@ -2,6 +2,9 @@
 
 use reference::kind;
 
+/// The cap: the most premise and constraint items of one rule, repeats counted.
+pub const MOST_OWN_ITEMS: usize = 24;
+
 /// A rule as its items stand in the file.
 #[derive(Clone)]
 pub struct DraftRule {
@@ -51,7 +54,8 @@ pub fn chain(draft: &mut Draft, facts: &[usize]) {
 
 /// A file whose steps go as deep as they can: fact 0 from nothing, and every other
 /// from those before it, this many of them at most. The nearest stands first and
-/// once more at the end, so that it is met first from either side.
+/// once more at the end, so that it is met first from either side; a rule then has
+/// one premise item more than that.
 pub fn stairs(facts: usize, premises: usize) -> Draft {
     let mut draft = Draft::new(facts);
     draft.rule(0, &[], &[]);

@@ -1,13 +1,14 @@
 //! Random rule files of many shapes, valid and spoilt.
 
-use crate::draft::{Draft, chain};
+use crate::draft::{Draft, MOST_OWN_ITEMS, chain};
 use crate::random::Random;
 use reference::kind;
 
-/// A valid draft of a random shape. Most are small; few are large.
+/// A valid draft of a random shape, within the cap. Most are small; few are large.
 pub fn random_draft(random: &mut Random) -> Draft {
     match random.below(1000) {
-        0..400 => scattered(random, 10, 14),
+        0..380 => scattered(random, 10, 14),
+        380..400 => wide(random),
         400..700 => choices(random),
         700..850 => guarded_chain(random),
         850..900 => scattered(random, 4, 30),
@@ -99,6 +100,29 @@ fn stacked(random: &mut Random) -> Draft {
     finish(random, draft)
 }
 
+/// Rules that are as long as they may be, or a little shorter. Their premises are
+/// mostly given and their constraints are facts that such rules conclude, so that
+/// some of the rules exclude others.
+fn wide(random: &mut Random) -> Draft {
+    let facts = random.within(MOST_OWN_ITEMS, 40);
+    let given = facts - random.within(2, 14);
+    let mut draft = Draft::new(facts);
+    (0..given).for_each(|fact| draft.rule(fact, &[], &[]));
+    for _ in 0..random.within(2, 6) {
+        let length = random.within(MOST_OWN_ITEMS - 3, MOST_OWN_ITEMS);
+        let constraints = if random.one_in(3) { 0 } else { random.below(length + 1) };
+        let conclusion = random.within(given, facts - 1);
+        let premise = |random: &mut Random| {
+            if random.one_in(60) { random.below(facts) } else { random.below(given) }
+        };
+        let premises: Vec<usize> = (constraints..length).map(|_| premise(random)).collect();
+        let constraints: Vec<usize> =
+            (0..constraints).map(|_| random.within(given, facts - 1)).collect();
+        draft.rule(conclusion, &premises, &constraints);
+    }
+    finish(random, draft)
+}
+
 /// Rule numbers of 256 and more, few facts.
 fn many_rules(random: &mut Random) -> Draft {
     let mut draft = if random.one_in(2) { choices(random) } else { scattered(random, 12, 60) };
@@ -178,7 +202,7 @@ fn shuffle_facts(random: &mut Random, draft: &mut Draft) {
 /// Repeats some items, and mixes premises with constraints.
 fn repeat_items(random: &mut Random, draft: &mut Draft) {
     for rule in &mut draft.rules {
-        if !rule.items.is_empty() && random.one_in(2) {
+        if (1..MOST_OWN_ITEMS).contains(&rule.items.len()) && random.one_in(2) {
             let again = rule.items[random.below(rule.items.len())];
             rule.items.push(again);
             random.shuffle(&mut rule.items);
@@ -192,6 +216,22 @@ fn repeat_rules(random: &mut Random, draft: &mut Draft, copies: usize) {
             let copy = draft.rules[random.below(draft.rules.len())].clone();
             draft.rules.insert(random.below(draft.rules.len() + 1), copy);
         }
+    }
+}
+
+/// Gives a rule as many items as the cap allows, one less, or one or two more. They
+/// repeat its own, so that it says what it said before; a rule without any waits for
+/// its conclusion.
+pub fn lengthen_rule(random: &mut Random, draft: &mut Draft) {
+    let chosen = random.below(draft.rules.len());
+    let Some(rule) = draft.rules.get_mut(chosen) else { return };
+    if rule.items.is_empty() {
+        rule.items.push((kind::PREMISE, rule.conclusion));
+    }
+    let length = random.within(MOST_OWN_ITEMS - 1, MOST_OWN_ITEMS + 2);
+    while rule.items.len() < length {
+        let again = rule.items[random.below(rule.items.len())];
+        rule.items.push(again);
     }
 }
 

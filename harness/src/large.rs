@@ -1,9 +1,11 @@
 //! Large rule files by a name and a count, for the list of named cases.
 
-use crate::draft::Draft;
+use crate::draft::{Draft, MOST_OWN_ITEMS};
 
 /// The most facts that a file can have.
 const FACTS: usize = 255;
+/// The most rules that a file can have.
+const RULES: usize = 512;
 
 /// The rules 0<!0, 0<!1 and so on up to the last constraint fact, by turns.
 pub fn exceptions(rules: usize, constraint_facts: usize) -> Draft {
@@ -68,6 +70,40 @@ pub fn words() -> Draft {
         let premises: Vec<usize> = fact.checked_sub(1).into_iter().collect();
         draft.rule(fact, &premises, &[]);
         draft.rules.swap_remove(rule);
+    }
+    draft
+}
+
+/// The full files by name: how many of its 24 items a rule has as premises, by its
+/// number. Where all are premises nothing is derived.
+pub const FULL: [(&str, fn(usize) -> usize); 4] = [
+    ("full premises", |_| MOST_OWN_ITEMS),
+    ("full constraints", |_| 0),
+    ("full mixed", |rule| rule % MOST_OWN_ITEMS),
+    ("full after one exception", |rule| if rule == 0 { 0 } else { MOST_OWN_ITEMS }),
+];
+
+/// The longest files that are accepted: as many rules as may be, each with as many
+/// items of its own as may be. The rules go up the facts 0 to 237 by turns, from the
+/// facts right below, and the last alone goes on to 238, so that its items matter
+/// though they stand last. Constraints are the 16 facts above, which no rule
+/// concludes. Odd rules have their constraints first.
+pub fn full(premises: fn(usize) -> usize) -> Draft {
+    let (top, last) = (238, RULES - 1);
+    let constraint_facts = FACTS - (top + 1);
+    let mut draft = Draft::new(FACTS);
+    for rule in 0..RULES {
+        let conclusion = if rule == last { top } else { rule % top };
+        let premises = premises(rule);
+        let below: Vec<usize> =
+            (1..=premises).map(|less| conclusion.saturating_sub(less)).collect();
+        let above: Vec<usize> = (premises..MOST_OWN_ITEMS)
+            .map(|place| top + 1 + (rule + place) % constraint_facts)
+            .collect();
+        draft.rule(conclusion, &below, &above);
+        if rule % 2 == 1 {
+            draft.rules[rule].items.reverse();
+        }
     }
     draft
 }

@@ -8,6 +8,9 @@ use std::str::FromStr;
 
 type Bytes = Result<Vec<u8>, String>;
 
+/// Bytes of the item that ends a file: kind and two bytes of rule count.
+const END_BYTES: usize = 3;
+
 pub fn number<T: FromStr>(word: &str) -> Result<T, String> {
     word.trim().parse().map_err(|_| format!("not a number in range: {word:?}"))
 }
@@ -137,8 +140,8 @@ pub fn lines(text: &str) -> Vec<u8> {
 }
 
 /// A file: a name, bytes, equal bytes as `32765 of 02`, rules in the notation of
-/// document 01, a large file by its builder, or several of these with `then`
-/// between them.
+/// document 01, a large file by its builder, any of these without the item that ends
+/// it after the word `unended`, or several of these with `then` between them.
 pub fn file(text: &str, named: &BTreeMap<String, Vec<u8>>) -> Bytes {
     let mut bytes = Vec::new();
     for part in text.split(" then ") {
@@ -150,6 +153,11 @@ pub fn file(text: &str, named: &BTreeMap<String, Vec<u8>>) -> Bytes {
 fn file_part(part: &str, named: &BTreeMap<String, Vec<u8>>) -> Bytes {
     if let Some(bytes) = named.get(part) {
         return Ok(bytes.clone());
+    }
+    if let Some(file) = part.strip_prefix("unended ") {
+        let mut bytes = file_part(file, named)?;
+        bytes.truncate(bytes.len().saturating_sub(END_BYTES));
+        return Ok(bytes);
     }
     if let Some((facts, rules)) = part.split_once(" facts") {
         return Ok(draft(number(facts)?, rules)?.bytes());
@@ -166,10 +174,18 @@ fn file_part(part: &str, named: &BTreeMap<String, Vec<u8>>) -> Bytes {
         ["tangled", rules] => large::tangled(number(rules)?),
         ["ladder", rules] => large::ladder(number(rules)?),
         ["words"] => large::words(),
+        ["full", ..] => full(part)?,
         ["stairs", facts, premises] => stairs(number(facts)?, number(premises)?),
         _ => return Err(format!("not a file: {part:?}")),
     };
     Ok(draft.bytes())
+}
+
+/// A full file by its name: `full mixed`.
+fn full(part: &str) -> Result<Draft, String> {
+    let full = large::FULL.iter().find(|(name, _)| *name == part);
+    let (_, premises) = full.ok_or_else(|| format!("not a file: {part:?}"))?;
+    Ok(large::full(*premises))
 }
 
 /// What follows the count of facts: `; 0<; 1<0,!2`.
@@ -182,12 +198,42 @@ fn draft(facts: u8, rules: &str) -> Result<Draft, String> {
     for rule in parts {
         let (conclusion, body) =
             rule.split_once('<').ok_or_else(|| format!("not a rule: {rule:?}"))?;
-        let item = |word: &str| match word.strip_prefix('!') {
-            Some(fact) => Ok((kind::CONSTRAINT, number(fact)?)),
-            None => Ok((kind::PREMISE, number(word)?)),
-        };
-        let items: Result<Vec<_>, String> = words(body).into_iter().map(item).collect();
-        draft.rules.push(DraftRule { conclusion: number(conclusion)?, items: items? });
+        draft.rules.push(DraftRule { conclusion: number(conclusion)?, items: items(body)? });
     }
     Ok(draft)
+}
+
+/// The items of a rule: `0,!1`, with `24 of 0` or `24 of !1` for that many equal ones,
+/// and `0 to 23` or `!0 to !23` for all between.
+fn items(body: &str) -> Result<Vec<(u8, u8)>, String> {
+    let mut items = Vec::new();
+    let mut rest = &words(body)[..];
+    while let [first, after @ ..] = rest {
+        rest = match after {
+            ["of", equal, after @ ..] => {
+                items.extend(std::iter::repeat_n(item(equal)?, number(first)?));
+                after
+            }
+            ["to", last, after @ ..] => {
+                let ((kind, first), (same_kind, last)) = (item(first)?, item(last)?);
+                if kind != same_kind {
+                    return Err(format!("a premise to a constraint: {body:?}"));
+                }
+                items.extend((first..=last).map(|fact| (kind, fact)));
+                after
+            }
+            _ => {
+                items.push(item(first)?);
+                after
+            }
+        };
+    }
+    Ok(items)
+}
+
+fn item(word: &str) -> Result<(u8, u8), String> {
+    match word.strip_prefix('!') {
+        Some(fact) => Ok((kind::CONSTRAINT, number(fact)?)),
+        None => Ok((kind::PREMISE, number(word)?)),
+    }
 }

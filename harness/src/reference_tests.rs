@@ -156,6 +156,101 @@ fn files_that_are_refused() {
     assert!(accept(&file_of(1, &[ALWAYS; 512])).is_ok());
 }
 
+/// A file of three facts whose rules have these items of their own, between the
+/// first item and what ends it.
+fn file_with_items(rules: &[&[(u8, u8)]], end: &[u8]) -> Vec<u8> {
+    let mut bytes = vec![kind::FACT_COUNT, 3];
+    for items in rules {
+        bytes.extend([kind::CONCLUSION, 0]);
+        bytes.extend(items.iter().flat_map(|&(kind, fact)| [kind, fact]));
+    }
+    bytes.extend(end);
+    bytes
+}
+
+const PREMISE: (u8, u8) = (kind::PREMISE, 1);
+const CONSTRAINT: (u8, u8) = (kind::CONSTRAINT, 2);
+
+#[test]
+fn twenty_four_items_of_a_rule_pass_and_twenty_five_do_not() {
+    for constraints in 0..=25 {
+        let rule_of = |length: usize| {
+            let item = |place: usize| if place < constraints { CONSTRAINT } else { PREMISE };
+            (0..length).map(item).collect::<Vec<_>>()
+        };
+        let accepted = accept(&file_with_items(&[&rule_of(24)], &[0x1F, 0, 1])).unwrap();
+        assert_eq!((accepted.rules, accepted.exceptions), (1, usize::from(constraints > 0)));
+        for length in [25, 26, 48, 300] {
+            let too_long = file_with_items(&[&rule_of(length)], &[0x1F, 0, 1]);
+            assert_eq!(accept(&too_long), Err(Refusal::RuleTooLong));
+        }
+    }
+}
+
+#[test]
+fn the_cap_begins_anew_with_each_rule() {
+    let (full, over) = ([PREMISE; 24], [CONSTRAINT; 25]);
+    assert!(accept(&file_with_items(&[&full, &full, &[], &full], &[0x1F, 0, 4])).is_ok());
+    assert!(accept(&file_with_items(&[&full[..]; 512], &[0x1F, 2, 0])).is_ok());
+    for rules in [[&full[..], &over], [&over, &full], [&[], &over], [&over, &[]]] {
+        assert_eq!(accept(&file_with_items(&rules, &[0x1F, 0, 2])), Err(Refusal::RuleTooLong));
+    }
+}
+
+#[test]
+fn the_cap_is_asked_after_seven_and_before_what_follows() {
+    let after_full = |end: &[u8]| accept(&file_with_items(&[&[PREMISE; 24]], end)).unwrap_err();
+    assert_eq!(after_full(&[]), Refusal::NoNextItem);
+    assert_eq!(after_full(&[5]), Refusal::UnknownKind);
+    assert_eq!(after_full(&[2]), Refusal::BodyCut);
+    assert_eq!(after_full(&[2, 3]), Refusal::UnknownFact);
+    assert_eq!(after_full(&[3, 3]), Refusal::UnknownFact);
+    assert_eq!(after_full(&[0x1F, 0, 2]), Refusal::WrongRuleCount);
+    assert_eq!(after_full(&[0x1F, 0, 1, 0]), Refusal::BytesAfterEnd);
+    for after in [&[][..], &[5], &[2], &[2, 3], &[0x1F, 0, 2], &[0x1F, 0, 1, 0]] {
+        assert_eq!(after_full(&[&[2, 2], after].concat()), Refusal::RuleTooLong);
+        assert_eq!(after_full(&[&[3, 2], after].concat()), Refusal::RuleTooLong);
+    }
+    let unopened = [&[0x10, 3][..], &[2; 50]].concat();
+    assert_eq!(accept(&unopened), Err(Refusal::NoRuleOpened));
+}
+
+#[test]
+fn of_too_many_rules_and_too_long_a_rule_the_first_is_refused() {
+    let over: &[(u8, u8)] = &[PREMISE; 25];
+    let rules_with = |place: usize| {
+        let mut rules = vec![&[][..]; 513];
+        rules[place] = over;
+        accept(&file_with_items(&rules, &[0x1F, 2, 1])).unwrap_err()
+    };
+    assert_eq!(rules_with(0), Refusal::RuleTooLong);
+    assert_eq!(rules_with(511), Refusal::RuleTooLong);
+    assert_eq!(rules_with(512), Refusal::TooManyRules);
+}
+
+#[test]
+fn every_operation_asks_the_cap_and_leaves_its_buffers() {
+    let file = file_with_items(&[&[PREMISE; 25]], &[0x1F, 0, 1]);
+    let no = Refusal::RuleTooLong;
+    let mut lent = [vec![9; 8], vec![9; 8], vec![9; 28], vec![9; 8]];
+    let [fact_marks, rule_marks, steps, order] = &mut lent;
+    let ran = run(&file, &[], Lent { fact_marks, rule_marks, steps });
+    assert_eq!(ran, Err(no));
+    let found = search(&file, Lent { fact_marks, rule_marks, steps }, order);
+    assert_eq!(found, Err(no));
+    let kept = grounds(&file, &[], 0, Lent { fact_marks, rule_marks, steps });
+    assert_eq!(kept, Err(no));
+    assert!(lent.iter().flatten().all(|&byte| byte == 9));
+    assert_eq!(judge(&file, &[], &[0; 3]), Err(no));
+    assert_eq!(check(&file, &[0; 3], 0, &[]), Err(no));
+    assert_eq!(ask_order(&file, &[]), Err(no));
+    assert_eq!(ask_list(&file, &[]), Err(no));
+    assert_eq!(ask_set(&file, &[0; 3]), Err(no));
+    assert_eq!(ask_row(&file, 0, &[]), Err(no));
+    assert_eq!(panel(&file), "E 51\n");
+    assert_eq!(grounds_text(&file, 0), "E 51\n");
+}
+
 #[test]
 fn sixteen_constraint_facts_pass_and_seventeen_do_not() {
     let pairs = |count: usize| {

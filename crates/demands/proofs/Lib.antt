@@ -14,4 +14,5 @@ pub mod SameReplies
 pub mod Demands
 pub mod Starred
 pub mod Wish01
+pub mod Wish02
 pub mod Wish08

@@ -5,4 +5,5 @@ pub mod Demands
 pub mod Examples
 pub mod Starred
 pub mod Wish01
+pub mod Wish02
 pub mod Wish08

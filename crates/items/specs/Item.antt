@@ -57,6 +57,10 @@ maxRules = 512
 abbrev pub maxBytes : ℕ
 maxBytes = 32767
 
+-- The most premise and constraint items of one rule, repeats counted (question 51).
+abbrev pub maxRuleItems : ℕ
+maxRuleItems = 24
+
 -- The most constraint facts that the search takes (question 40).
 abbrev pub maxGuessed : ℕ
 maxGuessed = 16

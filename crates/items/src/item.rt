@@ -59,6 +59,9 @@ pub const MAX_FACTS: usize = 1 << (BYTE_BITS * FACT_BYTES);
 
 pub const MAX_RULES: usize = 512;
 
+// The most premise and constraint items of one rule, repeats counted.
+pub const MAX_RULE_ITEMS: usize = 24;
+
 // The most bytes of a file.
 pub const MAX_BYTES: usize = 32767;
 

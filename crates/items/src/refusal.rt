@@ -28,6 +28,7 @@ pub enum Refusal {
     TooManyConstraints,
     NoStableSet,
     NotDerived,
+    RuleTooLong,
 }
 
 impl Refusal {
@@ -61,6 +62,7 @@ impl Refusal {
             Refusal::TooManyConstraints => 40,
             Refusal::NoStableSet => 41,
             Refusal::NotDerived => 50,
+            Refusal::RuleTooLong => 51,
         }
     }
 }

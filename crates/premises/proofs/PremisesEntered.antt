@@ -1,5 +1,5 @@
 -- The premises of a rule are marked at its place, one after the other.
-use Prim.Native.Nat.{ℕ, zero, suc, _+_, _-_, _*_, _≤_, _<_}
+use Prim.Native.Nat.{ℕ, _+_, _*_, _≤_, _<_}
 use mathlib.Core.Path.{_≡_, refl, sym, ap, subst, _∙_, fun-ext}
 use mathlib.Core.Bool.{Bool, true, false, not, _&&_, _||_}
 use mathlib.Core.List.{List, [], _∷_, _++_, append-assoc, append-nil}
@@ -14,19 +14,9 @@ use Rattle.theory.proofs.Lists.{eqb-self, mem-append, howMany-ext}
 use Rattle.theory.proofs.Counted.{none-counted, counted-more}
 use Rattle.bits.specs.Flags.{rowWords}
 use Rattle.bits.specs.Matrix.{Matrix, adjoinIn, SameFrom}
-use Rattle.tables.specs.Layout.{listed, span}
+use Rattle.tables.specs.Layout.{span}
+use Rattle.tables.proofs.PartsSpanned.{span-more, span-end}
 use Rattle.premises.specs.Filling.{adjoinEach, Entered}
-
--- a span with the next element
-span-snoc : (row : ℕ → ℕ) (a b : ℕ) → a ≤ b → span row a (b + 1) ≡ span row a b ++ (row b ∷ [])
-span-snoc row a b h =
-    let more : b + 1 - a ≡ suc (b - a) = omega arith in
-    let whole : a + (b - a) ≡ b = omega arith in
-    ap (listed row a) more ∙ go (b - a) a ∙ ap (λ (m : ℕ). listed row a (b - a) ++ (row m ∷ [])) whole
-  where
-    go : (n c : ℕ) → listed row c (suc n) ≡ listed row c n ++ (row (c + n) ∷ [])
-    go zero c = rw (add-zero c) refl
-    go (suc n) c = let next : c + suc n ≡ suc c + n = omega arith in rw next (ap (λ (l : List ℕ). row c ∷ l) (go n (suc c)))
 
 mem-snoc : (f : ℕ) (xs : List ℕ) (x : ℕ) → mem f (xs ++ (x ∷ [])) ≡ eqb f x || mem f xs
 mem-snoc f xs x = mem-append f xs (x ∷ []) ∙ swap (mem f xs) (eqb f x)
@@ -107,15 +97,15 @@ none-entered {row} {from} {end} most behind low place asks =
     }
   where
     nothing-yet : span row from from ≡ []
-    nothing-yet = let none : from - from ≡ 0 = omega arith in ap (listed row from) none
+    nothing-yet = span-end row from from (omega arith)
 
 module _ {most behind : ℕ} {row : ℕ → ℕ} {place from end : ℕ} {asks₀ asks : List ℕ} {distinct at : ℕ} (w : Entering most behind row place from end asks₀ asks distinct at) where
   -- the elements with the one at the place
   joined : (xs : List ℕ) (x : ℕ) → x ≡ row at → xs ++ span row from at ++ (x ∷ []) ≡ xs ++ span row from (at + 1)
-  joined xs x x-is = append-assoc xs (span row from at) (x ∷ []) ∙ ap (λ (ys : List ℕ). xs ++ ys) (ap (λ (y : ℕ). span row from at ++ (y ∷ [])) x-is ∙ sym (span-snoc row from at (w .reached)))
+  joined xs x x-is = append-assoc xs (span row from at) (x ∷ []) ∙ ap (λ (ys : List ℕ). xs ++ ys) (ap (λ (y : ℕ). span row from at ++ (y ∷ [])) x-is ∙ sym (span-more row from at (w .reached)))
 
   pub passed-in : (x : ℕ) → x ≡ row at → mem x (span row from (at + 1)) ≡ true
-  passed-in x x-is = ap (mem x) (span-snoc row from at (w .reached)) ∙ mem-snoc x (span row from at) (row at) ∙ or-left _ _ (ap (eqb x) (sym x-is) ∙ eqb-self x)
+  passed-in x x-is = ap (mem x) (span-more row from at (w .reached)) ∙ mem-snoc x (span row from at) (row at) ∙ or-left _ _ (ap (eqb x) (sym x-is) ∙ eqb-self x)
 
   -- It was marked before.
   pub one-repeated : at < end → (x : ℕ) → x ≡ row at → mem x (span row from at) ≡ true → Entering most behind row place from end asks₀ asks distinct (at + 1)

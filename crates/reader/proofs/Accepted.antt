@@ -20,9 +20,9 @@ use Rattle.cursors.specs.declared.cursor.Cursor.{Cursor}
 use Rattle.cursors.specs.declared.cursor.Read.{Read}
 use Rattle.cursors.specs.declared.cursor.Read.the-variants.{Found, Refused, Ended}
 use Rattle.reader.specs.declared.answer.Scan.{Scan}
-use Rattle.items.specs.Item.{maxBytes, maxRules, Sign, asksIn, asksOut, sameSign, OwnItem, classOf}
+use Rattle.items.specs.Item.{maxBytes, maxRules, maxRuleItems, Sign, asksIn, asksOut, sameSign, OwnItem, classOf}
 use Rattle.cursors.specs.Cursor.{Token, item, bad, past, nextAt, itemsAt, fileStart}
-use Rattle.reader.specs.Questions.{ownFacts, ruleOf, rulesOf, factCount, programOf, fresh, opened, countQuestion, endQuestion, bodyQuestions, openingQuestions, fileQuestions, fileNo}
+use Rattle.reader.specs.Questions.{ownFacts, ruleOf, rulesOf, factCount, programOf, fresh, opened, lengthened, countQuestion, endQuestion, bodyQuestions, openingQuestions, fileQuestions, fileNo}
 use Rattle.cursors.proofs.Items.{ReadAt, found, not-found, row-ended}
 use Rattle.items.proofs.ItemSays.{by-tags, alone, either-said}
 
@@ -34,7 +34,7 @@ all-asked r false rest e = absurd (let z : _≡_ {A = ℕ} 0 1 = cc in omega ari
 -- The items of an accepted file after its first: rules opened, their own items, and the count of rules last.
 pub data GoodBody : Scan → List Token → Type 0 where
   opens : {scan : Scan} {i : Item} {f : FactId} {ts : List Token} → classOf i .opens ≡ some f → f .0 < scan .facts → scan .rules < maxRules → GoodBody (opened scan) ts → GoodBody scan (item i ∷ ts)
-  own : {scan : Scan} {i : Item} {o : OwnItem} {ts : List Token} → classOf i .own ≡ some o → o .fact .0 < scan .facts → 0 < scan .rules → GoodBody scan ts → GoodBody scan (item i ∷ ts)
+  own : {scan : Scan} {i : Item} {o : OwnItem} {ts : List Token} → classOf i .own ≡ some o → o .fact .0 < scan .facts → 0 < scan .rules → scan .own < maxRuleItems → GoodBody (lengthened scan) ts → GoodBody scan (item i ∷ ts)
   last : {scan : Scan} {i : Item} {n : ℕ} → classOf i .rules ≡ some n → n ≡ scan .rules → GoodBody scan (item i ∷ [])
 
 never : {A : Type 0} {r : Refusal} → _≡_ {A = Option Refusal} (some r) none → A
@@ -45,7 +45,7 @@ last-item scan i n [] s e = last s (eqb-true n (scan .rules) (all-asked _ (eqb n
 last-item scan i n (t ∷ ts) s e = never (all-asked _ (eqb n (scan .rules)) _ e .1)
 
 -- a yes to all questions
-abbrev AllYes : List Question → Type 0
+abbrev pub AllYes : List Question → Type 0
 AllYes qs = _≡_ {A = Option Refusal} (firstNo qs) none
 
 pub good-body : (scan : Scan) (ts : List Token) → AllYes (bodyQuestions scan ts) → GoodBody scan ts
@@ -61,34 +61,35 @@ good-body scan (item i ∷ ts) =
     (λ _. either-said (λ qs. AllYes qs → GoodBody scan (item i ∷ ts)) (classOf i .own) _ _ (λ o s e.
     let a = all-asked _ (ltb (o .fact .0) (scan .facts)) _ e in
     let b = all-asked _ (ltb 0 (scan .rules)) _ (a .1) in
-    own s (ltb-true _ _ (a .0)) (ltb-true _ _ (b .0)) (good-body scan ts (b .1)))
+    let k = all-asked _ (ltb (scan .own) maxRuleItems) _ (b .1) in
+    own s (ltb-true _ _ (a .0)) (ltb-true _ _ (b .0)) (ltb-true _ _ (k .0)) (good-body (lengthened scan) ts (k .1)))
     (λ _. either-said (λ qs. AllYes qs → GoodBody scan (item i ∷ ts)) (classOf i .rules) _ _ (λ n s e. last-item scan i n ts s e)
     (λ _ e. never e)))
 
 -- The rules and the own facts that an item begins.
 module _ (i : Item) where
-  opens-rule : {f : FactId} (ts : List Token) → classOf i .opens ≡ some f → rulesOf (item i ∷ ts) ≡ ruleOf f ts ∷ rulesOf ts
+  pub opens-rule : {f : FactId} (ts : List Token) → classOf i .opens ≡ some f → rulesOf (item i ∷ ts) ≡ ruleOf f ts ∷ rulesOf ts
   opens-rule ts s = rw s
 
-  opens-none : (ts : List Token) → _≡_ {A = Option FactId} (classOf i .opens) none → rulesOf (item i ∷ ts) ≡ rulesOf ts
+  pub opens-none : (ts : List Token) → _≡_ {A = Option FactId} (classOf i .opens) none → rulesOf (item i ∷ ts) ≡ rulesOf ts
   opens-none ts s = rw s
 
-  own-none : (sign : Sign) (ts : List Token) → _≡_ {A = Option OwnItem} (classOf i .own) none → ownFacts sign (item i ∷ ts) ≡ []
+  pub own-none : (sign : Sign) (ts : List Token) → _≡_ {A = Option OwnItem} (classOf i .own) none → ownFacts sign (item i ∷ ts) ≡ []
   own-none sign ts s = rw s
 
-  own-first : {o : OwnItem} (sign : Sign) (ts : List Token) → classOf i .own ≡ some o → ownFacts sign (item i ∷ ts) ≡ cond (sameSign sign (o .sign)) (o .fact .0 ∷ ownFacts sign ts) (ownFacts sign ts)
+  pub own-first : {o : OwnItem} (sign : Sign) (ts : List Token) → classOf i .own ≡ some o → ownFacts sign (item i ∷ ts) ≡ cond (sameSign sign (o .sign)) (o .fact .0 ∷ ownFacts sign ts) (ownFacts sign ts)
   own-first sign ts s = rw s
 
-  own-opens-none : {o : OwnItem} (ts : List Token) → classOf i .own ≡ some o → rulesOf (item i ∷ ts) ≡ rulesOf ts
+  pub own-opens-none : {o : OwnItem} (ts : List Token) → classOf i .own ≡ some o → rulesOf (item i ∷ ts) ≡ rulesOf ts
   own-opens-none ts s = opens-none ts (alone (by-tags i .own) s (by-tags i .opens) (tt, tt))
 
-  count-opens-none : {n : ℕ} → classOf i .rules ≡ some n → rulesOf (item i ∷ []) ≡ []
+  pub count-opens-none : {n : ℕ} → classOf i .rules ≡ some n → rulesOf (item i ∷ []) ≡ []
   count-opens-none s = opens-none [] (alone (by-tags i .rules) s (by-tags i .opens) (tt, tt))
 
 -- At most 512 rules.
 pub few-rules : {scan : Scan} {ts : List Token} → GoodBody scan ts → scan .rules ≤ maxRules → scan .rules + length (rulesOf ts) ≤ maxRules
 few-rules {scan} (opens {i = i} {ts = ts} s below room g) h = rw (opens-rule i ts s) (omega (arith, few-rules g (omega arith)))
-few-rules (own {i = i} {ts = ts} s below first g) h = rw (own-opens-none i ts s) (few-rules g h)
+few-rules (own {i = i} {ts = ts} s below first short g) h = rw (own-opens-none i ts s) (few-rules g h)
 few-rules (last {i = i} s e) h = rw (count-opens-none i s) (omega arith)
 
 -- Every fact is below the count.
@@ -97,7 +98,7 @@ AllBelow n fs = all (λ f. ltb f n) fs ≡ true
 
 own-below : {scan : Scan} {ts : List Token} (sign : Sign) → GoodBody scan ts → AllBelow (scan .facts) (ownFacts sign ts)
 own-below sign (opens {i = i} {ts = ts} s below room g) = rw (own-none i sign ts (alone (by-tags i .opens) s (by-tags i .own) (tt, (tt, tt)))) refl
-own-below {scan} sign (own {i = i} {o = o} {ts = ts} s below first g) = rw (own-first i sign ts s) (go (sameSign sign (o .sign)) (own-below sign g))
+own-below {scan} sign (own {i = i} {o = o} {ts = ts} s below first short g) = rw (own-first i sign ts s) (go (sameSign sign (o .sign)) (own-below sign g))
   where
     go : (b : Bool) → AllBelow (scan .facts) (ownFacts sign ts) → AllBelow (scan .facts) (cond b (o .fact .0 ∷ ownFacts sign ts) (ownFacts sign ts))
     go true rest = and-both (lt-ltb _ _ below) rest
@@ -109,18 +110,19 @@ pub record RuleBelow (n : ℕ) (r : Rule) : Type 0 where
   pub premises : AllBelow n (r .premises)
   pub constraints : AllBelow n (r .constraints)
 
-abbrev RulesBelow : ℕ → List Rule → Type 0
-RulesBelow n rs = (i : ℕ) → i < length rs → RuleBelow n (getD rs i blank)
+-- Q holds of every rule of a list.
+abbrev pub EachRule : (Rule → Type 0) → List Rule → Type 0
+EachRule Q rs = (i : ℕ) → i < length rs → Q (getD rs i blank)
 
-one-more-below : {n : ℕ} {r : Rule} (rs : List Rule) → RuleBelow n r → RulesBelow n rs → RulesBelow n (r ∷ rs)
-one-more-below rs first later zero h = first
-one-more-below rs first later (suc i) h = later i (omega arith)
+pub one-more : (Q : Rule → Type 0) (r : Rule) (rs : List Rule) → Q r → EachRule Q rs → EachRule Q (r ∷ rs)
+one-more Q r rs first later zero h = first
+one-more Q r rs first later (suc i) h = later i (omega arith)
 
-rules-below : {scan : Scan} {ts : List Token} → GoodBody scan ts → RulesBelow (scan .facts) (rulesOf ts)
-rules-below (opens {i = i} {ts = ts} s below room g) =
+rules-below : {scan : Scan} {ts : List Token} → GoodBody scan ts → EachRule (RuleBelow (scan .facts)) (rulesOf ts)
+rules-below {scan} (opens {i = i} {ts = ts} s below room g) =
     rw (opens-rule i ts s)
-    (one-more-below (rulesOf ts) (record { conclusion = below; premises = own-below asksIn g; constraints = own-below asksOut g }) (rules-below g))
-rules-below (own {i = i} {ts = ts} s below first g) = rw (own-opens-none i ts s) (rules-below g)
+    (one-more (RuleBelow (scan .facts)) _ (rulesOf ts) (record { conclusion = below; premises = own-below asksIn g; constraints = own-below asksOut g }) (rules-below g))
+rules-below (own {i = i} {ts = ts} s below first short g) = rw (own-opens-none i ts s) (rules-below g)
 rules-below (last {i = i} s e) = rw (count-opens-none i s) (λ i h. absurd (omega arith))
 
 pub body-bounded : {n : ℕ} {ts : List Token} → GoodBody (fresh n) ts → Bounded (record { facts = n; rules = rulesOf ts })

@@ -1,12 +1,21 @@
--- The files of document 01's examples, from the definitions alone.
+-- The files of document 01's examples, and rules at the cap of document 02, from the definitions alone.
+use Prim.Native.Nat.{ℕ, zero, suc}
 use mathlib.Core.Path.{_≡_, refl}
-use mathlib.Core.List.{[], _∷_}
+use mathlib.Core.List.{List, [], _∷_}
 use Rattle.theory.specs.Rule.{exception, constraintFact}
 use Rattle.reader.specs.declared.answer.Accept.the-variants.{Accepted}
 use Rattle.items.specs.Item.{bodyLength, itemOf}
 use Rattle.cursors.specs.Cursor.{front, itemsAt}
 use Rattle.reader.specs.Questions.{fileQuestions, exceptions, constraintFacts}
 use Rattle.reader.specs.Accept.{acceptOf, number}
+
+-- so many premises 0, and what follows; and a rule with them
+abbrev pub repeated : ℕ → List ℕ → List ℕ
+repeated zero after = after
+repeated (suc n) after = 0x02 ∷ 0x00 ∷ repeated n after
+
+abbrev pub withPremises : ℕ → List ℕ → List ℕ
+withPremises n after = 0x01 ∷ 0x00 ∷ repeated n after
 
 pub record Files : Type 0 where
   pub nothing : number (acceptOf []) ≡ 2
@@ -22,6 +31,12 @@ pub record Files : Type 0 where
   pub empty : acceptOf (0x10 ∷ 0x00 ∷ 0x1F ∷ 0x00 ∷ 0x00 ∷ []) ≡ Accepted 0 0 0 0
   -- C: 0 < !1; 1 < !2
   pub two-exceptions : acceptOf (0x10 ∷ 0x03 ∷ 0x01 ∷ 0x00 ∷ 0x03 ∷ 0x01 ∷ 0x01 ∷ 0x01 ∷ 0x03 ∷ 0x02 ∷ 0x1F ∷ 0x00 ∷ 0x02 ∷ []) ≡ Accepted 3 2 2 2
+  -- rules of 24 and of 25 items
+  pub two-at-the-cap : acceptOf (0x10 ∷ 0x01 ∷ withPremises 24 (withPremises 24 (0x1F ∷ 0x00 ∷ 0x02 ∷ []))) ≡ Accepted 1 2 0 0
+  pub twenty-five : number (acceptOf (0x10 ∷ 0x01 ∷ withPremises 25 (0x1F ∷ 0x00 ∷ 0x01 ∷ []))) ≡ 51
+  pub a-constraint-more : number (acceptOf (0x10 ∷ 0x01 ∷ withPremises 24 (0x03 ∷ 0x00 ∷ []))) ≡ 51
+  pub too-high-first : number (acceptOf (0x10 ∷ 0x01 ∷ withPremises 24 (0x03 ∷ 0x01 ∷ []))) ≡ 6
+  pub no-rule-first : number (acceptOf (0x10 ∷ 0x01 ∷ repeated 25 [])) ≡ 7
 
 pub files : Files
 unfolding acceptOf exceptions constraintFacts exception constraintFact fileQuestions itemsAt front bodyLength itemOf
@@ -38,4 +53,9 @@ files =
       one-byte-more = refl;
       empty = refl;
       two-exceptions = refl;
+      two-at-the-cap = refl;
+      twenty-five = refl;
+      a-constraint-more = refl;
+      too-high-first = refl;
+      no-rule-first = refl;
     }

@@ -6,13 +6,13 @@ use mathlib.Core.Bool.{Bool, true, false, cond}
 use mathlib.Core.List.{List, [], _∷_, _++_}
 use mathlib.Core.Option.{some}
 use Rattle.items.specs.declared.refusal.Refusal.{Refusal}
-use Rattle.items.specs.declared.refusal.Refusal.the-variants.{FileTooLong, NoFactCount, FileCutOff, UnknownKind, BodyCutOff, FactTooHigh, NoRuleOpened, TooManyRules, WrongRuleCount, BytesAfterEnd}
+use Rattle.items.specs.declared.refusal.Refusal.the-variants.{FileTooLong, NoFactCount, FileCutOff, UnknownKind, BodyCutOff, FactTooHigh, NoRuleOpened, TooManyRules, WrongRuleCount, BytesAfterEnd, RuleTooLong}
 use Rattle.reader.specs.declared.answer.Scan.{Scan}
 use Rattle.items.specs.Question.{Question, firstNo}
 use Rattle.items.specs.Item.{classOf}
 use Rattle.cursors.specs.Cursor.{Token, item, bad, itemsAt, fileStart}
 use Rattle.items.proofs.ItemSays.{either-said}
-use Rattle.reader.specs.Questions.{fresh, opened, bodyQuestions, openingQuestions, fileQuestions}
+use Rattle.reader.specs.Questions.{fresh, opened, lengthened, bodyQuestions, openingQuestions, fileQuestions}
 
 -- Q holds of the refusal of every question of a list.
 abbrev pub Each : (Refusal → Type 0) → List Question → Type 0
@@ -31,7 +31,7 @@ pub each-append : (Q : Refusal → Type 0) (xs ys : List Question) → Each Q xs
 each-append Q [] ys a b = b
 each-append Q (x ∷ xs) ys a b = (a .0, each-append Q xs ys (a .1) b)
 
--- The refusals of questions 1 to 10.
+-- The refusals of questions 1 to 10 and 51.
 pub record FileRefusals (Q : Refusal → Type 0) : Type 0 where
   pub one : Q FileTooLong
   pub two : Q NoFactCount
@@ -43,6 +43,7 @@ pub record FileRefusals (Q : Refusal → Type 0) : Type 0 where
   pub eight : Q TooManyRules
   pub nine : Q WrongRuleCount
   pub ten : Q BytesAfterEnd
+  pub fifty-one : Q RuleTooLong
 
 module _ (Q : Refusal → Type 0) (a : FileRefusals Q) where
   each-body : (scan : Scan) (ts : List Token) → Each Q (bodyQuestions scan ts)
@@ -50,7 +51,7 @@ module _ (Q : Refusal → Type 0) (a : FileRefusals Q) where
   each-body scan (bad fault ∷ ts) = (a .three, (a .four, (a .five, tt)))
   each-body scan (item i ∷ ts) =
       either-said (Each Q) (classOf i .opens) _ _ (λ f _. (a .three, (a .four, (a .five, (a .six, (a .eight, each-body (opened scan) ts))))))
-      (λ _. either-said (Each Q) (classOf i .own) _ _ (λ o _. (a .three, (a .four, (a .five, (a .six, (a .seven, each-body scan ts))))))
+      (λ _. either-said (Each Q) (classOf i .own) _ _ (λ o _. (a .three, (a .four, (a .five, (a .six, (a .seven, (a .fifty-one, each-body (lengthened scan) ts)))))))
       (λ _. either-said (Each Q) (classOf i .rules) _ _ (λ n _. (a .three, (a .four, (a .five, (a .nine, (a .ten, tt))))))
       (λ _. (a .three, (a .four, (a .five, tt))))))
 

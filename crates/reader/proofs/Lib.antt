@@ -8,6 +8,7 @@ pub mod CellsStored
 pub mod RulesStored
 pub mod ConstraintsCounted
 pub mod Accepted
+pub mod RuleLengths
 pub mod BodyRead
 pub mod AnswerNumbers
 pub mod FileAsked

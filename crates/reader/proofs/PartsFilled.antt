@@ -2,15 +2,14 @@
 -- what is read of the last goes on with what is ahead.
 use Prim.Native.Nat.{ℕ, zero, suc, _+_, _-_, _<_, _≤_}
 use mathlib.Core.Path.{_≡_, refl, sym, ap, ap₂, _∙_}
-use mathlib.Core.List.{List, [], _∷_, _++_, append-assoc}
+use mathlib.Core.List.{List, [], _∷_, _++_, append-assoc, append-nil}
 use mathlib.Core.Logic.{_⊎_, inl, inr, ⊎-elim}
 use native.Mathlib.Omega.{arith}
-use native.Mathlib.Nat.{add-zero}
 use borrow.Author.Tests.{ltb-true, ltb-false}
 use lib.Dec.{ltb}
 use Rattle.theory.proofs.Bools.{either}
 use Rattle.tables.specs.Layout.{listed, span}
-use Rattle.tables.proofs.PartsSpanned.{span-end}
+use Rattle.tables.proofs.PartsSpanned.{span-more, span-end}
 use Rattle.reader.specs.Scanning.{Filled}
 
 span-agree : (row row′ : ℕ → ℕ) (a b : ℕ) → ((j : ℕ) → j < b → row′ j ≡ row j) → span row′ a b ≡ span row a b
@@ -19,18 +18,6 @@ span-agree row row′ a b h = go (b - a) a (λ j l u. h j (omega arith))
     go : (m a : ℕ) → ((j : ℕ) → a ≤ j → j < a + m → row′ j ≡ row j) → listed row′ a m ≡ listed row a m
     go zero a g = refl
     go (suc m) a g = ap₂ (λ (x : ℕ) (xs : List ℕ). x ∷ xs) (g a (omega arith) (omega arith)) (go m (suc a) (λ j l u. g j (omega arith) (omega arith)))
-
-span-more : (row : ℕ → ℕ) (a b : ℕ) → a ≤ b → span row a (b + 1) ≡ span row a b ++ (row b ∷ [])
-span-more row a b h =
-    let more : b + 1 - a ≡ suc (b - a) = omega arith in
-    let end : a + (b - a) ≡ b = omega arith in
-    ap (listed row a) more ∙ go (b - a) a ∙ ap (λ (j : ℕ). span row a b ++ (row j ∷ [])) end
-  where
-    go : (m a : ℕ) → listed row a (suc m) ≡ listed row a m ++ (row (a + m) ∷ [])
-    go zero a = ap (λ (j : ℕ). row j ∷ []) (sym (add-zero a))
-    go (suc m) a =
-        let next : suc a + m ≡ a + suc m = omega arith in
-        ap (λ (xs : List ℕ). row a ∷ xs) (go m (suc a) ∙ ap (λ (j : ℕ). listed row (suc a) m ++ (row j ∷ [])) next)
 
 pub none-filled : (part : ℕ → List ℕ) (start row : ℕ → ℕ) (ahead : List ℕ) → Filled part start row 0 0 ahead
 none-filled part start row ahead =
@@ -104,8 +91,4 @@ module _ {part : ℕ → List ℕ} {start row : ℕ → ℕ} {n at : ℕ} {ahead
       ends i q = let here : start (i + 1) ≡ at = ap start q ∙ begins in omega (arith, w .last-low i q)
 
       whole : (i : ℕ) → i + 1 ≡ n → span row (start i) (start (i + 1)) ≡ part i
-      whole i q = ap (span row (start i)) (ap start q ∙ begins) ∙ (unended (span row (start i) at) ∙ ap (λ (xs : List ℕ). span row (start i) at ++ xs) (sym e) ∙ w .last i q)
-        where
-          unended : (xs : List ℕ) → xs ≡ xs ++ []
-          unended [] = refl
-          unended (x ∷ xs) = ap (λ (ys : List ℕ). x ∷ ys) (unended xs)
+      whole i q = ap (span row (start i)) (ap start q ∙ begins) ∙ (sym (append-nil (span row (start i) at)) ∙ ap (λ (xs : List ℕ). span row (start i) at ++ xs) (sym e) ∙ w .last i q)

@@ -1,5 +1,5 @@
 -- The tables while a scan fills them: the rules opened so far are stored, and of the last one what is read.
-use Prim.Native.Nat.{ℕ, suc, _+_, _-_, _*_, _<_, _≤_}
+use Prim.Native.Nat.{ℕ, suc, _+_, _-_, _<_, _≤_}
 use mathlib.Core.Path.{_≡_, refl, sym, ap, subst, _∙_}
 use mathlib.Core.List.{List, [], _∷_, map}
 use mathlib.Core.Logic.{_⊎_, inl, inr, ⊎-elim}
@@ -12,15 +12,12 @@ use lib.Dec.{ltb}
 use Rattle.theory.specs.Rule.{Rule, range, upTo, blank, count, Bounded}
 use Rattle.theory.proofs.Bools.{either}
 use Rattle.items.specs.declared.item.FactId.{FactId}
-use Rattle.items.specs.declared.item.Item.{Item}
 use Rattle.items.specs.declared.item.Item.the-variants.{Opens, Premise, Constraint, Rules}
 use Rattle.cursors.specs.declared.cursor.Cursor.{Cursor}
 use Rattle.cursors.specs.declared.cursor.Row.the-variants.{Body}
-use Rattle.items.specs.Item.{narrow, maxFacts, itemWidth, maxRules, maxBytes, classOf}
+use Rattle.items.specs.Item.{narrow, maxFacts, maxRules, maxRuleItems}
 use Rattle.cursors.specs.Cursor.{itemsAt, bodyAt}
 use Rattle.cursors.proofs.Items.{ReadAt}
-use Rattle.items.proofs.ItemSays.{either-said}
-use Rattle.cursors.proofs.EachKind.{itemLength, width-of-item}
 use Rattle.tables.specs.Layout.{maxOwn, conclusionsFrom, placesFrom, premiseStartsFrom, constraintStartsFrom, ownFrom, tableCells, lastCell, rulesIn, conclusionIn, placeIn, premiseStart, constraintStart, premiseAt, constraintAt, ruleIn, programIn}
 use Rattle.reader.specs.Questions.{premisesOf, constraintsOf, ruleOf, rulesOf}
 use Rattle.reader.specs.Scanned.{OwnAt}
@@ -30,7 +27,7 @@ use Rattle.reader.specs.Stores.{withRule, withCounts}
 use Rattle.reader.proofs.PartsFilled.{none-filled, kept, same-ahead, one-read, next-rule}
 use Rattle.reader.proofs.CellsStored.{RuleStored, rule-stored, CountsStored, counts-stored}
 
-pub none-stored : (s : List ℕ) (c : Cursor) (T : List ℕ) → length T ≡ tableCells → Storing s c c T 0 0 0
+pub none-stored : (s : List ℕ) (c : Cursor) (T : List ℕ) → length T ≡ tableCells → Storing s c c T 0 0 0 0
 none-stored s c T size =
     record {
       passed = refl;
@@ -41,7 +38,7 @@ none-stored s c T size =
       places = λ i h. absurd (omega arith);
       premises = none-filled _ _ _ _;
       constraints = none-filled _ _ _ _;
-      spent = omega arith;
+      within = omega arith;
     }
 
 last-or-before : (i n : ℕ) → i < n + 1 → (i < n) ⊎ (i ≡ n)
@@ -52,30 +49,16 @@ to-come : (rs : List Rule) (n : ℕ) (r : Rule) (rest : List Rule) → drop n rs
 to-come rs n r rest e =
     (ap (λ (i : ℕ). getD rs i blank) (sym (add-zero n)) ∙ (sym (getD-drop n rs 0 blank) ∙ ap (λ (l : List Rule). getD l 0 blank) e), sym (drop-drop 1 n rs) ∙ ap (drop 1) e)
 
--- No item is narrower than one that names a fact.
-at-least : (i : Item) → itemWidth narrow ≤ itemLength narrow i
-at-least i =
-    either-said (λ n. itemWidth narrow ≤ n) (classOf i .rules) _ _ (λ n _. omega arith)
-    (λ _. either-said (λ n. itemWidth narrow ≤ n) (classOf i .names) _ _ (λ r _. omega arith)
-    (λ _. either-said (λ n. itemWidth narrow ≤ n) (classOf i .step) _ _ (λ t _. omega arith) (λ _. omega arith)))
-
-module _ {s : List ℕ} {c₀ c : Cursor} {T : List ℕ} {n filled barred : ℕ} (w : Storing s c₀ c T n filled barred) where
-  -- There is room for what is read.
-  pub item-fits : {i : Item} {d : Cursor} → ReadAt s c i d → itemWidth narrow * (filled + barred) + itemWidth narrow ≤ d .at
-  item-fits {i} r = omega (arith, w .spent, width-of-item r, at-least i)
-
-  fits-one : {i : Item} {d : Cursor} → ReadAt s c i d → length s ≤ maxBytes → filled + barred + 1 < maxOwn
-  fits-one r short = omega (arith, item-fits r, r .inside)
-
+module _ {s : List ℕ} {c₀ c : Cursor} {T : List ℕ} {n allowance filled barred : ℕ} (w : Storing s c₀ c T n allowance filled barred) where
   -- a rule
-  module _ {f : FactId} {d : Cursor} (r : ReadAt s c (Opens f) d) (body : d .row ≡ Body) (room : n < maxRules) (short : length s ≤ maxBytes) where
+  module _ {f : FactId} {d : Cursor} (r : ReadAt s c (Opens f) d) (body : d .row ≡ Body) (few : n < maxRules) where
     opened-rule : getD (rulesOf (itemsAt s c₀)) n blank ≡ ruleOf f (itemsAt s d)
     opened-rule = to-come (rulesOf (itemsAt s c₀)) n _ _ (w .passed ∙ ap rulesOf (r .items)) .0
 
-    pub rule-kept : Storing s c₀ d (withRule T n (f .0) (d .at) filled barred) (n + 1) filled barred
-    rule-kept = go (rule-stored T (w .size) n (f .0) (d .at) filled barred room)
+    pub rule-kept : Storing s c₀ d (withRule T n (f .0) (d .at) filled barred) (n + 1) maxRuleItems filled barred
+    rule-kept = go (rule-stored T (w .size) n (f .0) (d .at) filled barred few)
       where
-        go : {T′ : List ℕ} → RuleStored T T′ n (f .0) (d .at) filled barred → Storing s c₀ d T′ (n + 1) filled barred
+        go : {T′ : List ℕ} → RuleStored T T′ n (f .0) (d .at) filled barred → Storing s c₀ d T′ (n + 1) maxRuleItems filled barred
         go {T′} t =
             record {
               passed = to-come (rulesOf (itemsAt s c₀)) n _ _ (w .passed ∙ ap rulesOf (r .items)) .1;
@@ -90,7 +73,7 @@ module _ {s : List ℕ} {c₀ c : Cursor} {T : List ℕ} {n filled barred : ℕ}
               constraints =
                   next-rule (kept (w .constraints) (constraintStart T′) (constraintAt T′) before-constraint row-constraint) (constraintsOf (itemsAt s d)) (ap constraintsOf (r .items)) (t .constraint)
                   (ap (λ (x : Rule). x .constraints) opened-rule);
-              spent = omega (arith, w .spent, r .forward);
+              within = omega (arith, w .within);
             }
           where
             before-conclusion : (i : ℕ) → i < n → conclusionIn T′ i ≡ conclusionIn T i
@@ -109,7 +92,7 @@ module _ {s : List ℕ} {c₀ c : Cursor} {T : List ℕ} {n filled barred : ℕ}
             row-premise j l = t .kept (ownFrom + j) (λ e. omega arith) (λ e. omega arith) (λ e. omega arith) (λ e. omega arith)
 
             barred-fit : barred ≤ maxOwn
-            barred-fit = omega (arith, w .spent, r .forward, r .inside)
+            barred-fit = omega (arith, w .within, w .few)
 
             row-constraint : (j : ℕ) → j < barred → constraintAt T′ j ≡ constraintAt T j
             row-constraint j l = let b : barred ≤ maxOwn = barred-fit in t .kept (lastCell - j) (λ e. omega arith) (λ e. omega arith) (λ e. omega arith) (λ e. omega arith)
@@ -128,8 +111,8 @@ module _ {s : List ℕ} {c₀ c : Cursor} {T : List ℕ} {n filled barred : ℕ}
             at-last i q = subst (λ (j : ℕ). OwnAt s (placeIn T′ j) (ruleFrom s c₀ j)) (sym q) (subst (λ (p : ℕ). OwnAt s p (ruleFrom s c₀ n)) (sym (t .place)) own-here)
 
   -- a premise
-  module _ {f : FactId} {d : Cursor} (r : ReadAt s c (Premise f) d) (short : length s ≤ maxBytes) where
-    pub premise-kept : Storing s c₀ d (set T (ownFrom + filled) (f .0)) n (filled + 1) barred
+  module _ {f : FactId} {d : Cursor} (r : ReadAt s c (Premise f) d) (some-left : allowance ≡ 0 → ⊥) where
+    pub premise-kept : Storing s c₀ d (set T (ownFrom + filled) (f .0)) n (allowance - 1) (filled + 1) barred
     premise-kept =
         record {
           passed = w .passed ∙ ap rulesOf (r .items);
@@ -140,47 +123,47 @@ module _ {s : List ℕ} {c₀ c : Cursor} {T : List ℕ} {n filled barred : ℕ}
           places = λ i h. rw (elsewhere (placesFrom + i) (λ e. omega (arith, w .few))) (w .places i h);
           premises =
               one-read (kept (w .premises) (premiseStart T′) (premiseAt T′) (λ i h. elsewhere (premiseStartsFrom + i) (λ e. omega (arith, w .few))) (λ j h. elsewhere (ownFrom + j) (λ e. omega arith))) (f .0) (premisesOf (itemsAt s d))
-              (ap premisesOf (r .items)) (getD-set-same T (ownFrom + filled) (f .0) 0 (omega (arith, w .size, room)));
+              (ap premisesOf (r .items)) (getD-set-same T (ownFrom + filled) (f .0) 0 (omega (arith, w .size, fits)));
           constraints =
-              same-ahead (kept (w .constraints) (constraintStart T′) (constraintAt T′) (λ i h. elsewhere (constraintStartsFrom + i) (λ e. omega (arith, w .few))) (λ j h. elsewhere (lastCell - j) (λ e. omega (arith, room))))
+              same-ahead (kept (w .constraints) (constraintStart T′) (constraintAt T′) (λ i h. elsewhere (constraintStartsFrom + i) (λ e. omega (arith, w .few))) (λ j h. elsewhere (lastCell - j) (λ e. omega (arith, fits))))
               (constraintsOf (itemsAt s d)) (ap constraintsOf (r .items));
-          spent = omega (arith, w .spent, width-of-item r);
+          within = omega (arith, w .within);
         }
       where
         T′ : List ℕ
         T′ = set T (ownFrom + filled) (f .0)
 
-        room : filled + barred + 1 < maxOwn
-        room = fits-one r short
+        fits : filled + barred < maxOwn
+        fits = omega (arith, w .within, w .few, some-left)
 
         elsewhere : (k : ℕ) → (k ≡ ownFrom + filled → ⊥) → getD T′ k 0 ≡ getD T k 0
         elsewhere k h = getD-set-other T (ownFrom + filled) k (f .0) 0 h
 
   -- a constraint
-  module _ {f : FactId} {d : Cursor} (r : ReadAt s c (Constraint f) d) (short : length s ≤ maxBytes) where
-    pub constraint-kept : Storing s c₀ d (set T (lastCell - barred) (f .0)) n filled (barred + 1)
+  module _ {f : FactId} {d : Cursor} (r : ReadAt s c (Constraint f) d) (some-left : allowance ≡ 0 → ⊥) where
+    pub constraint-kept : Storing s c₀ d (set T (lastCell - barred) (f .0)) n (allowance - 1) filled (barred + 1)
     constraint-kept =
         record {
           passed = w .passed ∙ ap rulesOf (r .items);
           total = w .total ∙ ap (λ ts. n + length (rulesOf ts)) (r .items);
           few = w .few;
           size = length-set T (lastCell - barred) (f .0) ∙ w .size;
-          conclusions = λ i h. elsewhere (conclusionsFrom + i) (λ e. omega (arith, w .few, room)) ∙ w .conclusions i h;
-          places = λ i h. rw (elsewhere (placesFrom + i) (λ e. omega (arith, w .few, room))) (w .places i h);
+          conclusions = λ i h. elsewhere (conclusionsFrom + i) (λ e. omega (arith, w .few, fits)) ∙ w .conclusions i h;
+          places = λ i h. rw (elsewhere (placesFrom + i) (λ e. omega (arith, w .few, fits))) (w .places i h);
           premises =
-              same-ahead (kept (w .premises) (premiseStart T′) (premiseAt T′) (λ i h. elsewhere (premiseStartsFrom + i) (λ e. omega (arith, w .few, room))) (λ j h. elsewhere (ownFrom + j) (λ e. omega (arith, room))))
+              same-ahead (kept (w .premises) (premiseStart T′) (premiseAt T′) (λ i h. elsewhere (premiseStartsFrom + i) (λ e. omega (arith, w .few, fits))) (λ j h. elsewhere (ownFrom + j) (λ e. omega (arith, fits))))
               (premisesOf (itemsAt s d)) (ap premisesOf (r .items));
           constraints =
-              one-read (kept (w .constraints) (constraintStart T′) (constraintAt T′) (λ i h. elsewhere (constraintStartsFrom + i) (λ e. omega (arith, w .few, room))) (λ j h. elsewhere (lastCell - j) (λ e. omega (arith, room)))) (f .0) (constraintsOf (itemsAt s d))
-              (ap constraintsOf (r .items)) (getD-set-same T (lastCell - barred) (f .0) 0 (omega (arith, w .size, room)));
-          spent = omega (arith, w .spent, width-of-item r);
+              one-read (kept (w .constraints) (constraintStart T′) (constraintAt T′) (λ i h. elsewhere (constraintStartsFrom + i) (λ e. omega (arith, w .few, fits))) (λ j h. elsewhere (lastCell - j) (λ e. omega (arith, fits)))) (f .0) (constraintsOf (itemsAt s d))
+              (ap constraintsOf (r .items)) (getD-set-same T (lastCell - barred) (f .0) 0 (omega (arith, w .size, fits)));
+          within = omega (arith, w .within);
         }
       where
         T′ : List ℕ
         T′ = set T (lastCell - barred) (f .0)
 
-        room : filled + barred + 1 < maxOwn
-        room = fits-one r short
+        fits : filled + barred < maxOwn
+        fits = omega (arith, w .within, w .few, some-left)
 
         elsewhere : (k : ℕ) → (k ≡ lastCell - barred → ⊥) → getD T′ k 0 ≡ getD T k 0
         elsewhere k h = getD-set-other T (lastCell - barred) k (f .0) 0 h
@@ -197,7 +180,7 @@ same-rules g a (r ∷ rs) h = rw (← first, same-rules g (suc a) rs later)
     later i l = let next : suc a + i ≡ a + suc i = omega arith in ap g next ∙ h (suc i) (omega arith)
 
 -- The count of rules ends the body: the tables hold the program.
-module _ {s : List ℕ} {c₀ c : Cursor} {T : List ℕ} {n filled barred : ℕ} (w : Storing s c₀ c T n filled barred) {k : ℕ} {d : Cursor} (r : ReadAt s c (Rules k) d) (ends : itemsAt s d ≡ []) (short : length s ≤ maxBytes) where
+module _ {s : List ℕ} {c₀ c : Cursor} {T : List ℕ} {n allowance filled barred : ℕ} (w : Storing s c₀ c T n allowance filled barred) {k : ℕ} {d : Cursor} (r : ReadAt s c (Rules k) d) (ends : itemsAt s d ≡ []) where
   pub all-read : length (rulesOf (itemsAt s c₀)) ≡ n
   all-read = w .total ∙ (ap (λ ts. n + length (rulesOf ts)) (r .items) ∙ (ap (λ ts. n + length (rulesOf ts)) ends ∙ add-zero n))
 
@@ -208,13 +191,13 @@ module _ {s : List ℕ} {c₀ c : Cursor} {T : List ℕ} {n filled barred : ℕ}
         (kept (w .premises) (premiseStart T′) (premiseAt T′) (λ i l. t .kept (premiseStartsFrom + i) (omega arith) (λ e. omega arith) (λ e. omega (arith, w .few))) (λ j l. t .kept (ownFrom + j) (omega arith) (λ e. omega (arith, w .few)) (λ e. omega (arith, w .few))))
         _ (ap premisesOf (r .items)) (t .premise) refl
 
-    all-fit : filled + barred < maxOwn
-    all-fit = omega (arith, w .spent, r .forward, r .inside)
+    fit : filled + barred ≤ maxOwn
+    fit = omega (arith, w .within, w .few)
 
     constraints-whole : Filled (λ i. ruleFrom s c₀ i .constraints) (constraintStart T′) (constraintAt T′) (n + 1) barred (ruleFrom s c₀ n .constraints)
     constraints-whole =
         next-rule
-        (kept (w .constraints) (constraintStart T′) (constraintAt T′) (λ i l. t .kept (constraintStartsFrom + i) (omega arith) (λ e. omega (arith, w .few)) (λ e. omega arith)) (λ j l. t .kept (lastCell - j) (omega (arith, all-fit)) (λ e. omega (arith, w .few, all-fit)) (λ e. omega (arith, w .few, all-fit))))
+        (kept (w .constraints) (constraintStart T′) (constraintAt T′) (λ i l. t .kept (constraintStartsFrom + i) (omega arith) (λ e. omega (arith, w .few)) (λ e. omega arith)) (λ j l. t .kept (lastCell - j) (omega (arith, fit)) (λ e. omega (arith, w .few, fit)) (λ e. omega (arith, w .few, fit))))
         _ (ap constraintsOf (r .items)) (t .constraint) refl
 
     rule-there : (i : ℕ) → i < n → ruleIn T′ i ≡ ruleFrom s c₀ i
@@ -241,9 +224,8 @@ module _ {s : List ℕ} {c₀ c : Cursor} {T : List ℕ} {n filled barred : ℕ}
               record {
                 facts-few = rw (t .facts) few;
                 rules-few = rw (t .rules) (w .few);
-                premise-spans = record { low = λ i h. premises-whole .low i (below i h); high = λ i h. omega (arith, premises-whole .high i (below i h), all-fit) };
-                constraint-spans = record { low = λ i h. constraints-whole .low i (below i h); high = λ i h. omega (arith, constraints-whole .high i (below i h), all-fit) };
-                own-few = rw (t .rules, t .premise, t .constraint) all-fit;
+                premise-spans = record { low = λ i h. premises-whole .low i (below i h); high = λ i h. omega (arith, premises-whole .high i (below i h), fit) };
+                constraint-spans = record { low = λ i h. constraints-whole .low i (below i h); high = λ i h. omega (arith, constraints-whole .high i (below i h), fit) };
                 in-bounds = rw program-there bounded;
               };
           placed = λ i h.

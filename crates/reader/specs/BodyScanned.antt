@@ -14,7 +14,7 @@ use Rattle.tables.specs.Layout.{placeIn, programIn, WellFormed}
 use Rattle.reader.specs.Questions.{rulesOf, fresh, bodyQuestions}
 use Rattle.reader.specs.Scanned.{OwnAt}
 
--- The program of n facts, and the first no to questions 3 to 10, where the items after the first start at c.
+-- The program of n facts, and the first no to questions 3 to 10 and 51, where the items after the first start at c.
 abbrev pub programFrom : ℕ → List ℕ → Cursor → Program
 programFrom n s c = record { facts = n; rules = rulesOf (itemsAt s c) }
 

@@ -1,6 +1,7 @@
 -- What is promised.
 pub mod Questions
 pub mod Accept
+pub mod RuleLength
 -- What only code and proofs use.
 pub mod Asked
 pub mod Accepted

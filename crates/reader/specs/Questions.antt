@@ -1,16 +1,17 @@
--- The program that a file's items mean, and the questions on a file, 1 to 10, in the order of document 01 ("Questions before a result").
+-- The program that a file's items mean, and the questions on a file: 1 to 10, in the order of document 01 ("Questions before a result"), and 51 right
+-- after 7 (document 02, wish 2).
 use Prim.Native.Nat.{ℕ, _+_}
 use mathlib.Core.List.{List, [], _∷_, _++_}
 use Rattle.theory.specs.Rule.{Rule, Program, howMany, upTo, count, exception, constraintFact, inForce}
 use Rattle.items.specs.declared.item.FactId.{FactId}
-use Rattle.items.specs.Item.{maxBytes, maxRules, Sign, asksIn, asksOut, sameSign, classOf, whereSaid}
+use Rattle.items.specs.Item.{maxBytes, maxRules, maxRuleItems, Sign, asksIn, asksOut, sameSign, classOf, whereSaid}
 use Rattle.cursors.specs.Cursor.{Token, item, bad, itemsAt, fileStart, placeQuestions, ended}
 use mathlib.Core.Bool.{cond}
 use mathlib.Core.Option.{Option}
 use lib.ListN.{length}
 use lib.Dec.{eqb, ltb, leb}
 use Rattle.items.specs.declared.refusal.Refusal.{Refusal}
-use Rattle.items.specs.declared.refusal.Refusal.the-variants.{FileTooLong, FactTooHigh, NoRuleOpened, TooManyRules, WrongRuleCount, BytesAfterEnd}
+use Rattle.items.specs.declared.refusal.Refusal.the-variants.{FileTooLong, FactTooHigh, NoRuleOpened, TooManyRules, WrongRuleCount, BytesAfterEnd, RuleTooLong}
 use Rattle.cursors.specs.declared.cursor.Row.the-variants.{Opening, Body}
 use Rattle.cursors.specs.declared.cursor.Fault.the-variants.{NoByte, OtherKind}
 use Rattle.reader.specs.declared.answer.Scan.{Scan}
@@ -58,19 +59,27 @@ exceptions P = howMany (exception P) (upTo (count P))
 unfoldable pub constraintFacts : Program → ℕ
 constraintFacts P = howMany (constraintFact P (inForce P)) (upTo (P .facts))
 
--- What the questions need of the items before: the count of facts, and how many rules were opened.
+-- What the questions need of the items before: the count of facts, how many rules were opened, and how many premises and constraints the last of them
+-- has so far: none when it is opened, and one more with each item of its own, repeats counted.
 abbrev pub fresh : ℕ → Scan
-fresh n = record { facts = n; rules = 0 }
+fresh n = record { facts = n; rules = 0; own = 0 }
 
 abbrev pub opened : Scan → Scan
-opened scan = record { facts = scan .facts; rules = scan .rules + 1 }
+opened scan = record { facts = scan .facts; rules = scan .rules + 1; own = 0 }
 
--- Fact below the count? Has a rule been opened? Fewer rules than the most before it? Does it give the number of rules? Does the file end there?
+abbrev pub lengthened : Scan → Scan
+lengthened scan = record { facts = scan .facts; rules = scan .rules; own = scan .own + 1 }
+
+-- Fact below the count? Has a rule been opened? Has it fewer premises and constraints than the most before it? Fewer rules than the most before it?
+-- Does it give the number of rules? Does the file end there?
 abbrev pub factQuestion : Scan → FactId → Question
 factQuestion scan f = ask FactTooHigh (ltb (f .0) (scan .facts))
 
 abbrev pub ownerQuestion : Scan → Question
 ownerQuestion scan = ask NoRuleOpened (ltb 0 (scan .rules))
+
+abbrev pub lengthQuestion : Scan → Question
+lengthQuestion scan = ask RuleTooLong (ltb (scan .own) maxRuleItems)
 
 abbrev pub roomQuestion : Scan → Question
 roomQuestion scan = ask TooManyRules (ltb (scan .rules) maxRules)
@@ -81,13 +90,13 @@ countQuestion scan n = ask WrongRuleCount (eqb n (scan .rules))
 abbrev pub endQuestion : List Token → Question
 endQuestion ts = ask BytesAfterEnd (ended ts)
 
--- Questions 3 to 10 of each item after the first, in a file of which so much has been seen. An item of another row's kind gets no to 4.
+-- Questions 3 to 10 and 51 of each item after the first, in a file of which so much has been seen. An item of another row's kind gets no to 4.
 abbrev pub bodyQuestions : Scan → List Token → List Question
 bodyQuestions scan [] = placeQuestions Body (bad NoByte)
 bodyQuestions scan (bad fault ∷ ts) = placeQuestions Body (bad fault)
 bodyQuestions scan (item i ∷ ts) =
     whereSaid (classOf i .opens) (λ f. placeQuestions Body (item i) ++ (factQuestion scan f ∷ roomQuestion scan ∷ bodyQuestions (opened scan) ts))
-    (whereSaid (classOf i .own) (λ o. placeQuestions Body (item i) ++ (factQuestion scan (o .fact) ∷ ownerQuestion scan ∷ bodyQuestions scan ts))
+    (whereSaid (classOf i .own) (λ o. placeQuestions Body (item i) ++ (factQuestion scan (o .fact) ∷ ownerQuestion scan ∷ lengthQuestion scan ∷ bodyQuestions (lengthened scan) ts))
     (whereSaid (classOf i .rules) (λ n. placeQuestions Body (item i) ++ (countQuestion scan n ∷ endQuestion ts ∷ []))
     (placeQuestions Body (bad OtherKind))))
 
@@ -98,7 +107,7 @@ openingQuestions (bad fault ∷ ts) = placeQuestions Opening (bad fault)
 openingQuestions (item i ∷ ts) =
     whereSaid (classOf i .facts) (λ n. placeQuestions Opening (item i) ++ bodyQuestions (fresh n) ts) (placeQuestions Opening (bad OtherKind))
 
--- The questions on a file, 1 to 10. A file is accepted (document 01) where each gets yes.
+-- The questions on a file, 1 to 10 and 51. A file is accepted (document 01) where each gets yes.
 unfoldable pub fileQuestions : List ℕ → List Question
 fileQuestions s = ask FileTooLong (leb (length s) maxBytes) ∷ openingQuestions (itemsAt s fileStart)
 

@@ -4,33 +4,42 @@ use mathlib.Core.Path.{_≡_}
 use mathlib.Core.Bool.{Bool, false, cond, not, _||_}
 use mathlib.Core.List.{List, [], _∷_, _++_}
 use lib.ListN.{length, getD, drop}
+use lib.Dec.{eqb}
 use Rattle.theory.specs.Rule.{mem, howMany, upTo, Rule, blank, null}
 use Rattle.items.specs.declared.item.Item.{Item}
 use Rattle.cursors.specs.declared.cursor.Cursor.{Cursor}
 use Rattle.cursors.specs.declared.cursor.Row.the-variants.{Body}
 use Rattle.cursors.specs.declared.cursor.Read.the-variants.{Found}
-use Rattle.items.specs.Item.{narrow, maxFacts, itemWidth, maxRules, maxBytes, has}
+use Rattle.items.specs.Item.{narrow, maxFacts, maxRules, maxRuleItems, maxBytes, has}
 use Rattle.items.specs.Question.{firstNo}
 use Rattle.cursors.specs.Cursor.{nextAt, itemsAt}
 use Rattle.tables.specs.Layout.{tableCells, conclusionIn, placeIn, premiseStart, constraintStart, premiseAt, constraintAt, span}
 use Rattle.reader.specs.declared.answer.Scan.{Scan}
 use Rattle.reader.specs.declared.answer.Asked.{Asked}
+use Rattle.reader.specs.declared.answer.Asked.the-variants.{Yes, No}
+use Rattle.reader.specs.declared.answer.FileCounts.{FileCounts}
+use Rattle.items.specs.declared.refusal.Refusal.{Refusal}
+use Rattle.items.specs.declared.refusal.Refusal.the-variants.{NoRuleOpened, RuleTooLong}
 use Rattle.reader.specs.declared.step.Progress.{Progress}
 use Rattle.reader.specs.declared.step.Step.{Step}
-use Rattle.reader.specs.declared.step.Step.the-variants.{On, Done}
+use Rattle.reader.specs.declared.step.Step.the-variants.{On, Ended, Refused}
 use Rattle.reader.specs.Questions.{premisesOf, constraintsOf, rulesOf, bodyQuestions}
 use Rattle.reader.specs.Asked.{askedOf, countsOf}
 use Rattle.reader.specs.Scanned.{OwnAt}
 use Rattle.reader.specs.BodyScanned.{programFrom, bodyNo, BodyScanned}
 
--- The count of facts, and the rules opened so far.
-abbrev pub seen : ℕ → ℕ → Scan
-seen facts n = record { facts = facts; rules = n }
+-- The count of facts, the rules opened so far, and the premises and constraints of the last of them.
+abbrev pub seen : ℕ → ℕ → ℕ → Scan
+seen facts n own = record { facts = facts; rules = n; own = own }
 
 -- A walk along the body: what is to come gives the first no of the whole.
-pub record Along (s : List ℕ) (c₀ : Cursor) (facts : ℕ) (c : Cursor) (n : ℕ) : Type 0 where
+pub record Along (s : List ℕ) (c₀ : Cursor) (facts : ℕ) (c : Cursor) (n own : ℕ) : Type 0 where
   pub body : c .row ≡ Body
-  pub same : bodyNo facts s c₀ ≡ firstNo (bodyQuestions (seen facts n) (itemsAt s c))
+  pub same : bodyNo facts s c₀ ≡ firstNo (bodyQuestions (seen facts n own) (itemsAt s c))
+
+-- What a premise or a constraint gets where none is allowed: no rule is opened, or the last of n rules has as many as it may.
+abbrev pub noneAllowed : ℕ → Refusal
+noneAllowed n = cond (eqb n 0) NoRuleOpened RuleTooLong
 
 -- One row of the tables, the premises of all rules or their constraints: the parts of the rules before the last are whole, and what is read of the
 -- last goes on with what is ahead.
@@ -45,7 +54,7 @@ pub record Filled (part : ℕ → List ℕ) (start row : ℕ → ℕ) (n at : �
 abbrev pub ruleFrom : List ℕ → Cursor → ℕ → Rule
 ruleFrom s c i = getD (rulesOf (itemsAt s c)) i blank
 
-pub record Storing (s : List ℕ) (c₀ c : Cursor) (T : List ℕ) (n filled barred : ℕ) : Type 0 where
+pub record Storing (s : List ℕ) (c₀ c : Cursor) (T : List ℕ) (n allowance filled barred : ℕ) : Type 0 where
   -- the rules to come
   pub passed : drop n (rulesOf (itemsAt s c₀)) ≡ rulesOf (itemsAt s c)
   pub total : length (rulesOf (itemsAt s c₀)) ≡ n + length (rulesOf (itemsAt s c))
@@ -55,8 +64,8 @@ pub record Storing (s : List ℕ) (c₀ c : Cursor) (T : List ℕ) (n filled bar
   pub places : (i : ℕ) → i < n → OwnAt s (placeIn T i) (ruleFrom s c₀ i)
   pub premises : Filled (λ i. ruleFrom s c₀ i .premises) (premiseStart T) (premiseAt T) n filled (premisesOf (itemsAt s c))
   pub constraints : Filled (λ i. ruleFrom s c₀ i .constraints) (constraintStart T) (constraintAt T) n barred (constraintsOf (itemsAt s c))
-  -- each premise and each constraint has an item of its own
-  pub spent : itemWidth narrow * (filled + barred) ≤ c .at
+  -- the last rule may have so many more
+  pub within : filled + barred + allowance ≤ maxRuleItems * n
 
 -- k is a constraint of some of the rules
 abbrev pub constrained : List Rule → ℕ → Bool
@@ -82,29 +91,37 @@ pub record Counting (facts : ℕ) (s : List ℕ) (c₀ c : Cursor) (marks : List
 
 -- The verdict, the tables and the counts go along together.
 pub record Scanning (facts : ℕ) (s : List ℕ) (c₀ : Cursor) (T marks : List ℕ) (c : Cursor) (p : Progress) : Type 0 where
-  pub verdict : Along s c₀ facts c (p .rules)
-  pub tables : Storing s c₀ c T (p .rules) (p .filled) (p .barred)
+  -- the premises and constraints that the rule last opened has so far
+  pub own : ℕ
+  pub left : (p .rules ≡ 0 → ⊥) → own + p .allowance ≡ maxRuleItems
+  pub verdict : Along s c₀ facts c (p .rules) own
+  pub tables : Storing s c₀ c T (p .rules) (p .allowance) (p .filled) (p .barred)
   pub counts : Counting facts s c₀ c marks (p .rules) (p .exceptions) (p .plain) (p .found)
 
 -- What the scan of the body promises.
 abbrev pub Answered : ℕ → List ℕ → Cursor → List ℕ → Asked → Type 0
 Answered facts s c₀ T r = (r ≡ askedOf (bodyNo facts s c₀) (countsOf (programFrom facts s c₀))) × BodyScanned facts s c₀ T
 
--- An item is scanned: the scan stands at the next one, or it is over.
-pub record Stepped (facts : ℕ) (s : List ℕ) (c₀ : Cursor) (T marks : List ℕ) (d : Cursor) (r : Step) : Type 0 where
-  pub on : (p : Progress) → r ≡ On p → Scanning facts s c₀ T marks d p
-  pub over : (a : Asked) → r ≡ Done a → Answered facts s c₀ T a
+-- The counts of a file that ends where so much is read.
+abbrev pub countsRead : ℕ → Progress → FileCounts
+countsRead facts p = record { facts = facts; rules = p .rules; exceptions = p .exceptions; constraints = p .found }
+
+-- An item is scanned: the scan stands at the next one, or it is over. p is what was read before.
+pub record Stepped (facts : ℕ) (s : List ℕ) (c₀ : Cursor) (T marks : List ℕ) (d : Cursor) (p : Progress) (r : Step) : Type 0 where
+  pub on : (q : Progress) → r ≡ On q → Scanning facts s c₀ T marks d q
+  pub ended : r ≡ Ended → Answered facts s c₀ T (Yes (countsRead facts p))
+  pub refused : (n : Refusal) → r ≡ Refused n → Answered facts s c₀ T (No n)
 
 -- So it is in every file that has the item where the scan stands. T and marks are those before, T′ and marks′ those after.
 abbrev pub Scans : ℕ → List ℕ → Item → Cursor → Progress → List ℕ → List ℕ → List ℕ → List ℕ → Step → Type 0
 Scans facts s i d p T marks T′ marks′ r =
-    (c₀ c : Cursor) → length s ≤ maxBytes → facts < maxFacts narrow → Scanning facts s c₀ T marks c p → nextAt s c ≡ Found i d → Stepped facts s c₀ T′ marks′ d r
+    (c₀ c : Cursor) → length s ≤ maxBytes → facts < maxFacts narrow → Scanning facts s c₀ T marks c p → nextAt s c ≡ Found i d → Stepped facts s c₀ T′ marks′ d p r
 
 -- There is room for what an item stores that ends at d.
 pub record Room (facts : ℕ) (d : Cursor) (p : Progress) : Type 0 where
   pub small : facts < maxFacts narrow
   pub place : d .at ≤ maxBytes
-  pub own : itemWidth narrow * (p .filled + p .barred) + itemWidth narrow ≤ d .at
+  pub within : p .filled + p .barred + p .allowance ≤ maxRuleItems * p .rules
   pub rules : p .rules ≤ maxRules
   pub exceptions : p .exceptions + p .plain ≤ p .rules
   pub found : p .found ≤ facts

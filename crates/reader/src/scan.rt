@@ -1,4 +1,4 @@
-// One pass over a file: asks questions 1 to 10, and fills the tables that everything above works on. Internal: `tables` is scratch of the caller,
+// One pass over a file: asks questions 1 to 10 and 51, and fills the tables that everything above works on. Internal: `tables` is scratch of the caller,
 // and holds the program of the file where the answer is yes.
 ghost use mathlib.Core.Path.{_≡_};
 ghost use Prim.Native.Nat.{_<_, _≤_};
@@ -10,6 +10,7 @@ ghost use Rattle.reader.specs.Asked.{askedOf, countsOf, fileAsked};
 ghost use Rattle.reader.specs.Scanned.{Scanned};
 ghost use Rattle.reader.specs.BodyScanned.{programFrom, bodyNo, BodyScanned, Unmarked};
 use crate::answer::Asked;
+use crate::answer::FileCounts;
 use crate::step::Progress;
 use crate::step::Step;
 use crate::step::scan_item;
@@ -22,7 +23,7 @@ use items::item::MAX_FACTS;
 use items::refusal::Refusal;
 use tables::layout::TABLE_CELLS;
 
-// Questions 3 to 10, of the items after the first.
+// Questions 3 to 10 and 51, of the items after the first.
 fn scan_body(
     file: &[u8],
     from: Cursor,
@@ -37,6 +38,7 @@ fn scan_body(
     let mut cursor = from;
     let mut progress = Progress {
         rules: 0,
+        allowance: 0,
         filled: 0,
         barred: 0,
         exceptions: 0,
@@ -45,28 +47,30 @@ fn scan_body(
     };
     loop {
         match cursor.next_in_body(file) {
-            Read::Refused(r, _) => {
-                return Asked::No(r);
-            }
+            Read::Refused(r, _) => return Asked::No(r),
             Read::Found(item, next) => {
                 match scan_item(item, next, file.len(), facts, progress, tables, marks) {
                     Step::On(after) => {
                         progress = after;
                         cursor = next;
                     }
-                    Step::Done(answer) => {
-                        return answer;
+                    Step::Ended => {
+                        return Asked::Yes(FileCounts {
+                            facts,
+                            rules: progress.rules as u16,
+                            exceptions: progress.exceptions,
+                            constraints: progress.found,
+                        });
                     }
+                    Step::Refused(r) => return Asked::No(r),
                 }
             }
-            Read::Ended(_) => {
-                return Asked::No(Refusal::FileCutOff);
-            }
+            Read::Ended(_) => return Asked::No(Refusal::FileCutOff),
         }
     }
 }
 
-// Questions 1 to 10.
+// Questions 1 to 10 and 51.
 pub fn scan(file: &[u8], tables: &mut [u16; TABLE_CELLS]) -> Asked
     requires { ⌜ length (now tables) ≡ tableCells ⌝ }
     ensures { λ r. ⌜ r ≡ fileAsked (now (file .entry)) ⌝ }

@@ -4,24 +4,25 @@ ghost use mathlib.Core.Path.{_≡_};
 ghost use mathlib.Core.List.{List};
 ghost use lib.ListN.{length};
 ghost use Rattle.items.specs.declared.item.Item.the-variants.{Opens, Premise, Constraint, Rules};
-ghost use Rattle.reader.specs.Scanning.{Room, Scans};
-use crate::answer::Asked;
-use crate::answer::FileCounts;
+ghost use Rattle.reader.specs.Scanning.{noneAllowed, Room, Scans};
 use crate::stores;
 use cursors::cursor::Cursor;
 use items::item::FactId;
 use items::item::Item;
 use items::item::MAX_FACTS;
+use items::item::MAX_RULE_ITEMS;
 use items::item::MAX_RULES;
 use items::refusal::Refusal;
 use tables::layout::LAST_CELL;
 use tables::layout::OWN;
 use tables::layout::TABLE_CELLS;
 
-// What the scan has read so far: the rules opened; the premises and the constraints of all rules, `filled` and `barred` places of their rows; the
-// exception rules; `plain` is 1 while the rule last opened has no constraint; `found` counts the facts that are marked as constraints.
+// What the scan has read so far: the rules opened; `allowance`, how many premises and constraints more the rule last opened may have, and 0 before one
+// is opened; the premises and the constraints of all rules, `filled` and `barred` places of their rows; the exception rules; `plain` is 1 while the rule
+// last opened has no constraint; `found` counts the facts that are marked as constraints.
 pub struct Progress {
     pub rules: usize,
+    pub allowance: usize,
     pub filled: usize,
     pub barred: usize,
     pub exceptions: u16,
@@ -29,10 +30,22 @@ pub struct Progress {
     pub found: u16,
 }
 
-// The scan goes on, or it is over.
+// The scan goes on, the file ends as it should, or it is refused.
 pub enum Step {
     On(Progress),
-    Done(Asked),
+    Ended,
+    Refused(Refusal),
+}
+
+// Questions 7 and 51, of a premise or a constraint where none is allowed: one test of each such item asks both.
+fn none_allowed(rules: usize) -> Refusal
+    ensures { λ r. ⌜ r ≡ noneAllowed rules ⌝ }
+{
+    if rules == 0 {
+        Refusal::NoRuleOpened
+    } else {
+        Refusal::RuleTooLong
+    }
 }
 
 fn open_rule(
@@ -46,10 +59,10 @@ fn open_rule(
     ensures { λ r. ⌜ ((s marks : List ℕ) → Scans facts s (Opens f) next before (now (tables .entry)) marks (now (tables .exit)) marks r) ⌝ }
 {
     if facts <= f.0 {
-        return Step::Done(Asked::No(Refusal::FactTooHigh));
+        return Step::Refused(Refusal::FactTooHigh);
     }
     if MAX_RULES <= before.rules {
-        return Step::Done(Asked::No(Refusal::TooManyRules));
+        return Step::Refused(Refusal::TooManyRules);
     }
     stores::store_rule(
         tables,
@@ -61,6 +74,7 @@ fn open_rule(
     );
     Step::On(Progress {
         rules: before.rules + 1,
+        allowance: MAX_RULE_ITEMS,
         filled: before.filled,
         barred: before.barred,
         exceptions: before.exceptions,
@@ -80,14 +94,15 @@ fn take_premise(
     ensures { λ r. ⌜ ((s marks : List ℕ) → Scans facts s (Premise f) next before (now (tables .entry)) marks (now (tables .exit)) marks r) ⌝ }
 {
     if facts <= f.0 {
-        return Step::Done(Asked::No(Refusal::FactTooHigh));
+        return Step::Refused(Refusal::FactTooHigh);
     }
-    if before.rules == 0 {
-        return Step::Done(Asked::No(Refusal::NoRuleOpened));
+    if before.allowance == 0 {
+        return Step::Refused(none_allowed(before.rules));
     }
     tables[OWN + before.filled] = f.0;
     Step::On(Progress {
         rules: before.rules,
+        allowance: before.allowance - 1,
         filled: before.filled + 1,
         barred: before.barred,
         exceptions: before.exceptions,
@@ -108,15 +123,16 @@ fn take_constraint(
     ensures { λ r. ⌜ ((s : List ℕ) → Scans facts s (Constraint f) next before (now (tables .entry)) (now (marks .entry)) (now (tables .exit)) (now (marks .exit)) r) ⌝ }
 {
     if facts <= f.0 {
-        return Step::Done(Asked::No(Refusal::FactTooHigh));
+        return Step::Refused(Refusal::FactTooHigh);
     }
-    if before.rules == 0 {
-        return Step::Done(Asked::No(Refusal::NoRuleOpened));
+    if before.allowance == 0 {
+        return Step::Refused(none_allowed(before.rules));
     }
     tables[LAST_CELL - before.barred] = f.0;
     let new = stores::mark_new(marks, f.0);
     Step::On(Progress {
         rules: before.rules,
+        allowance: before.allowance - 1,
         filled: before.filled,
         barred: before.barred + 1,
         exceptions: before.exceptions + before.plain,
@@ -138,18 +154,13 @@ fn end_file(
     ensures { λ r. ⌜ ((s marks : List ℕ) → length s ≡ end → Scans facts s (Rules n) next before (now (tables .entry)) marks (now (tables .exit)) marks r) ⌝ }
 {
     if n as usize != before.rules {
-        return Step::Done(Asked::No(Refusal::WrongRuleCount));
+        return Step::Refused(Refusal::WrongRuleCount);
     }
     if next.at < end {
-        return Step::Done(Asked::No(Refusal::BytesAfterEnd));
+        return Step::Refused(Refusal::BytesAfterEnd);
     }
     stores::store_counts(tables, facts, n, before.filled, before.barred);
-    Step::Done(Asked::Yes(FileCounts {
-        facts,
-        rules: n,
-        exceptions: before.exceptions,
-        constraints: before.found,
-    }))
+    Step::Ended
 }
 
 // An item that ends where `next` stands, in a file of so many facts and bytes.
@@ -170,6 +181,6 @@ pub fn scan_item(
         Item::Premise(f) => take_premise(f, next, facts, before, tables),
         Item::Constraint(f) => take_constraint(f, next, facts, before, tables, marks),
         Item::Rules(n) => end_file(n, next, end, facts, before, tables),
-        _ => Step::Done(Asked::No(Refusal::UnknownKind)),
+        _ => Step::Refused(Refusal::UnknownKind),
     }
 }

@@ -72,7 +72,7 @@ module _ (file facts rules steps order : List ℕ) where
           record {
             numbered = searched-number;
             earliest = λ z. absurd (omega (arith, t .0));
-            none-stable = λ z. absurd (omega (arith, t .1));
+            none-stable = λ z. absurd (t .1 (n ∙ z));
           }
       go none e none f =
           let b = bounded (accepted-file file (all-yes file (length facts) (length rules) (length steps) (length order) e .accepted)) in

@@ -1,10 +1,11 @@
 -- The premises and the constraints of a rule, element by element along their row.
 use Prim.Native.Nat.{ℕ, zero, suc, _+_, _-_, _<_, _≤_}
-use mathlib.Core.Path.{_≡_, refl, sym, ap}
+use mathlib.Core.Path.{_≡_, refl, sym, ap, _∙_}
 use mathlib.Core.Bool.{Bool, true, false, not}
-use mathlib.Core.List.{List, [], _∷_}
+use mathlib.Core.List.{List, [], _∷_, _++_}
 use mathlib.Core.Logic.{⊎-elim}
 use native.Mathlib.Omega.{arith}
+use native.Mathlib.Nat.{add-zero}
 use native.Mathlib.Numerals.{add-one}
 use borrow.Author.Tests.{lt-ltb, ltb-true, ltb-false}
 use lib.Dec.{ltb}
@@ -19,6 +20,18 @@ pub span-cons : (row : ℕ → ℕ) (a b : ℕ) → a < b → span row a b ≡ r
 span-cons row a b h =
     let less : b - a ≡ suc (b - (a + 1)) = omega arith in
     rw (less, add-one a)
+
+pub span-more : (row : ℕ → ℕ) (a b : ℕ) → a ≤ b → span row a (b + 1) ≡ span row a b ++ (row b ∷ [])
+span-more row a b h =
+    let more : b + 1 - a ≡ suc (b - a) = omega arith in
+    let end : a + (b - a) ≡ b = omega arith in
+    ap (listed row a) more ∙ go (b - a) a ∙ ap (λ (j : ℕ). span row a b ++ (row j ∷ [])) end
+  where
+    go : (m a : ℕ) → listed row a (suc m) ≡ listed row a m ++ (row (a + m) ∷ [])
+    go zero a = ap (λ (j : ℕ). row j ∷ []) (sym (add-zero a))
+    go (suc m) a =
+        let next : suc a + m ≡ a + suc m = omega arith in
+        ap (λ (xs : List ℕ). row a ∷ xs) (go m (suc a) ∙ ap (λ (j : ℕ). listed row (suc a) m ++ (row j ∷ [])) next)
 
 pub span-end : (row : ℕ → ℕ) (a b : ℕ) → b ≤ a → span row a b ≡ []
 span-end row a b h =

@@ -4,16 +4,16 @@
 -- First the counts of facts and of rules; then for each rule its conclusion, the place in the file behind the item that opens it, where its
 -- premises start, and where its constraints start; then one row for the premises of all rules, from the front, and the constraints of all
 -- rules, from the back.
-use Prim.Native.Nat.{ℕ, zero, suc, _+_, _-_, _/_, _<_, _≤_}
+use Prim.Native.Nat.{ℕ, zero, suc, _+_, _-_, _*_, _<_, _≤_}
 use mathlib.Core.Path.{_≡_}
 use mathlib.Core.List.{List, [], _∷_, map}
 use lib.ListN.{getD}
 use Rattle.theory.specs.Rule.{upTo, Rule, Program, Bounded}
-use Rattle.items.specs.Item.{narrow, maxFacts, itemWidth, maxRules, maxBytes}
+use Rattle.items.specs.Item.{narrow, maxFacts, maxRules, maxRuleItems}
 
--- The most premises and constraints of all rules of a file together: each has an item of its own.
+-- The most premises and constraints of all rules of a file together, repeats counted.
 abbrev pub maxOwn : ℕ
-maxOwn = suc maxBytes / itemWidth narrow
+maxOwn = maxRuleItems * maxRules
 
 -- Where each part of the array begins.
 abbrev pub factsCell : ℕ
@@ -108,6 +108,4 @@ pub record WellFormed (T : List ℕ) : Type 0 where
   pub rules-few : rulesIn T ≤ maxRules
   pub premise-spans : Spans (premiseStart T) (rulesIn T)
   pub constraint-spans : Spans (constraintStart T) (rulesIn T)
-  -- the premises and the constraints of all rules leave a cell of their row free
-  pub own-few : premiseStart T (rulesIn T) + constraintStart T (rulesIn T) < maxOwn
   pub in-bounds : Bounded (programIn T)

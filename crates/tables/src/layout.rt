@@ -2,12 +2,11 @@
 ghost use mathlib.Core.Path.{_≡_};
 ghost use Rattle.theory.specs.Rule.{count};
 ghost use Rattle.tables.specs.Layout.{programIn};
-use items::item::ITEM_WIDTH;
-use items::item::MAX_BYTES;
+use items::item::MAX_RULE_ITEMS;
 use items::item::MAX_RULES;
 
-// The most premises and constraints of all rules of a file together: each has an item of its own.
-pub const MAX_OWN: usize = (MAX_BYTES + 1) / ITEM_WIDTH;
+// The most premises and constraints of all rules of a file together, repeats counted.
+pub const MAX_OWN: usize = MAX_RULE_ITEMS * MAX_RULES;
 
 pub const FACTS_CELL: usize = 0;
 

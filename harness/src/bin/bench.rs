@@ -12,7 +12,7 @@ mod draft;
 #[path = "../random.rs"]
 mod random;
 
-use draft::{Draft, chain, stairs};
+use draft::{Draft, MOST_OWN_ITEMS, chain, stairs};
 use random::Random;
 use reference::{Lent, RuleFile, STEP_BYTES};
 use std::hint::black_box;
@@ -111,7 +111,7 @@ fn all_above_lowest() -> Draft {
     draft
 }
 
-/// 512 rules of 29 premises and a constraint each, 32 KB. Every premise is a fact
+/// Most of 512 rules have 23 premises and a constraint, 20 KB. Every premise is a fact
 /// of a chain that is derived, so each rule is looked through to its end.
 fn dense() -> Draft {
     let random = &mut Random::new(3, 512);
@@ -124,7 +124,7 @@ fn dense() -> Draft {
     }
     while draft.rules.len() < 512 {
         let premises: Vec<usize> =
-            (0..36).map(|_| random.within(constraint_facts, derived - 1)).collect();
+            (1..MOST_OWN_ITEMS).map(|_| random.within(constraint_facts, derived - 1)).collect();
         let conclusion = random.within(derived, 254);
         draft.rule(conclusion, &premises, &[random.below(constraint_facts)]);
     }
@@ -150,27 +150,27 @@ fn test_load(facts: usize, rules: usize) -> Draft {
     draft
 }
 
-/// Plain rules of 240 premises that repeat one fact and want another that never
-/// comes, before a chain of 200 facts; exception rules that start the chain and
-/// are refused at its end.
+/// Half of the rules are plain ones of 24 premises that repeat one fact and want
+/// another that never comes, before a chain of 200 facts; exception rules that start
+/// the chain and are refused at its end.
 fn decoys() -> Draft {
     let mut draft = Draft::new(255);
-    let (last, missing) = (200, 254);
-    for rule in 0..60 {
-        let mut premises = vec![0; 240];
-        premises[239] = missing;
+    let (decoys, last, missing) = (256, 200, 254);
+    for rule in 0..decoys {
+        let mut premises = [0; MOST_OWN_ITEMS];
+        premises[MOST_OWN_ITEMS - 1] = missing;
         draft.rule(last + 1 + rule % 50, &premises, &[]);
     }
     chain(&mut draft, &(0..=last).collect::<Vec<_>>());
-    draft.rules[60..].reverse();
+    draft.rules[decoys..].reverse();
     while draft.rules.len() < 512 {
         draft.rule(0, &[], &[last]);
     }
     draft
 }
 
-/// No stable set, 32 KB: the file above with all facts above the lowest, and rules
-/// of many premises in the place of most of its chains.
+/// No stable set, 24 KB: the file above with all facts above the lowest, and rules
+/// of 24 premises in the place of most of its chains.
 fn wide_above_lowest() -> Draft {
     let random = &mut Random::new(4, 512);
     let mut draft = Draft::new(255);
@@ -181,7 +181,8 @@ fn wide_above_lowest() -> Draft {
     }
     while draft.rules.len() < 512 {
         let conclusion = random.within(17, 254);
-        let premises: Vec<usize> = (0..30).map(|_| random.within(16, conclusion - 1)).collect();
+        let premises: Vec<usize> =
+            (0..MOST_OWN_ITEMS).map(|_| random.within(16, conclusion - 1)).collect();
         draft.rule(conclusion, &premises, &[]);
     }
     draft
@@ -504,20 +505,23 @@ const FAMILIES: [Family; 8] = [
 type Single = (&'static str, fn() -> Draft);
 
 /// Files of one size. On those with too many constraint facts the search is not timed.
-const SINGLES: [Single; 3] =
-    [("dense", dense), ("load, 64 facts", || test_load(64, 512)), ("decoys", decoys)];
+const SINGLES: [Single; 3] = [
+    ("dense, 24 items", dense),
+    ("load, 64 facts", || test_load(64, 512)),
+    ("decoys, 24 premises", decoys),
+];
 
 const WORST_SEARCHES: [Single; 3] = [
     ("pairs above odd loop", pairs_above_odd_loop),
     ("all above lowest", all_above_lowest),
-    ("wide above lowest", wide_above_lowest),
+    ("wide, 24 premises", wide_above_lowest),
 ];
 
 /// All steps are kept, from the last back to the first, one behind another.
 const DEEPEST_GROUNDS: [Single; 3] = [
     ("stairs, 32 facts", || stairs(32, 1)),
     ("stairs, 1 premise", || stairs(255, 1)),
-    ("stairs, 60 premises", || stairs(255, 60)),
+    ("stairs, 24 premises", || stairs(255, MOST_OWN_ITEMS - 1)),
 ];
 
 /// The most constraint facts that the search takes.

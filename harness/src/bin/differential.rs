@@ -19,6 +19,8 @@ mod directed;
 mod draft;
 #[path = "../files.rs"]
 mod files;
+#[path = "../large.rs"]
+mod large;
 #[path = "../random.rs"]
 mod random;
 #[path = "../shrink.rs"]
@@ -26,7 +28,7 @@ mod shrink;
 
 use cases::{Case, Met, Operation, Reply, Tally, random_case};
 use directed::{all_operations, directed_cases, examples};
-use draft::{Draft, stairs};
+use draft::{Draft, MOST_OWN_ITEMS, stairs};
 use random::Random;
 use std::process::ExitCode;
 use std::sync::Mutex;
@@ -39,6 +41,9 @@ const FENCE_BYTES: usize = 16;
 /// reading too far is likely to change the answer.
 const INPUT_FENCE: u8 = 0x01;
 const LENT_FENCE: u8 = 0xC3;
+
+/// The longest file that question 1 lets pass. None of that length is within the cap.
+const LONGEST: usize = 32_767;
 
 /// What a lent buffer holds at first: by place, and never a mark, a kind or a
 /// byte of text.
@@ -172,14 +177,62 @@ fn mixed_file() -> Vec<u8> {
     draft.bytes()
 }
 
+/// A file of 511 rules and this length, by premises repeated: its last rule is too
+/// long.
+fn lengthened_file(length: usize) -> Vec<u8> {
+    let mut draft = Draft::new(2);
+    (0..510).for_each(|_| draft.rule(0, &[], &[]));
+    let missing = (length - draft.bytes().len()) / 2 - 1;
+    draft.rule(0, &vec![1; missing], &[]);
+    draft.bytes()
+}
+
+/// Another, at the cap: a rule of 24 items between two others. Where the item after it
+/// no longer opens a rule, it has one item too many.
+fn file_at_the_cap() -> Vec<u8> {
+    let mut draft = Draft::new(4);
+    draft.rule(0, &[], &[]);
+    draft.rule(1, &[0; MOST_OWN_ITEMS / 2], &[3; MOST_OWN_ITEMS / 2]);
+    draft.rule(2, &[1], &[]);
+    draft.bytes()
+}
+
+/// As many rules as may be; steps that go as deep as they can, by a chain, by rules of
+/// 24 items, and by rules that are too long; each rule as long as may be, and such
+/// files with something else behind their last rule; as many bytes as question 1 lets
+/// pass, and one more.
+fn large_files() -> Vec<Vec<u8>> {
+    let rules = [
+        large::exceptions(512, 16),
+        large::ring(512),
+        large::tangled(512),
+        large::ladder(512),
+        large::words(),
+    ];
+    let deep = [1, MOST_OWN_ITEMS - 1, 60].map(|premises| stairs(255, premises));
+    let mut files: Vec<Vec<u8>> = rules.iter().chain(&deep).map(Draft::bytes).collect();
+    for (_, premises) in large::FULL {
+        let full = large::full(premises).bytes();
+        let unended = &full[..full.len() - 3];
+        for end in [&[][..], &[2], &[2, 0], &[3, 254], &[2, 255], &[1, 0], &[0x1F, 2, 1]] {
+            files.push([unended, end].concat());
+        }
+        files.push(full);
+    }
+    let longest = lengthened_file(LONGEST);
+    files.extend([vec![0; LONGEST + 1], [&longest[..], &[0]].concat(), longest]);
+    files
+}
+
 fn purposeful_cases() -> Vec<Case> {
     let mut cases = directed_cases();
     for draft in examples() {
         cases.extend(neighbours(&draft.bytes()));
     }
     cases.extend(neighbours(&mixed_file()));
-    for premises in [1, 60] {
-        cases.extend(all_operations(&stairs(255, premises).bytes()));
+    cases.extend(neighbours(&file_at_the_cap()));
+    for file in large_files() {
+        cases.extend(all_operations(&file));
     }
     cases
 }

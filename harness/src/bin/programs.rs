@@ -12,7 +12,7 @@ mod draft;
 #[path = "../large.rs"]
 mod large;
 
-use draft::{Draft, chain, stairs};
+use draft::{Draft, MOST_OWN_ITEMS, chain, stairs};
 use reference::{fact_in_words, grounds_text};
 use std::ffi::OsStr;
 use std::fs::File;
@@ -24,7 +24,7 @@ use std::process::{Command, ExitCode, Output, Stdio};
 use std::thread::sleep;
 use std::time::Duration;
 
-/// The longest file that is not too long.
+/// The longest file that question 1 lets pass. None of that length is within the cap.
 const LONGEST: usize = 32_767;
 /// Between two pieces of input, so that a read ends with the first.
 const PAUSE: Duration = Duration::from_millis(20);
@@ -169,7 +169,8 @@ fn example_a() -> Vec<u8> {
     file_of(4, &[ALWAYS, (1, &[0], &[2]), (2, &[0], &[1]), (3, &[2], &[])])
 }
 
-/// A chain, and a rule that repeats its end until the file has this length.
+/// A chain, and a rule that repeats its end until the file has this length; it is
+/// then too long a rule.
 fn long_file(length: usize) -> Vec<u8> {
     let mut draft = Draft::new(100);
     draft.rule(0, &[], &[]);
@@ -209,6 +210,11 @@ fn small_files() -> Vec<(&'static str, Vec<u8>)> {
     ]
 }
 
+/// The longest files that are accepted: 512 rules of 24 items.
+fn full_files() -> Vec<(&'static str, Vec<u8>)> {
+    large::FULL.map(|(name, premises)| (name, large::full(premises).bytes())).to_vec()
+}
+
 /// Files of many facts and rules, deep and shallow.
 fn large_files() -> Vec<(&'static str, Vec<u8>)> {
     vec![
@@ -217,13 +223,14 @@ fn large_files() -> Vec<(&'static str, Vec<u8>)> {
         ("tangled", large::tangled(512).bytes()),
         ("a ladder", large::ladder(512).bytes()),
         ("a chain across words", large::words().bytes()),
-        ("stairs", stairs(255, 60).bytes()),
-        ("the longest file", long_file(LONGEST)),
+        ("stairs of 24 items", stairs(255, MOST_OWN_ITEMS - 1).bytes()),
     ]
 }
 
-/// A file for each refusal that the file's questions give.
+/// A file for each refusal that the file's questions give, and more for the cap.
 fn refused_files() -> Vec<(&'static str, Vec<u8>)> {
+    let full = file_of(26, &[(25, &[1; MOST_OWN_ITEMS], &[])]);
+    let unended = &full[..full.len() - 3];
     vec![
         ("no input", vec![]),
         ("10", vec![0x10]),
@@ -235,6 +242,14 @@ fn refused_files() -> Vec<(&'static str, Vec<u8>)> {
         ("513 rules", large::ring(513).bytes()),
         ("10 00 1F 00 01", vec![0x10, 0, 0x1F, 0, 1]),
         ("10 00 1F 00 00 00", vec![0x10, 0, 0x1F, 0, 0, 0]),
+        ("25 premises", file_of(26, &[ALWAYS, (25, &[0; 25], &[])])),
+        ("24 premises, 1 constraint", file_of(26, &[ALWAYS, (25, &[0; 24], &[1])])),
+        ("24 premises, then 25", file_of(26, &[ALWAYS, (1, &[0; 24], &[]), (25, &[0; 25], &[])])),
+        ("25 items and nothing more", [unended, &[2, 1]].concat()),
+        ("a 25th item that is cut", [unended, &[2]].concat()),
+        ("a 25th item of a fact too high", [unended, &[2, 26]].concat()),
+        ("stairs of 61 items", stairs(255, 60).bytes()),
+        ("32,767 bytes, a rule too long", long_file(LONGEST)),
         ("32,768 bytes", [long_file(LONGEST), vec![0]].concat()),
         ("32,769 bytes", [long_file(LONGEST), vec![0, 0]].concat()),
         ("more than a pipe holds", vec![0x10; 1_000_000]),
@@ -265,12 +280,14 @@ fn trials_of_words(file: &[u8]) -> Vec<Trial> {
 /// Input of other kinds, each with a word that names a fact and with one that does
 /// not.
 fn trials_of_input(file: &[u8]) -> Vec<Trial> {
+    let accepted = large::full(|rule| rule % MOST_OWN_ITEMS).bytes();
     let longest = long_file(LONGEST);
     let too_long = [&longest[..], &[0]].concat();
     let inputs = [
         ("byte by byte", Input::in_pieces(file, 1)),
         ("two pieces", Input::in_pieces(file, file.len() - 1)),
-        ("the longest file in pieces", Input::in_pieces(&longest, 10_000)),
+        ("the longest accepted file in pieces", Input::in_pieces(&accepted, 10_000)),
+        ("32,767 bytes in pieces", Input::in_pieces(&longest, 10_000)),
         ("32,768 bytes in pieces", Input::in_pieces(&too_long, LONGEST)),
         ("a read that fails", Input::Directory),
         ("a read that fails past the file", Input::Broken(file.to_vec())),
@@ -293,7 +310,7 @@ fn trials(paths: &[String]) -> Result<Vec<Trial>, String> {
         trials.extend(every_fact(path, &file));
     }
     let a = example_a();
-    for (name, file) in [small_files(), large_files(), refused_files()].concat() {
+    for (name, file) in [small_files(), large_files(), full_files(), refused_files()].concat() {
         trials.extend(every_fact(name, &file));
     }
     trials.extend(trials_of_words(&a));

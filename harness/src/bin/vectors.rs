@@ -49,7 +49,7 @@ use random::Random;
 use std::process::ExitCode;
 
 const SEED: u64 = 1;
-const RANDOM_VECTORS: usize = 4_200;
+const RANDOM_VECTORS: usize = 3_700;
 /// The reader has some more room for the file, and this for each buffer.
 const MOST_BYTES: usize = 1_200_000;
 const MOST_LENT: usize = 16_384;

@@ -2,6 +2,7 @@
 use Prim.Native.Nat.{ℕ, _-_, _<_, _≤_}
 use mathlib.Core.Path.{_≡_, refl, sym, _∙_}
 use mathlib.Core.List.{List}
+use native.Mathlib.Omega.{arith}
 use borrow.Author.Needs.{needs}
 use denote.Ref.{now}
 use lib.ListN.{length}
@@ -70,19 +71,30 @@ loop-again c =
     let k = c .before .before .before .before .before .before in
     c .before .before .before .scan-item .ensures _ refl _ _ (short k) (small k) (k .before .before .before .before .loop .inv) (item-read k) .on _ (c .before .after .given .1)
 
-enum-known-answer : tie.Need-enum-known-answer Inv-loop μ-loop
-enum-known-answer c = search needs
+enum-told : tie.Need-enum-told Inv-loop μ-loop
+enum-told c = search needs
+
+cast-t18 : tie.Need-cast-t18 Inv-loop μ-loop
+cast-t18 c = omega (arith, c .before .before .before .before .before .before .before .before .before .before .loop .inv .tables .few)
 
 returns-2 : tie.Need-returns-2 Inv-loop μ-loop
 returns-2 c =
     let k = c .before .before .before .before .before .before in
-    c .before .before .before .scan-item .ensures _ refl _ _ (short k) (small k) (k .before .before .before .before .loop .inv) (item-read k) .over _ (c .before .answer .given .1)
+    c .before .before .before .scan-item .ensures _ refl _ _ (short k) (small k) (k .before .before .before .before .loop .inv) (item-read k) .ended (c .before .enum-told .given .1)
 
-enum-told : tie.Need-enum-told Inv-loop μ-loop
-enum-told c = search needs
+enum-known-r-2 : tie.Need-enum-known-r-2 Inv-loop μ-loop
+enum-known-r-2 c = search needs
 
 returns-3 : tie.Need-returns-3 Inv-loop μ-loop
-returns-3 c = said-no _ (cut-off (c .before .before .before .loop .inv .verdict) _ (sym (c .before .before .next-in-body .ensures) ∙ c .enum-told .given .1))
+returns-3 c =
+    let k = c .before .before .before .before .before .before in
+    c .before .before .before .scan-item .ensures _ refl _ _ (short k) (small k) (k .before .before .before .before .loop .inv) (item-read k) .refused _ (c .before .r2 .given .1)
+
+enum-told-2 : tie.Need-enum-told-2 Inv-loop μ-loop
+enum-told-2 c = search needs
+
+returns-4 : tie.Need-returns-4 Inv-loop μ-loop
+returns-4 c = said-no _ (cut-off (c .before .before .before .loop .inv .verdict) _ (sym (c .before .before .next-in-body .ensures) ∙ c .enum-told2 .given .1))
 
 pub scan-body-spec : {M : Type 1} → statement M
 scan-body-spec =
@@ -99,7 +111,10 @@ scan-body-spec =
     enum-known-after
     loop-less
     loop-again
-    enum-known-answer
-    returns-2
     enum-told
-    returns-3)
+    cast-t18
+    returns-2
+    enum-known-r-2
+    returns-3
+    enum-told-2
+    returns-4)

@@ -2,8 +2,7 @@
 use borrow.Author.Needs.{needs}
 use Rattle.cursors.proofs.Items.{found}
 use Rattle.reader.proofs.BodyAsked.{other-row}
-use Rattle.reader.proofs.FileAsked.{said-no}
-use Rattle.reader.proofs.BodyRead.{is-over, found-as}
+use Rattle.reader.proofs.BodyRead.{refuses, found-as}
 use Rattle.reader.proofs.step.scan_item.Statement.{statement}
 use Rattle.reader.proofs.step.scan_item.Tie as tie
 
@@ -44,7 +43,7 @@ returns-4 : tie.Need-returns-4
 returns-4 c = λ s len c₀ here short small w e. c .end-file .ensures s _ len c₀ here short small w (found-as e (c .before .before .before .item4 .given .1))
 
 returns-5 : tie.Need-returns-5
-returns-5 c = λ s len c₀ here short small w e. is-over (said-no _ (other-row (w .verdict) (found _ _ _ _ e) (c .match .keys5)))
+returns-5 c = λ s len c₀ here short small w e. refuses (other-row (w .verdict) (found _ _ _ _ e) (c .match .keys5))
 
 pub scan-item-spec : {M : Type 1} → statement M
 scan-item-spec =
