@@ -1,21 +1,22 @@
 /*
  * The retention rule engine.
  *
- * Facts and rules are counted separately, each from 0. A rule file is a row of
- * items, one byte of kind and then a body (kinds in hexadecimal, numbers of two
- * bytes high byte first):
+ * Facts and rules are counted separately, each from 0. A rule file, an order, a
+ * list of rules and a proof are rows of items. An item is one byte of kind and
+ * then a body, whose length the kind fixes (kinds in hexadecimal, lengths in
+ * bytes, numbers of two bytes high byte first):
  *
- *   10  fact count, 1 byte (0 to 255); first, and only there
- *   01  opens a rule, 1 byte: its conclusion
- *   02  a premise of the rule last opened, 1 byte
- *   03  a constraint of it, 1 byte; a rule has at most 24 items of these two
- *       kinds together, repeats counted
- *   1F  rule count, 2 bytes (0 to 512); last
+ *   kind  body  where            what
+ *    10     1   file, first      the count of facts, 0 to 255
+ *    01     1   file             opens a rule: its conclusion
+ *    02     1   file             a premise of the rule last opened
+ *    03     1   file             a constraint of the rule last opened
+ *    1F     2   file, last       the count of rules, 0 to 512
+ *    05     2   order, list      a rule number
+ *    06     3   proof            a step: 1 byte of fact, then 2 of rule
  *
- * Beside the file:
- *
- *   05  a rule number, 2 bytes: orders and lists are rows of these
- *   06  a proof step, 1 byte of fact and 2 of rule: proofs are rows of these
+ * There is no other kind. A rule has at most 24 items of the kinds 02 and 03
+ * together, repeats counted.
  *
  * A fact set is one byte for each fact, 1 in, 0 out. A plain rule has no
  * constraint, an exception rule has one or more. A constraint fact is a fact

@@ -473,6 +473,39 @@ static void rules_too_long(void)
     expect(prints(file, len, "E 51\n"), "panel for 25 premises");
 }
 
+/* What a kind gets between the rule and the end of a file: 01 opens a second rule, and
+   1F ends the file with the bytes 00 1F, so both give another count of rules. */
+static uint32_t refusal_in_file(unsigned kind)
+{
+    switch (kind) {
+    case 0x02: case 0x03: return 0;
+    case 0x01: case 0x1F: return 9;
+    default: return 4;
+    }
+}
+
+/* Each of the 256 kinds in each row of items: the row decides which may stand in it. */
+static void kinds(void)
+{
+    int first = 1, in_file = 1, in_order = 1, in_proof = 1;
+    for (unsigned kind = 0; kind < 256; kind++) {
+        uint8_t byte = (uint8_t)kind;
+        uint32_t refusal = retention_accept(BYTES(byte, 1, 0x1F, 0, 0)).refusal;
+        first &= refusal == (kind == 0x10 ? 0 : 2);
+        refusal = retention_accept(BYTES(0x10, 1, 1, 0, byte, 0, 0x1F, 0, 1)).refusal;
+        in_file &= refusal == refusal_in_file(kind);
+        outcome result = run(A, sizeof A, BYTES(byte, 0, 1, 5, 0, 2));
+        in_order &= kind == 0x05 ? counted(&result, 1, 2) : refused(&result, 11);
+        retention_verdict reply =
+            retention_check(A, sizeof A, BYTES(1, 1, 0, 0), 0, BYTES(byte, 0, 0, 0));
+        in_proof &= kind == 0x06 ? says(reply, 1) : reply.refusal == 23 && reply.verdict == 0;
+    }
+    expect(first, "a file begins with kind 10 and no other");
+    expect(in_file, "the other kinds of a file are 01, 02, 03 and 1F");
+    expect(in_order, "the kind of an order is 05");
+    expect(in_proof, "the kind of a proof is 06");
+}
+
 int main(void)
 {
     example_a();
@@ -485,6 +518,7 @@ int main(void)
     shorter_grounds();
     panel();
     rules_too_long();
+    kinds();
     printf("%d failed\n", failures);
     return failures == 0 ? 0 : 1;
 }

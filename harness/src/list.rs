@@ -13,6 +13,8 @@
 //!   a no too;
 //! - `sets <name> | file <file> | stable <set> | ..` is a case of the judge for every
 //!   set of facts: these are stable, with no rule listed, and no other is;
+//! - `kinds <operation> <name> | but <kinds> | <field> | ..` is a case for every kind
+//!   but these: it stands in the place of `??`, in the name too;
 //! - `caller <name> | file <file> | lent ..` is a row of cases (see `caller.rs`), and
 //!   with `refused <number>` only the search that refuses; with `order <order>` it is
 //!   those of grounds.
@@ -95,13 +97,9 @@ impl List {
             }
             "all" => self.all(rest)?.into_iter().try_for_each(|case| self.put(case)),
             "sets" => self.sets(rest)?.into_iter().try_for_each(|case| self.put(case)),
+            "kinds" => self.kinds(rest)?.into_iter().try_for_each(|case| self.put(case)),
             "caller" => self.caller(rest)?.into_iter().try_for_each(|case| self.put(case)),
-            _ => {
-                let of_word = |operation: &Operation| operation.name() == word;
-                let operation = Operation::ALL.into_iter().find(of_word);
-                let operation = operation.ok_or_else(|| format!("no operation: {word:?}"))?;
-                self.case(operation, rest).and_then(|case| self.put(case))
-            }
+            _ => self.case(operation_of(word)?, rest).and_then(|case| self.put(case)),
         }
     }
 
@@ -160,6 +158,22 @@ impl List {
         (0..1 << facts).map(case).collect()
     }
 
+    fn kinds(&self, text: &str) -> Result<Vec<Named>, String> {
+        let (word, rest) = text.split_once(' ').ok_or("an operation and a case")?;
+        let operation = operation_of(word)?;
+        let (name, rest) = rest.split_once(" | but ").ok_or("no kinds that are left out")?;
+        let (left_out, fields) = rest.split_once(" | ").ok_or("no fields")?;
+        let left_out = bytes(&format!("hex {left_out}"))?;
+        if !name.contains("??") || !fields.contains("??") {
+            return Err(format!("{name}: no place for the kind"));
+        }
+        let case = |kind: u8| {
+            let text = format!("{name} | {fields}").replace("??", &format!("{kind:02X}"));
+            self.case(operation, &text)
+        };
+        (0..=u8::MAX).filter(|kind| !left_out.contains(kind)).map(case).collect()
+    }
+
     /// The calls of a refused file: cut rows, a byte 2 for a set, a fact that no
     /// file has, and one byte for each buffer.
     fn all(&self, text: &str) -> Result<Vec<Named>, String> {
@@ -198,6 +212,11 @@ impl List {
         }
         draft.finish(name)
     }
+}
+
+fn operation_of(word: &str) -> Result<Operation, String> {
+    let of_word = |operation: &Operation| operation.name() == word;
+    Operation::ALL.into_iter().find(of_word).ok_or_else(|| format!("no operation: {word:?}"))
 }
 
 /// Lines without comments, those that begin with a blank joined to the line

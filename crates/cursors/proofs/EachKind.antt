@@ -46,10 +46,10 @@ of-kind P each Order k e = subst (P Order) (sym (eqb-true k namesKind e)) (each 
 of-kind P each Steps k e = subst (P Steps) (sym (eqb-true k (stepKind (widthIn Steps)) e)) (each .step)
 
 -- A kind of a row has a body.
-pub known : (row : Row) (k : ℕ) → ofRow row k ≡ true → bodyLength (widthIn row) k < noSuchKind
+pub known : (row : Row) (k : ℕ) → ofRow row k ≡ true → bodyLength narrow k < noSuchKind
 unfolding bodyLength
 known =
-    of-kind (λ row k. bodyLength (widthIn row) k < noSuchKind)
+    of-kind (λ row k. bodyLength narrow k < noSuchKind)
     (record {
       facts = omega arith;
       opens = omega arith;

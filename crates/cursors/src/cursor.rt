@@ -1,19 +1,19 @@
 ghost use mathlib.Core.Path.{_≡_};
+ghost use mathlib.Core.Bool.{true};
+ghost use Prim.Native.Nat.{ℕ, _<_};
+ghost use lib.ListN.{length, getD};
+ghost use lib.Dec.{eqb};
 ghost use Rattle.items.specs.Question.{firstNo};
-ghost use Rattle.cursors.specs.declared.cursor.Row.the-variants.{Body, Order, Steps};
+ghost use Rattle.cursors.specs.declared.cursor.Row.the-variants.{Opening, Body, Order, Steps};
 ghost use Rattle.cursors.specs.Cursor.{bad, placeQuestions, stayed, ofRow, rowAfter, nextAt, ReadNumbers};
 use items::item::CONSTRAINT_KIND;
-use items::item::FACT_BYTES;
 use items::item::FACTS_KIND;
-use items::item::FactId;
 use items::item::Item;
 use items::item::KIND_BYTES;
 use items::item::NAMES_KIND;
 use items::item::OPENS_KIND;
 use items::item::PREMISE_KIND;
-use items::item::RULE_BYTES;
 use items::item::RULES_KIND;
-use items::item::RuleId;
 use items::item::STEP_KIND;
 use items::refusal::Refusal;
 
@@ -73,29 +73,6 @@ fn stay(row: Row, fault: Fault, here: Cursor) -> Read
     }
 }
 
-// Whether a row has items of this kind.
-fn of_row(row: Row, kind: u8) -> bool
-    ensures { λ r. ⌜ r ≡ ofRow row kind ⌝ }
-{
-    match row {
-        Row::Opening => kind == FACTS_KIND,
-        Row::Body => {
-            if kind == OPENS_KIND {
-                return true;
-            }
-            if kind == PREMISE_KIND {
-                return true;
-            }
-            if kind == CONSTRAINT_KIND {
-                return true;
-            }
-            kind == RULES_KIND
-        }
-        Row::Order => kind == NAMES_KIND,
-        Row::Steps => kind == STEP_KIND,
-    }
-}
-
 // The row of the next item: the body of a file follows its opening.
 fn row_after(row: Row) -> Row
     ensures { λ r. ⌜ r ≡ rowAfter row ⌝ }
@@ -108,37 +85,65 @@ fn row_after(row: Row) -> Row
     }
 }
 
+// The read of an item whose kind is of the row. Each call writes the kind out, so that the compiler looks its length up and no loop has to.
+fn read_kind(row: Row, kind: u8, bytes: &[u8], here: Cursor) -> Read
+    requires { ⌜ (here .row ≡ row) × (here .at < length (now bytes)) × (getD (now bytes) (here .at) 0 ≡ kind) × (ofRow row kind ≡ true) ⌝ }
+    ensures { λ r. ⌜ r ≡ nextAt (now (bytes .entry)) here ⌝ }
+{
+    let body = here.at + KIND_BYTES;
+    let length = items::lengths::body_length(kind);
+    if bytes.len() - body < length {
+        return stay(row, Fault::ShortBody, here);
+    }
+    let item = items::item::item_of(kind, bytes, body);
+    Read::Found(
+        item,
+        Cursor {
+            at: body + length,
+            row: row_after(row),
+        },
+    )
+}
+
+// The read in a row that has items of this kind only.
+fn read_only(row: Row, kind: u8, bytes: &[u8], here: Cursor) -> Read
+    requires { ⌜ (here .row ≡ row) × ((k : ℕ) → ofRow row k ≡ eqb k kind) ⌝ }
+    ensures { λ r. ⌜ r ≡ nextAt (now (bytes .entry)) here ⌝ }
+{
+    let at = here.at;
+    if bytes.len() <= at {
+        return stay(row, Fault::NoByte, here);
+    }
+    if bytes[at] != kind {
+        return stay(row, Fault::OtherKind, here);
+    }
+    read_kind(row, kind, bytes, here)
+}
+
 impl Cursor {
     // Moves past one whole item, or says why there is none.
     pub fn next(self, bytes: &[u8]) -> Read
         ensures { λ r. ⌜ r ≡ nextAt (now (bytes .entry)) self ⌝ }
         ensures { λ r. ⌜ ReadNumbers (now (bytes .entry)) self r ⌝ }
     {
-        let at = self.at;
         let row = self.row;
-        if bytes.len() <= at {
-            return stay(row, Fault::NoByte, self);
+        match row {
+            Row::Opening => self.next_opening(bytes),
+            Row::Body => self.next_in_body(bytes),
+            Row::Order => self.next_name(bytes),
+            Row::Steps => self.next_step(bytes),
         }
-        let kind = bytes[at];
-        if !of_row(row, kind) {
-            return stay(row, Fault::OtherKind, self);
-        }
-        let length = items::item::body_length(kind);
-        let body = at + KIND_BYTES;
-        if bytes.len() - body < length {
-            return stay(row, Fault::ShortBody, self);
-        }
-        let item = items::item::item_of(kind, bytes, body);
-        Read::Found(
-            item,
-            Cursor {
-                at: body + length,
-                row: row_after(row),
-            },
-        )
     }
 
-    // The next three read as `next` does, each in one row. Internal: `next` is too big for the compiler to make it part of a loop, these are not.
+    // The read of each row. Internal: a loop that knows its row calls the read itself.
+
+    // The first item of a file.
+    fn next_opening(self, bytes: &[u8]) -> Read
+        requires { ⌜ self .row ≡ Opening ⌝ }
+        ensures { λ r. ⌜ r ≡ nextAt (now (bytes .entry)) self ⌝ }
+    {
+        read_only(Row::Opening, FACTS_KIND, bytes, self)
+    }
 
     // In the body of a file.
     pub fn next_in_body(self, bytes: &[u8]) -> Read
@@ -147,40 +152,22 @@ impl Cursor {
     {
         let at = self.at;
         if bytes.len() <= at {
-            return Read::Refused(Refusal::FileCutOff, self);
+            return stay(Row::Body, Fault::NoByte, self);
         }
         let kind = bytes[at];
-        let body = at + KIND_BYTES;
+        // The kinds of a rule's items are neighbours, and the last item's lies far off. In one match they would be a jump through a table of addresses,
+        // which takes a fifth longer and more where premises and constraints stand mixed.
+        if CONSTRAINT_KIND < kind {
+            return match kind {
+                RULES_KIND => read_kind(Row::Body, RULES_KIND, bytes, self),
+                _ => stay(Row::Body, Fault::OtherKind, self),
+            };
+        }
         match kind {
-            OPENS_KIND | PREMISE_KIND | CONSTRAINT_KIND => {
-                if bytes.len() - body < FACT_BYTES {
-                    return Read::Refused(Refusal::BodyCutOff, self);
-                }
-                let fact = FactId(items::item::one_byte(bytes, body));
-                let next = Cursor {
-                    at: body + FACT_BYTES,
-                    row: Row::Body,
-                };
-                match kind {
-                    OPENS_KIND => Read::Found(Item::Opens(fact), next),
-                    PREMISE_KIND => Read::Found(Item::Premise(fact), next),
-                    _ => Read::Found(Item::Constraint(fact), next),
-                }
-            }
-            RULES_KIND => {
-                if bytes.len() - body < RULE_BYTES {
-                    return Read::Refused(Refusal::BodyCutOff, self);
-                }
-                let count = items::item::two_bytes(bytes, body);
-                Read::Found(
-                    Item::Rules(count),
-                    Cursor {
-                        at: body + RULE_BYTES,
-                        row: Row::Body,
-                    },
-                )
-            }
-            _ => Read::Refused(Refusal::UnknownKind, self),
+            OPENS_KIND => read_kind(Row::Body, OPENS_KIND, bytes, self),
+            PREMISE_KIND => read_kind(Row::Body, PREMISE_KIND, bytes, self),
+            CONSTRAINT_KIND => read_kind(Row::Body, CONSTRAINT_KIND, bytes, self),
+            _ => stay(Row::Body, Fault::OtherKind, self),
         }
     }
 
@@ -189,26 +176,7 @@ impl Cursor {
         requires { ⌜ self .row ≡ Order ⌝ }
         ensures { λ r. ⌜ r ≡ nextAt (now (bytes .entry)) self ⌝ }
     {
-        let at = self.at;
-        if bytes.len() <= at {
-            return Read::Ended(self);
-        }
-        let kind = bytes[at];
-        if kind != NAMES_KIND {
-            return Read::Refused(Refusal::NotRuleItems, self);
-        }
-        let body = at + KIND_BYTES;
-        if bytes.len() - body < RULE_BYTES {
-            return Read::Refused(Refusal::NotRuleItems, self);
-        }
-        let rule = items::item::two_bytes(bytes, body);
-        Read::Found(
-            Item::Names(RuleId(rule)),
-            Cursor {
-                at: body + RULE_BYTES,
-                row: Row::Order,
-            },
-        )
+        read_only(Row::Order, NAMES_KIND, bytes, self)
     }
 
     // In a proof row.
@@ -216,26 +184,6 @@ impl Cursor {
         requires { ⌜ self .row ≡ Steps ⌝ }
         ensures { λ r. ⌜ r ≡ nextAt (now (bytes .entry)) self ⌝ }
     {
-        let at = self.at;
-        if bytes.len() <= at {
-            return Read::Ended(self);
-        }
-        let kind = bytes[at];
-        if kind != STEP_KIND {
-            return Read::Refused(Refusal::NotStepItems, self);
-        }
-        let body = at + KIND_BYTES;
-        if bytes.len() - body < FACT_BYTES + RULE_BYTES {
-            return Read::Refused(Refusal::NotStepItems, self);
-        }
-        let fact = items::item::one_byte(bytes, body);
-        let rule = items::item::two_bytes(bytes, body + FACT_BYTES);
-        Read::Found(
-            Item::Step(FactId(fact), RuleId(rule)),
-            Cursor {
-                at: body + (FACT_BYTES + RULE_BYTES),
-                row: Row::Steps,
-            },
-        )
+        read_only(Row::Steps, STEP_KIND, bytes, self)
     }
 }

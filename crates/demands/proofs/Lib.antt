@@ -15,4 +15,5 @@ pub mod Demands
 pub mod Starred
 pub mod Wish01
 pub mod Wish02
+pub mod Wish03
 pub mod Wish08

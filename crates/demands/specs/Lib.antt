@@ -6,4 +6,5 @@ pub mod Examples
 pub mod Starred
 pub mod Wish01
 pub mod Wish02
+pub mod Wish03
 pub mod Wish08

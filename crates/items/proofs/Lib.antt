@@ -1,5 +1,6 @@
 pub mod RefusalNumbers
 pub mod FirstNo
 pub mod Bodies
+pub mod LengthTable
 pub mod ItemSays
 pub mod PlacedBytes

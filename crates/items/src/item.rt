@@ -1,7 +1,7 @@
 ghost use mathlib.Core.Path.{_≡_};
 ghost use Prim.Native.Nat.{_+_, _<_, _≤_};
 ghost use lib.ListN.{length, take, drop};
-ghost use Rattle.items.specs.Item.{narrow, bodyLength, noSuchKind, bigEndian, itemOf};
+ghost use Rattle.items.specs.Item.{narrow, factBytes, ruleBytes, bodyLength, noSuchKind, bigEndian, itemOf};
 
 // A fact number and a rule number are counted separately, each from 0, and each indexes its own marks.
 pub struct FactId(pub u16);
@@ -39,15 +39,10 @@ pub const NAMES_KIND: u8 = 0x05;
 
 pub const STEP_KIND: u8 = 0x06;
 
-// The bytes of a kind, of a fact number and of a rule number.
+// The bytes of a kind, and of a fact number.
 pub const KIND_BYTES: usize = 1;
 
 pub const FACT_BYTES: usize = 1;
-
-pub const RULE_BYTES: usize = 2;
-
-// The bytes of an item of a file that names a fact.
-pub const ITEM_WIDTH: usize = KIND_BYTES + FACT_BYTES;
 
 // A number of several bytes has them as its digits, in this base.
 pub const BASE: u16 = 256;
@@ -65,33 +60,18 @@ pub const MAX_RULE_ITEMS: usize = 24;
 // The most bytes of a file.
 pub const MAX_BYTES: usize = 32767;
 
-// The mark of a kind that there is not.
-const NO_SUCH_KIND: usize = 255;
-
-// How many bytes of body follow a kind. The one place that knows.
-pub fn body_length(kind: u8) -> usize
-    ensures { λ r. ⌜ r ≡ bodyLength narrow kind ⌝ }
-{
-    match kind {
-        FACTS_KIND | OPENS_KIND | PREMISE_KIND | CONSTRAINT_KIND => FACT_BYTES,
-        RULES_KIND | NAMES_KIND => RULE_BYTES,
-        STEP_KIND => FACT_BYTES + RULE_BYTES,
-        _ => NO_SUCH_KIND,
-    }
-}
-
-// A number of one byte at a place. Internal.
-pub fn one_byte(bytes: &[u8], at: usize) -> u16
-    requires { ⌜ at + 1 ≤ length (now bytes) ⌝ }
-    ensures { λ r. ⌜ r ≡ bigEndian (take 1 (drop at (now (bytes .entry)))) ⌝ }
+// The fact number, or count of facts, at a place.
+fn fact_field(bytes: &[u8], at: usize) -> u16
+    requires { ⌜ at + factBytes narrow ≤ length (now bytes) ⌝ }
+    ensures { λ r. ⌜ r ≡ bigEndian (take (factBytes narrow) (drop at (now (bytes .entry)))) ⌝ }
 {
     bytes[at] as u16
 }
 
-// A number of two bytes at a place, high byte first. Internal.
-pub fn two_bytes(bytes: &[u8], at: usize) -> u16
-    requires { ⌜ at + 2 ≤ length (now bytes) ⌝ }
-    ensures { λ r. ⌜ r ≡ bigEndian (take 2 (drop at (now (bytes .entry)))) ⌝ }
+// The rule number, or count of rules, at a place: high byte first.
+fn rule_field(bytes: &[u8], at: usize) -> u16
+    requires { ⌜ at + ruleBytes ≤ length (now bytes) ⌝ }
+    ensures { λ r. ⌜ r ≡ bigEndian (take ruleBytes (drop at (now (bytes .entry)))) ⌝ }
 {
     (bytes[at] as u16) * BASE + (bytes[at + 1] as u16)
 }
@@ -102,15 +82,15 @@ pub fn item_of(kind: u8, bytes: &[u8], at: usize) -> Item
     ensures { λ r. ⌜ r ≡ itemOf narrow kind (take (bodyLength narrow kind) (drop at (now (bytes .entry)))) ⌝ }
 {
     match kind {
-        FACTS_KIND => Item::Facts(one_byte(bytes, at)),
-        OPENS_KIND => Item::Opens(FactId(one_byte(bytes, at))),
-        PREMISE_KIND => Item::Premise(FactId(one_byte(bytes, at))),
-        CONSTRAINT_KIND => Item::Constraint(FactId(one_byte(bytes, at))),
-        RULES_KIND => Item::Rules(two_bytes(bytes, at)),
-        NAMES_KIND => Item::Names(RuleId(two_bytes(bytes, at))),
+        FACTS_KIND => Item::Facts(fact_field(bytes, at)),
+        OPENS_KIND => Item::Opens(FactId(fact_field(bytes, at))),
+        PREMISE_KIND => Item::Premise(FactId(fact_field(bytes, at))),
+        CONSTRAINT_KIND => Item::Constraint(FactId(fact_field(bytes, at))),
+        RULES_KIND => Item::Rules(rule_field(bytes, at)),
+        NAMES_KIND => Item::Names(RuleId(rule_field(bytes, at))),
         _ => Item::Step(
-            FactId(one_byte(bytes, at)),
-            RuleId(two_bytes(bytes, at + FACT_BYTES)),
+            FactId(fact_field(bytes, at)),
+            RuleId(rule_field(bytes, at + FACT_BYTES)),
         ),
     }
 }

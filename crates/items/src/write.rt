@@ -9,14 +9,10 @@ use crate::item::FACT_BYTES;
 use crate::item::FactId;
 use crate::item::KIND_BYTES;
 use crate::item::NAMES_KIND;
-use crate::item::RULE_BYTES;
 use crate::item::RuleId;
 use crate::item::STEP_KIND;
-
-// The bytes of an item of an order, and of a step.
-pub const NAME_WIDTH: usize = KIND_BYTES + RULE_BYTES;
-
-pub const STEP_WIDTH: usize = KIND_BYTES + FACT_BYTES + RULE_BYTES;
+use crate::lengths::NAME_WIDTH;
+use crate::lengths::STEP_WIDTH;
 
 // Where the low byte of the rule number stands, the last of an item: behind the high byte.
 const NAME_LAST: usize = NAME_WIDTH - 1;

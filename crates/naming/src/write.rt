@@ -6,7 +6,7 @@ ghost use Rattle.questions.specs.Orders.{placesMarked};
 ghost use Rattle.questions.specs.Put.{Fits, Put};
 use items::item::MAX_RULES;
 use items::item::RuleId;
-use items::write::NAME_WIDTH;
+use items::lengths::NAME_WIDTH;
 
 // An item for each rule below the count that has the mark, ascending, from a place of the buffer on. Answers the place behind them.
 pub fn write_names(

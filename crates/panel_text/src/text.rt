@@ -12,8 +12,8 @@ ghost use Rattle.panel_lines.specs.Text.{ascending, runText, panelText, shown, 
 ghost use Rattle.questions.specs.Put.{Put};
 use items::item::MAX_FACTS;
 use items::item::MAX_RULES;
-use items::write::NAME_WIDTH;
-use items::write::STEP_WIDTH;
+use items::lengths::NAME_WIDTH;
+use items::lengths::STEP_WIDTH;
 use reader::answer::Asked;
 use reader::answer::FileCounts;
 use run::answer::Ran;

@@ -11,7 +11,7 @@ ghost use Rattle.tables.specs.Layout.{programIn, WellFormed};
 ghost use Rattle.closure.specs.Steps.{stepBytes};
 use items::item::MAX_FACTS;
 use items::item::RuleId;
-use items::write::STEP_WIDTH;
+use items::lengths::STEP_WIDTH;
 use tables::layout::TABLE_CELLS;
 
 // The steps of the first rules of a row of rules that fired, in their order.

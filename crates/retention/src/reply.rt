@@ -1,7 +1,7 @@
 // The replies, and each answer as a reply. A refusal has its number and 0 for every other value.
 ghost use mathlib.Core.Path.{_≡_};
 ghost use Rattle.retention.specs.Reply.{fileOf, countsOfRan, countsOfSearched, verdictOfJudged, verdictOfChecked, countOfGrounds};
-use items::write::STEP_WIDTH;
+use items::lengths::STEP_WIDTH;
 use judge::answer::Judged;
 use keeping::answer::Grounds;
 use proofcheck::answer::Checked;

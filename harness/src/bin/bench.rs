@@ -17,7 +17,17 @@ use random::Random;
 use reference::{Lent, RuleFile, STEP_BYTES};
 use std::hint::black_box;
 use std::process::ExitCode;
+use std::slice;
 use std::time::{Duration, Instant};
+
+// Moves the code behind it, the archive's too, by so many bytes: how fast a loop runs depends on
+// where it lies, so times of one place alone do not tell one archive from another.
+std::arch::global_asm!(
+    ".section .text.place, \"axR\", @progbits",
+    ".p2align 6",
+    concat!(".skip ", env!("PLACE")),
+    ".text"
+);
 
 /// Rules and facts of the growing files.
 const SIZES: [(usize, usize); 4] = [(64, 32), (128, 64), (256, 128), (512, 255)];
@@ -127,6 +137,29 @@ fn dense() -> Draft {
             (1..MOST_OWN_ITEMS).map(|_| random.within(constraint_facts, derived - 1)).collect();
         let conclusion = random.within(derived, 254);
         draft.rule(conclusion, &premises, &[random.below(constraint_facts)]);
+    }
+    draft
+}
+
+/// Most of 512 rules have 24 items: premises, facts of a chain that is derived, and
+/// constraints, facts that no rule concludes, so many of each and in such an order as
+/// chance gives. What comes next in the file cannot be foreseen.
+fn mixed(seed: u64) -> Draft {
+    let random = &mut Random::new(seed, 512);
+    let mut draft = Draft::new(255);
+    let (derived, concluded) = (120, 200);
+    draft.rule(0, &[], &[]);
+    chain(&mut draft, &(0..derived).collect::<Vec<_>>());
+    while draft.rules.len() < 512 {
+        let premises = random.within(0, MOST_OWN_ITEMS - 1);
+        let mut facts = |count: usize, low, high| -> Vec<usize> {
+            (0..count).map(|_| random.within(low, high)).collect()
+        };
+        let premises = facts(premises, 0, derived - 1);
+        let constraints = facts(MOST_OWN_ITEMS - premises.len(), concluded, 254);
+        draft.rule(random.within(derived, concluded - 1), &premises, &constraints);
+        let rule = draft.rules.last_mut().expect("a rule was just made");
+        random.shuffle(&mut rule.items);
     }
     draft
 }
@@ -291,43 +324,50 @@ impl Subject {
         archive::grounds(&self.file, &self.order, self.asked, fact_marks, rule_marks, steps)
     }
 
-    fn times(&self, operation: Operation) -> Times {
-        let (file, set, list, proof) = (&self.file, &self.set, &self.list, &self.proof);
-        let mut ours = self.buffers.clone();
-        let mut theirs = self.buffers.clone();
+    fn archive_call(&self, operation: Operation, buffers: &mut Buffers) -> u32 {
+        let (file, set) = (black_box(&self.file), &self.set);
         match operation {
-            Operation::Accept => side_by_side(
-                || archive::accept(black_box(file)),
-                || reference::accept(black_box(file)),
-            ),
-            Operation::Run => side_by_side(
-                || self.archive_run(&mut theirs),
-                || reference::run(black_box(file), &self.order, ours.lent().0),
-            ),
-            Operation::Judge => side_by_side(
-                || archive::judge(black_box(file), list, set),
-                || reference::judge(black_box(file), list, set),
-            ),
-            Operation::Check => side_by_side(
-                || archive::check(black_box(file), set, self.asked, proof),
-                || reference::check(black_box(file), set, self.asked, proof),
-            ),
-            Operation::Search => side_by_side(
-                || self.archive_search(&mut theirs),
-                || {
-                    let (lent, order) = ours.lent();
-                    reference::search(black_box(file), lent, order)
-                },
-            ),
-            Operation::Grounds => side_by_side(
-                || self.archive_grounds(&mut theirs),
-                || {
-                    let lent = ours.lent().0;
-                    reference::grounds(black_box(file), &self.order, self.asked, lent)
-                },
-            ),
+            Operation::Accept => archive::accept(file)[0],
+            Operation::Run => self.archive_run(buffers)[0],
+            Operation::Judge => archive::judge(file, &self.list, set)[1],
+            Operation::Check => archive::check(file, set, self.asked, &self.proof)[1],
+            Operation::Search => self.archive_search(buffers)[0],
+            Operation::Grounds => self.archive_grounds(buffers)[0],
         }
     }
+
+    fn reference_call(&self, operation: Operation, buffers: &mut Buffers) -> bool {
+        let (file, set) = (black_box(&self.file), &self.set);
+        let (lent, order) = buffers.lent();
+        match operation {
+            Operation::Accept => reference::accept(file).is_ok(),
+            Operation::Run => reference::run(file, &self.order, lent).is_ok(),
+            Operation::Judge => reference::judge(file, &self.list, set).is_ok(),
+            Operation::Check => reference::check(file, set, self.asked, &self.proof).is_ok(),
+            Operation::Search => reference::search(file, lent, order).is_ok(),
+            Operation::Grounds => reference::grounds(file, &self.order, self.asked, lent).is_ok(),
+        }
+    }
+}
+
+/// The time of one call, from calls on all subjects in turn.
+fn times(subjects: &[Subject], operation: Operation) -> Times {
+    let buffers = || subjects.iter().map(|subject| subject.buffers.clone()).collect::<Vec<_>>();
+    let (mut ours, mut theirs) = (buffers(), buffers());
+    let all = side_by_side(
+        || {
+            for (subject, buffers) in subjects.iter().zip(&mut ours) {
+                black_box(subject.archive_call(operation, buffers));
+            }
+        },
+        || {
+            for (subject, buffers) in subjects.iter().zip(&mut theirs) {
+                black_box(subject.reference_call(operation, buffers));
+            }
+        },
+    );
+    let count = subjects.len() as f64;
+    Times { archive: all.archive / count, reference: all.reference / count }
 }
 
 #[derive(Clone, Copy, Debug)]
@@ -440,6 +480,17 @@ impl Table {
         ));
     }
 
+    /// The rows of files of one size; the search is not timed where it refuses them.
+    fn rows(&mut self, file: &str, subjects: &[Subject]) {
+        for operation in OPERATIONS {
+            let searches = matches!(operation, Operation::Search);
+            if !searches || subjects[0].constraint_facts <= MOST_GUESSED {
+                let now = times(subjects, operation);
+                self.row(file, &subjects[0], operation, TimesRow { now, before: None });
+            }
+        }
+    }
+
     fn row(&mut self, file: &str, subject: &Subject, operation: Operation, rows: TimesRow) {
         let growth = |time: f64, before: Option<f64>| {
             before.map_or("-".to_string(), |before| format!("{:.2}", time / before))
@@ -524,6 +575,10 @@ const DEEPEST_GROUNDS: [Single; 3] = [
     ("stairs, 24 premises", || stairs(255, MOST_OWN_ITEMS - 1)),
 ];
 
+/// So many files are read in turn, more than the processor can remember the branches of:
+/// a delivery has never been read before.
+const IN_TURN: u64 = 48;
+
 /// The most constraint facts that the search takes.
 const MOST_GUESSED: usize = 16;
 
@@ -542,7 +597,7 @@ fn measure() -> Result<Table, String> {
         for size in SIZES {
             let subject = agreeing(name, &family(size))?;
             for operation in OPERATIONS {
-                let now = subject.times(operation);
+                let now = times(slice::from_ref(&subject), operation);
                 let before = before[operation as usize].replace(now);
                 table.row(name, &subject, operation, TimesRow { now, before });
                 smallest[operation as usize].get_or_insert(now);
@@ -558,21 +613,15 @@ fn measure() -> Result<Table, String> {
         }
     }
     for (name, file) in SINGLES {
-        let subject = agreeing(name, &file())?;
-        for operation in OPERATIONS {
-            let searches = matches!(operation, Operation::Search);
-            if searches && subject.constraint_facts > MOST_GUESSED {
-                continue;
-            }
-            let now = subject.times(operation);
-            table.row(name, &subject, operation, TimesRow { now, before: None });
-        }
+        table.rows(name, &[agreeing(name, &file())?]);
     }
+    let mixed = (0..IN_TURN).map(|seed| agreeing("mixed", &mixed(seed)));
+    table.rows("mixed, files in turn", &mixed.collect::<Result<Vec<_>, String>>()?);
     let worst = WORST_SEARCHES.map(|single| (single, Operation::Search));
     let deepest = DEEPEST_GROUNDS.map(|single| (single, Operation::Grounds));
     for ((name, file), operation) in worst.into_iter().chain(deepest) {
         let subject = agreeing(name, &file())?;
-        let now = subject.times(operation);
+        let now = times(slice::from_ref(&subject), operation);
         table.row(name, &subject, operation, TimesRow { now, before: None });
     }
     table.summary();

@@ -147,21 +147,39 @@ fn hex(bytes: &[u8]) -> String {
     if digits.is_empty() { "(empty)".to_string() } else { digits.join(" ") }
 }
 
-/// Every prefix and every change of one byte of a file, under all operations
-/// with the inputs that fit the file itself.
-fn neighbours(file: &[u8]) -> Vec<Case> {
-    let prefixes = (0..file.len()).map(|length| file[..length].to_vec());
-    let changes = (0..file.len()).flat_map(|place| {
+/// Every prefix and every change of one byte.
+fn neighbouring_rows(row: &[u8]) -> Vec<Vec<u8>> {
+    let prefixes = (0..row.len()).map(|length| row[..length].to_vec());
+    let changes = (0..row.len()).flat_map(|place| {
         (1..=255).map(move |change| {
-            let mut changed = file.to_vec();
+            let mut changed = row.to_vec();
             changed[place] ^= change;
             changed
         })
     });
-    let files: Vec<Vec<u8>> = prefixes.chain(changes).collect();
+    prefixes.chain(changes).collect()
+}
+
+/// The neighbours of a file, under all operations with the inputs that fit the file
+/// itself.
+fn neighbours(file: &[u8]) -> Vec<Case> {
+    let files = neighbouring_rows(file);
     let calls = all_operations(file);
     let on = |file: &Vec<u8>, call: &Case| Case { file: file.clone(), ..call.clone() };
     files.iter().flat_map(|file| calls.iter().map(move |call| on(file, call))).collect()
+}
+
+/// Every prefix and every change of one byte of the order, the list or the proof that
+/// fits a file.
+fn neighbours_beside(file: &[u8]) -> Vec<Case> {
+    let mut cases = Vec::new();
+    for call in all_operations(file) {
+        let rows = neighbouring_rows(&call.rules).into_iter();
+        cases.extend(rows.map(|rules| Case { rules, ..call.clone() }));
+        let rows = neighbouring_rows(&call.proof).into_iter();
+        cases.extend(rows.map(|proof| Case { proof, ..call.clone() }));
+    }
+    cases
 }
 
 /// Another file for its neighbours: two pairs, a guarded odd loop, equal rules.
@@ -228,8 +246,10 @@ fn purposeful_cases() -> Vec<Case> {
     let mut cases = directed_cases();
     for draft in examples() {
         cases.extend(neighbours(&draft.bytes()));
+        cases.extend(neighbours_beside(&draft.bytes()));
     }
     cases.extend(neighbours(&mixed_file()));
+    cases.extend(neighbours_beside(&mixed_file()));
     cases.extend(neighbours(&file_at_the_cap()));
     for file in large_files() {
         cases.extend(all_operations(&file));

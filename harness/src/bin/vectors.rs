@@ -49,9 +49,9 @@ use random::Random;
 use std::process::ExitCode;
 
 const SEED: u64 = 1;
-const RANDOM_VECTORS: usize = 3_700;
+const RANDOM_VECTORS: usize = 3_400;
 /// The reader has some more room for the file, and this for each buffer.
-const MOST_BYTES: usize = 1_200_000;
+const MOST_BYTES: usize = 1_240_000;
 const MOST_LENT: usize = 16_384;
 /// What the buffers of cases without a name hold.
 const UNTOUCHED: u8 = 0xA5;

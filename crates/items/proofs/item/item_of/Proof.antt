@@ -23,83 +23,83 @@ whole-step : (c : tie.At-match-rest) → c .before .before .args .at + 3 ≤ len
 unfolding bodyLength
 whole-step c = rw (a-step-here c) at (c .before .before .pre .1)
 
-one-byte-requires : tie.Need-one-byte-requires
+fact-field-requires : tie.Need-fact-field-requires
 unfolding bodyLength
-one-byte-requires c κs = rw (c .match .keys1) at (c .before .before .pre .1)
+fact-field-requires c κs = rw (c .match .keys1) at (c .before .before .pre .1)
 
-one-byte-requires-2 : tie.Need-one-byte-requires-2
+fact-field-requires-2 : tie.Need-fact-field-requires-2
 unfolding bodyLength
-one-byte-requires-2 c κs = rw (c .match .keys2) at (c .before .before .pre .1)
+fact-field-requires-2 c κs = rw (c .match .keys2) at (c .before .before .pre .1)
 
-one-byte-requires-3 : tie.Need-one-byte-requires-3
+fact-field-requires-3 : tie.Need-fact-field-requires-3
 unfolding bodyLength
-one-byte-requires-3 c κs = rw (c .match .keys3) at (c .before .before .pre .1)
+fact-field-requires-3 c κs = rw (c .match .keys3) at (c .before .before .pre .1)
 
-one-byte-requires-4 : tie.Need-one-byte-requires-4
+fact-field-requires-4 : tie.Need-fact-field-requires-4
 unfolding bodyLength
-one-byte-requires-4 c κs = rw (c .match .keys4) at (c .before .before .pre .1)
+fact-field-requires-4 c κs = rw (c .match .keys4) at (c .before .before .pre .1)
 
-two-bytes-requires : tie.Need-two-bytes-requires
+rule-field-requires : tie.Need-rule-field-requires
 unfolding bodyLength
-two-bytes-requires c κs = rw (c .match .keys5) at (c .before .before .pre .1)
+rule-field-requires c κs = rw (c .match .keys5) at (c .before .before .pre .1)
 
-two-bytes-requires-2 : tie.Need-two-bytes-requires-2
+rule-field-requires-2 : tie.Need-rule-field-requires-2
 unfolding bodyLength
-two-bytes-requires-2 c κs = rw (c .match .keys6) at (c .before .before .pre .1)
+rule-field-requires-2 c κs = rw (c .match .keys6) at (c .before .before .pre .1)
 
-one-byte-requires-5 : tie.Need-one-byte-requires-5
-one-byte-requires-5 c κs = omega (arith, whole-step c)
+fact-field-requires-5 : tie.Need-fact-field-requires-5
+fact-field-requires-5 c κs = omega (arith, whole-step c)
 
-add-two-bytes : tie.Need-add-two-bytes
-add-two-bytes c = search needs
+add-rule-field : tie.Need-add-rule-field
+add-rule-field c = search needs
 
-two-bytes-requires-3 : tie.Need-two-bytes-requires-3
-two-bytes-requires-3 c κs = omega (arith, whole-step (c .before))
+rule-field-requires-3 : tie.Need-rule-field-requires-3
+rule-field-requires-3 c κs = omega (arith, whole-step (c .before))
 
 returns : tie.Need-returns
 unfolding bodyLength itemOf
-returns c = rw (c .before .match .keys1) (ap Facts (c .one-byte .ensures))
+returns c = rw (c .before .match .keys1) (ap Facts (c .fact-field .ensures))
 
 returns-2 : tie.Need-returns-2
 unfolding bodyLength itemOf
-returns-2 c = rw (c .before .match .keys2) (ap (λ (n : ℕ). Opens (factId n)) (c .one-byte2 .ensures))
+returns-2 c = rw (c .before .match .keys2) (ap (λ (n : ℕ). Opens (factId n)) (c .fact-field2 .ensures))
 
 returns-3 : tie.Need-returns-3
 unfolding bodyLength itemOf
-returns-3 c = rw (c .before .match .keys3) (ap (λ (n : ℕ). Premise (factId n)) (c .one-byte3 .ensures))
+returns-3 c = rw (c .before .match .keys3) (ap (λ (n : ℕ). Premise (factId n)) (c .fact-field3 .ensures))
 
 returns-4 : tie.Need-returns-4
 unfolding bodyLength itemOf
-returns-4 c = rw (c .before .match .keys4) (ap (λ (n : ℕ). Constraint (factId n)) (c .one-byte4 .ensures))
+returns-4 c = rw (c .before .match .keys4) (ap (λ (n : ℕ). Constraint (factId n)) (c .fact-field4 .ensures))
 
 returns-5 : tie.Need-returns-5
 unfolding bodyLength itemOf
-returns-5 c = rw (c .before .match .keys5) (ap Rules (c .two-bytes .ensures))
+returns-5 c = rw (c .before .match .keys5) (ap Rules (c .rule-field .ensures))
 
 returns-6 : tie.Need-returns-6
 unfolding bodyLength itemOf
-returns-6 c = rw (c .before .match .keys6) (ap (λ (n : ℕ). Names (ruleId n)) (c .two-bytes2 .ensures))
+returns-6 c = rw (c .before .match .keys6) (ap (λ (n : ℕ). Names (ruleId n)) (c .rule-field2 .ensures))
 
 returns-7 : tie.Need-returns-7
 unfolding bodyLength itemOf
 returns-7 c =
     let p = step-at (now (c .before .before .before .before .args .bytes)) (c .before .before .before .before .args .at) (whole-step (c .before .before)) in
     rw (a-step-here (c .before .before))
-    (ap₂ (λ (f r : ℕ). Step (factId f) (ruleId r)) (c .before .one-byte5 .ensures ∙ sym (p .0)) (c .two-bytes3 .ensures ∙ sym (p .1)))
+    (ap₂ (λ (f r : ℕ). Step (factId f) (ruleId r)) (c .before .fact-field5 .ensures ∙ sym (p .0)) (c .rule-field3 .ensures ∙ sym (p .1)))
 
 pub item-of-spec : {M : Type 1} → statement M
 item-of-spec =
     tie.close
     (tie.spec
-    one-byte-requires
-    one-byte-requires-2
-    one-byte-requires-3
-    one-byte-requires-4
-    two-bytes-requires
-    two-bytes-requires-2
-    one-byte-requires-5
-    add-two-bytes
-    two-bytes-requires-3
+    fact-field-requires
+    fact-field-requires-2
+    fact-field-requires-3
+    fact-field-requires-4
+    rule-field-requires
+    rule-field-requires-2
+    fact-field-requires-5
+    add-rule-field
+    rule-field-requires-3
     returns
     returns-2
     returns-3

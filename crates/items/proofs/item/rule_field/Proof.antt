@@ -1,10 +1,10 @@
--- `two_bytes`: the high byte stands first.
+-- `rule_field`: the high byte stands first.
 use Prim.Native.Nat.{_+_}
 use native.Mathlib.Omega.{arith}
-use Rattle.items.proofs.Bodies.{two-bytes-at}
+use Rattle.items.proofs.Bodies.{rule-field-at}
 use borrow.Author.Needs.{needs}
-use Rattle.items.proofs.item.two_bytes.Statement.{statement}
-use Rattle.items.proofs.item.two_bytes.Tie as tie
+use Rattle.items.proofs.item.rule_field.Statement.{statement}
+use Rattle.items.proofs.item.rule_field.Tie as tie
 
 shared-slice-read-result : tie.Need-shared-slice-read-result
 shared-slice-read-result c = search needs
@@ -28,10 +28,10 @@ add-result-2 : tie.Need-add-result-2
 add-result-2 c = omega (arith, c .before .shared-slice-known .given (c .before .before .args .at), c .shared-slice-known2 .given (c .before .before .args .at + 1))
 
 returns : tie.Need-returns
-returns c = two-bytes-at _ _ (c .before .before .pre)
+returns c = rule-field-at _ _ (c .before .before .pre)
 
-pub two-bytes-spec : {M : Type 1} → statement M
-two-bytes-spec =
+pub rule-field-spec : {M : Type 1} → statement M
+rule-field-spec =
     tie.close
     (tie.spec
     shared-slice-read-result
