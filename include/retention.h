@@ -38,8 +38,9 @@
  *   - In a lent buffer the bytes past those written keep their contents.
  *   - Nothing is kept between calls, and nothing is allocated for the caller.
  *   - The stack that a call needs on x86-64, as measured: retention_accept and
- *     retention_check 29 KB, retention_grounds 68 KB, retention_judge 69 KB,
- *     retention_run 70 KB, retention_panel 105 KB, retention_search 135 KB.
+ *     retention_check 29 KB, retention_layered 34 KB, retention_grounds 68 KB,
+ *     retention_judge 69 KB, retention_run 70 KB, retention_panel 105 KB,
+ *     retention_search 135 KB.
  *
  * Refusals
  *
@@ -86,6 +87,10 @@
  *
  *   the grounds of a fact
  *   50  Did the run derive the fact? (a number not below the count gets no)
+ *
+ *   the order by rank
+ *   52  Does no cycle of dependencies go through a constraint? (A fact depends
+ *       on each premise and each constraint of each rule that concludes it.)
  */
 #ifndef RETENTION_H
 #define RETENTION_H
@@ -102,7 +107,7 @@ typedef struct {
     uint32_t refusal, stages, steps;
 } retention_counts;
 
-/* The count of the steps that were kept. */
+/* A count: of the steps that were kept, or of the rules named. */
 typedef struct {
     uint32_t refusal, count;
 } retention_count;
@@ -186,6 +191,18 @@ retention_count retention_grounds(const uint8_t *file, size_t file_len,
                                   uint8_t *fact_marks, size_t fact_marks_len,
                                   uint8_t *rule_marks, size_t rule_marks_len,
                                   uint8_t *steps, size_t steps_len);
+
+/*
+ * The order by rank of a layered file. Each fact has its least rank: at least
+ * that of every premise of its rules, above that of every constraint, and 0
+ * where nothing forces more. Writes the exception rules by rank of conclusion,
+ * then by number, as 05 items, and returns how many they are. Under this order
+ * the run sets nothing aside, and the facts that it marks 1 are the only stable
+ * set of the file.
+ * Questions: the file's, 34, 52.
+ */
+retention_count retention_layered(const uint8_t *file, size_t file_len,
+                                  uint8_t *order, size_t order_len);
 
 /*
  * Writes what the panel program prints for the file, and returns the length of

@@ -69,6 +69,20 @@ static outcome grounds(const uint8_t *file, size_t file_len, const uint8_t *orde
     return result;
 }
 
+/* The order by ranks, in a buffer of the largest size of which so many bytes are lent. */
+typedef struct {
+    uint8_t order[3 * MOST_RULES];
+    retention_count reply;
+} layers;
+
+static layers layered(const uint8_t *file, size_t file_len, size_t order_len)
+{
+    layers result;
+    memset(&result, UNTOUCHED, sizeof result);
+    result.reply = retention_layered(file, file_len, result.order, order_len);
+    return result;
+}
+
 /* The buffer holds the bytes, and past them what it held before the call. */
 static int holds(const uint8_t *buffer, size_t buffer_len, const uint8_t *bytes, size_t len)
 {
@@ -94,6 +108,18 @@ static int counted(const outcome *result, uint32_t stages, uint32_t steps)
 {
     const retention_counts *counts = &result->counts;
     return counts->refusal == 0 && counts->stages == stages && counts->steps == steps;
+}
+
+static int unordered(const layers *result, uint32_t refusal)
+{
+    return result->reply.refusal == refusal && result->reply.count == 0
+        && HOLDS(result->order, NOTHING);
+}
+
+static int ordered(const layers *result, const uint8_t *order, size_t len)
+{
+    return result->reply.refusal == 0 && 3 * (size_t)result->reply.count == len
+        && HOLDS(result->order, order, len);
 }
 
 /* 4 facts; 0<; 1<0,!2; 2<0,!1; 3<2 */
@@ -387,6 +413,96 @@ static void shorter_grounds(void)
     expect(refused(&kept, 14), "A: the order is asked before the fact, 14");
 }
 
+/* 6 facts; 0<1,!5; 1<2; 2<0,!3; 3<!5; 4<0,!5: 0, 1 and 2 wait for each other, above 3. */
+static const uint8_t WAITING[] = {0x10, 6, 1, 0, 2, 1, 3, 5, 1, 1, 2, 2, 1, 2, 2, 0, 3, 3,
+                                  1, 3, 3, 5, 1, 4, 2, 0, 3, 5, 0x1F, 0, 5};
+
+static void orders_by_rank(void)
+{
+    layers found = layered(A, sizeof A, 6);
+    expect(unordered(&found, 52), "A: 1 and 2 are constraints of each other, 52");
+    found = layered(A, sizeof A, 5);
+    expect(unordered(&found, 34), "A: the buffer is asked before the cycle, 34");
+    found = layered(B, sizeof B, sizeof found.order);
+    expect(unordered(&found, 52), "B: 0 is a constraint of itself, 52");
+    found = layered(C, sizeof C, sizeof found.order);
+    expect(ordered(&found, BYTES(5, 0, 1, 5, 0, 0)), "C: order 1 0 by ranks");
+    found = layered(C, sizeof C, 6);
+    expect(ordered(&found, BYTES(5, 0, 1, 5, 0, 0)), "C: order 1 0 in 6 bytes");
+    found = layered(C, sizeof C, 5);
+    expect(unordered(&found, 34), "C: order 1 0 in 5 bytes, 34");
+    found = layered(D, sizeof D, sizeof found.order);
+    expect(unordered(&found, 52), "D: the constraint of 0 rests on 0, 52");
+    found = layered(E, sizeof E, 0);
+    expect(ordered(&found, NOTHING), "E: an empty order in no bytes");
+    found = layered(F, sizeof F, 0);
+    expect(ordered(&found, NOTHING), "F: a premise of itself is no cycle");
+    found = layered(WAITING, sizeof WAITING, sizeof found.order);
+    expect(ordered(&found, BYTES(5, 0, 3, 5, 0, 0, 5, 0, 2, 5, 0, 4)),
+           "facts that wait for each other have one rank");
+    found = layered(NOTHING, 0);
+    expect(unordered(&found, 2), "no file and no bytes: 2");
+}
+
+/* What a caller does with an order by ranks: the run under it sets nothing aside, and it
+   ends at the stable set that the search finds. */
+static void by_layers(const uint8_t *file, size_t len, const char *name)
+{
+    char what[128];
+    uint8_t set[MOST_FACTS];
+    retention_file counts = retention_accept(file, len);
+    layers order = layered(file, len, 3 * (size_t)counts.exceptions);
+    outcome end = run(file, len, order.order, 3 * (size_t)order.reply.count);
+    snprintf(what, sizeof what, "%s: the run under the order by ranks sets nothing aside", name);
+    expect(order.reply.refusal == 0 && order.reply.count == counts.exceptions
+               && end.counts.refusal == 0
+               && memchr(end.rule_marks, 2, counts.rules) == NULL, what);
+    for (size_t fact = 0; fact < counts.facts; fact++)
+        set[fact] = end.fact_marks[fact] == 1;
+    snprintf(what, sizeof what, "%s: it ends at a stable set", name);
+    expect(says(retention_judge(file, len, NOTHING, set, counts.facts), 1), what);
+    if (counts.constraints > 16)
+        return;
+    outcome found = search(file, len);
+    int same = found.counts.refusal == 0;
+    for (size_t fact = 0; fact < counts.facts; fact++)
+        same &= set[fact] == (found.fact_marks[fact] == 1);
+    snprintf(what, sizeof what, "%s: the search finds that set", name);
+    expect(same, what);
+}
+
+/* 255 facts; 0<!1; 1<!2; and so on: as many ranks as facts, the highest for rule 0. */
+static size_t ladder(uint8_t *file)
+{
+    size_t len = 0;
+    file[len++] = 0x10;
+    file[len++] = MOST_FACTS;
+    for (size_t fact = 0; fact < MOST_FACTS - 1; fact++) {
+        file[len++] = 1;
+        file[len++] = (uint8_t)fact;
+        file[len++] = 3;
+        file[len++] = (uint8_t)(fact + 1);
+    }
+    return end_file(file, len, MOST_FACTS - 1);
+}
+
+static void callers_by_layers(void)
+{
+    static uint8_t large[2048];
+    size_t len = ladder(large);
+    layers found = layered(large, len, sizeof found.order);
+    int down = found.reply.refusal == 0 && found.reply.count == MOST_FACTS - 1;
+    for (size_t place = 0; down && place < found.reply.count; place++)
+        down = found.order[3 * place] == 5 && found.order[3 * place + 1] == 0
+            && found.order[3 * place + 2] == found.reply.count - 1 - place;
+    expect(down, "255 ranks: the last rule is the first of the order");
+    by_layers(large, len, "255 ranks");
+    by_layers(C, sizeof C, "C");
+    by_layers(E, sizeof E, "E");
+    by_layers(F, sizeof F, "F");
+    by_layers(WAITING, sizeof WAITING, "facts that wait for each other");
+}
+
 static int prints(const uint8_t *file, size_t len, const char *text)
 {
     uint8_t out[64];
@@ -466,6 +582,8 @@ static void rules_too_long(void)
     expect(refused(&result, 51), "search of 25 premises: 51");
     result = grounds(file, len, NOTHING, 0);
     expect(refused(&result, 51), "grounds of 25 premises: 51");
+    layers order = layered(file, len, 0);
+    expect(unordered(&order, 51), "layers of 25 premises: 51");
     retention_verdict reply = retention_judge(file, len, NOTHING, BYTES(0, 0, 0));
     expect(reply.refusal == 51 && reply.verdict == 0, "judge of 25 premises: 51");
     reply = retention_check(file, len, BYTES(0, 0, 0), 0, NOTHING);
@@ -516,6 +634,8 @@ int main(void)
     files();
     callers();
     shorter_grounds();
+    orders_by_rank();
+    callers_by_layers();
     panel();
     rules_too_long();
     kinds();

@@ -27,6 +27,7 @@ static uint8_t fact_marks[MOST_FACTS], rule_marks[MOST_RULES], steps[4 * MOST_FA
 static uint8_t set[MOST_FACTS], text[8192];
 static size_t file_len, order_len, proof_len;
 static uint32_t asked;
+static int cyclic;
 static volatile uint32_t reply;
 
 static uint8_t *begin_file(void)
@@ -34,6 +35,7 @@ static uint8_t *begin_file(void)
     file[0] = 0x10;
     file[1] = MOST_FACTS;
     order_len = 0;
+    cyclic = 0;
     return file + 2;
 }
 
@@ -74,6 +76,7 @@ static void make_pairs(void)
     }
     end_file(at, MOST_RULES);
     asked = 0;
+    cyclic = 1;
 }
 
 /* Every rule is an exception rule: the longest order and the most constraint items. */
@@ -110,6 +113,54 @@ static void make_stairs(void)
     }
     end_file(at, MOST_FACTS);
     asked = MOST_FACTS - 1;
+}
+
+/* Each fact has those after it as items of this kind, the nearest as the first and, if
+   none leads back, as the last. A walk along them goes as deep as there are facts. */
+static void make_walk(uint8_t kind, int leads_back, int ring)
+{
+    int facts = ring ? MOST_FACTS : MOST_FACTS - 1;
+    uint8_t *at = begin_file();
+    for (int rule = 0; rule < MOST_RULES; rule++) {
+        int fact = rule % facts;
+        *at++ = 0x01;
+        *at++ = (uint8_t)fact;
+        for (int item = 1; item <= MOST_OWN_ITEMS; item++) {
+            int last = item == MOST_OWN_ITEMS;
+            int other = fact + (last ? (leads_back ? -1 : 1) : item);
+            if (ring)
+                other = (other + MOST_FACTS) % MOST_FACTS;
+            else if (other >= MOST_FACTS)
+                other = MOST_FACTS - 1;
+            *at++ = kind;
+            *at++ = (uint8_t)other;
+        }
+    }
+    end_file(at, MOST_RULES);
+}
+
+/* As many ranks as facts. */
+static void make_ladder(void)
+{
+    make_walk(0x03, 0, 0);
+}
+
+/* All facts wait for each other: in a ring, and in cycles one around another. */
+static void make_ring(void)
+{
+    make_walk(0x02, 0, 1);
+}
+
+static void make_nested(void)
+{
+    make_walk(0x02, 1, 1);
+}
+
+/* The same, by constraints. */
+static void make_refused(void)
+{
+    make_walk(0x03, 1, 1);
+    cyclic = 1;
 }
 
 static void *nothing(void *unused)
@@ -172,6 +223,14 @@ static void *grounds(void *unused)
     return unused;
 }
 
+/* Where a cycle goes through a constraint it refuses, and with its own number. */
+static void *layered(void *unused)
+{
+    retention_count named = retention_layered(file, file_len, found, sizeof found);
+    reply = cyclic ? named.refusal != 52 : named.refusal;
+    return unused;
+}
+
 static size_t used(void *(*call)(void *))
 {
     pthread_t thread;
@@ -191,32 +250,49 @@ static size_t used(void *(*call)(void *))
     return STACK - untouched;
 }
 
+typedef struct {
+    const char *name;
+    void *(*call)(void *);
+    size_t needed;
+} function;
+
+/* Calls the function on the file that was made, and keeps the most that it used. */
+static void measure(function *measured, size_t own)
+{
+    size_t more = used(measured->call) - own;
+    if (reply != 0) {
+        printf("FAIL %s refused with %u\n", measured->name, (unsigned)reply);
+        exit(EXIT_FAILURE);
+    }
+    if (measured->needed < more)
+        measured->needed = more;
+}
+
 int main(void)
 {
     static void (*const files[])(void) = {make_pairs, make_exceptions, make_stairs};
+    /* These have too many constraint facts for the search, or nothing to derive. */
+    static void (*const layered_files[])(void) = {make_ladder, make_ring, make_nested,
+                                                  make_refused};
     /* The judge and the check take what the run left. */
-    static const struct {
-        const char *name;
-        void *(*call)(void *);
-    } functions[] = {{"retention_accept", accept}, {"retention_run", run},
-                     {"retention_judge", judge},   {"retention_check", check},
-                     {"retention_search", search}, {"retention_panel", panel},
-                     {"retention_grounds", grounds}};
+    function functions[] = {{"retention_accept", accept, 0}, {"retention_run", run, 0},
+                            {"retention_judge", judge, 0},   {"retention_check", check, 0},
+                            {"retention_search", search, 0}, {"retention_panel", panel, 0},
+                            {"retention_grounds", grounds, 0}};
+    function layers = {"retention_layered", layered, 0};
     size_t own = used(nothing);
-    size_t needed[COUNT(functions)] = {0};
     for (size_t f = 0; f < COUNT(files); f++) {
         files[f]();
-        for (size_t n = 0; n < COUNT(functions); n++) {
-            size_t more = used(functions[n].call) - own;
-            if (reply != 0) {
-                printf("FAIL %s refused with %u\n", functions[n].name, (unsigned)reply);
-                return EXIT_FAILURE;
-            }
-            if (needed[n] < more)
-                needed[n] = more;
-        }
+        for (size_t n = 0; n < COUNT(functions); n++)
+            measure(&functions[n], own);
+        measure(&layers, own);
+    }
+    for (size_t f = 0; f < COUNT(layered_files); f++) {
+        layered_files[f]();
+        measure(&layers, own);
     }
     for (size_t n = 0; n < COUNT(functions); n++)
-        printf("stack %-18s %4zu KB\n", functions[n].name, (needed[n] + 1023) / 1024);
+        printf("stack %-18s %4zu KB\n", functions[n].name, (functions[n].needed + 1023) / 1024);
+    printf("stack %-18s %4zu KB\n", layers.name, (layers.needed + 1023) / 1024);
     return EXIT_SUCCESS;
 }

@@ -87,6 +87,12 @@ unsafe extern "C" {
         steps: *mut u8,
         steps_len: usize,
     ) -> CountReply;
+    fn retention_layered(
+        file: *const u8,
+        file_len: usize,
+        order: *mut u8,
+        order_len: usize,
+    ) -> CountReply;
 }
 
 // Each call below hands over slices with their own lengths. They are valid for
@@ -201,5 +207,11 @@ pub fn grounds(
             steps.len(),
         )
     };
+    [reply.refusal, reply.count]
+}
+
+pub fn layered(file: &[u8], order: &mut [u8]) -> [u32; 2] {
+    let reply =
+        unsafe { retention_layered(file.as_ptr(), file.len(), order.as_mut_ptr(), order.len()) };
     [reply.refusal, reply.count]
 }

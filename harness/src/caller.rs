@@ -2,15 +2,22 @@
 //! check of the row for each fact in the set; for facts outside it a row that
 //! tries; and the run under the search's order, in equal buffers. And what a caller
 //! does with grounds: the grounds of each fact that the run derives; the check of
-//! that row; and the check of what is left of it without any one step.
+//! that row; and the check of what is left of it without any one step. And what a
+//! caller does with an order by ranks: the run under it, which sets nothing aside; the
+//! judge on where that ends; and the search, which ends there too.
 //!
-//! The inputs of the checks and of the run come from the reference's search or
-//! grounds. If the engine's agree with them, they are what a caller reads from the
-//! engine's own buffers.
+//! The inputs of the checks, of the run and of the judge come from the reference's
+//! search, grounds or order. If the engine's agree with them, they are what a caller
+//! reads from the engine's own buffers.
 
 use crate::cases::{Case, Operation, Reply};
 use crate::list::{Buffers, Named};
 use reference::{RULE_NUMBER_BYTES, RuleFile, STEP_BYTES, kind};
+
+/// The most constraint facts that the search takes.
+const MOST_GUESSED: usize = 16;
+/// The mark of a rule that is set aside.
+const SET_ASIDE: u8 = 2;
 
 /// The cases for a file; only the search where it is to refuse.
 pub fn cases(
@@ -80,6 +87,46 @@ pub fn grounds(
         }
     }
     if cases.is_empty() { Err(format!("{name}: nothing is derived")) } else { Ok(cases) }
+}
+
+/// The cases of an order by ranks. The buffers are those of a search, which is left out
+/// where the file has too many constraint facts for it.
+pub fn layered(name: &str, file: &[u8], lent: &Buffers) -> Result<Vec<Named>, String> {
+    let title = |what: &str| format!("{name}, by its layers: {what}");
+    let counts = reference::accept(file).map_err(|refusal| format!("{name}: {refusal:?}"))?;
+    let set_in = |fact_marks: &[u8]| fact_marks[..counts.facts].iter().map(in_set).collect();
+    let with = |lent: &[usize], operation: Operation| Case {
+        lent: lent.to_vec(),
+        ..Case::new(operation, file)
+    };
+    let layers = with(&lent.lengths[3..], Operation::Layered);
+    let ordered = layers.expected(|_| lent.fill);
+    if ordered.numbers[0] != 0 {
+        return Err(format!("{name}: the layers are refused with {}", ordered.numbers[0]));
+    }
+    let order = ordered.buffers[0][..RULE_NUMBER_BYTES * counts.exceptions].to_vec();
+    let run = Case { rules: order, ..with(&lent.lengths[..3], Operation::Run) };
+    let end = run.expected(|_| lent.fill);
+    if end.buffers[1][..counts.rules].contains(&SET_ASIDE) {
+        return Err(format!("{name}: the run under its order sets a rule aside"));
+    }
+    let set: Vec<u8> = set_in(&end.buffers[0]);
+    let judge = Case { set: set.clone(), ..with(&[], Operation::Judge) };
+    let stable = Reply { numbers: vec![0, 1], buffers: vec![] };
+    let mut cases = vec![
+        Named::new(title("the order"), layers, lent.fill, ordered)?,
+        Named::new(title("the run under it"), run, lent.fill, end)?,
+        Named::new(title("its end is stable"), judge, 0, stable)?,
+    ];
+    if counts.constraint_facts <= MOST_GUESSED {
+        let search = with(&lent.lengths, Operation::Search);
+        let found = search.expected(|_| lent.fill);
+        if found.numbers[0] != 0 || set_in(&found.buffers[0]) != set {
+            return Err(format!("{name}: the search does not find where the run ends"));
+        }
+        cases.push(Named::new(title("the search"), search, lent.fill, found)?);
+    }
+    Ok(cases)
 }
 
 /// The kept steps, which prove the fact, and all but one of them, which do not:

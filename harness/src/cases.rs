@@ -2,7 +2,7 @@
 //! buffers it is lent, and the reply that the reference gives.
 
 use crate::draft::{Draft, DraftRule};
-use crate::files::{lengthen_rule, random_draft, spoil_file};
+use crate::files::{lengthen_rule, random_draft, random_layers, spoil_file};
 use crate::random::Random;
 use reference::{Counts, Lent, RULE_NUMBER_BYTES, Refusal, STEP_BYTES, kind};
 
@@ -19,10 +19,11 @@ pub enum Operation {
     AskSet,
     AskRow,
     Grounds,
+    Layered,
 }
 
 impl Operation {
-    pub const ALL: [Operation; 11] = [
+    pub const ALL: [Operation; 12] = [
         Operation::Accept,
         Operation::Run,
         Operation::Judge,
@@ -34,6 +35,7 @@ impl Operation {
         Operation::AskSet,
         Operation::AskRow,
         Operation::Grounds,
+        Operation::Layered,
     ];
 
     pub fn name(self) -> &'static str {
@@ -49,6 +51,7 @@ impl Operation {
             Operation::AskSet => "ask_set",
             Operation::AskRow => "ask_row",
             Operation::Grounds => "grounds",
+            Operation::Layered => "layered",
         }
     }
 
@@ -65,6 +68,15 @@ impl Operation {
         matches!(self, Operation::Run | Operation::Search | Operation::Grounds)
     }
 
+    /// Which of its buffers takes an order.
+    pub fn order_buffer(self) -> Option<usize> {
+        match self {
+            Operation::Search => Some(3),
+            Operation::Layered => Some(0),
+            _ => None,
+        }
+    }
+
     /// The refusals that can come from this operation.
     pub fn own_refusals(self) -> Vec<u32> {
         let beyond_file: &[u32] = match self {
@@ -78,6 +90,7 @@ impl Operation {
             Operation::AskSet => &[21, 22],
             Operation::AskRow => &[24, 23],
             Operation::Grounds => &[11, 12, 13, 14, 31, 32, 33, 50],
+            Operation::Layered => &[34, 52],
         };
         (1..=10).chain([51]).chain(beyond_file.iter().copied()).collect()
     }
@@ -91,6 +104,7 @@ impl Operation {
             Operation::Check => &["no", "yes"],
             Operation::Panel => &["buffer short", "text"],
             Operation::Grounds => &["steps left out", "all steps kept"],
+            Operation::Layered => &["no rule named", "ascending order", "another order"],
             _ => &["yes"],
         }
     }
@@ -191,6 +205,7 @@ impl Case {
                     Lent { fact_marks, rule_marks, steps },
                 ))
             }
+            (Operation::Layered, [order]) => count_reply(reference::layered(file, order)),
             _ => unreachable!("a case lends what its operation takes"),
         }
     }
@@ -212,6 +227,11 @@ impl Case {
                 let marks = reply.buffers[0][..facts].iter();
                 let steps = marks.filter(|&&mark| mark == 1).count();
                 Met::Answer(usize::from(numbers[1] as usize == steps))
+            }
+            Operation::Layered => {
+                let named = RULE_NUMBER_BYTES * numbers[1] as usize;
+                let ascending = reply.buffers[0][..named].chunks(RULE_NUMBER_BYTES).is_sorted();
+                Met::Answer(if named == 0 { 0 } else { 1 + usize::from(!ascending) })
             }
             _ => Met::Answer(usize::from(numbers[1] > 0)),
         }
@@ -244,19 +264,24 @@ fn answer_reply(result: Result<(), Refusal>) -> Vec<u32> {
 }
 
 /// The highest refusal number.
-const MOST_REFUSAL: usize = 51;
+const MOST_REFUSAL: usize = 52;
+/// The most answers that an operation has.
+const MOST_ANSWERS: usize = 3;
 const OPERATIONS: usize = Operation::ALL.len();
 
 /// How often each refusal and each answer was met, by operation.
 #[derive(Clone)]
 pub struct Tally {
     refusals: [[u64; MOST_REFUSAL + 1]; OPERATIONS],
-    answers: [[u64; 2]; OPERATIONS],
+    answers: [[u64; MOST_ANSWERS]; OPERATIONS],
 }
 
 impl Default for Tally {
     fn default() -> Tally {
-        Tally { refusals: [[0; MOST_REFUSAL + 1]; OPERATIONS], answers: [[0; 2]; OPERATIONS] }
+        Tally {
+            refusals: [[0; MOST_REFUSAL + 1]; OPERATIONS],
+            answers: [[0; MOST_ANSWERS]; OPERATIONS],
+        }
     }
 }
 
@@ -307,8 +332,12 @@ fn exceptions(draft: &Draft) -> Vec<usize> {
 /// The lengths that the questions 31 to 34 ask for.
 fn needed(operation: Operation, draft: &Draft) -> Vec<usize> {
     let facts = usize::from(draft.facts);
-    let mut lengths = vec![facts, draft.rules.len(), STEP_BYTES * facts];
-    if operation == Operation::Search {
+    let mut lengths = if operation.writes_a_run() {
+        vec![facts, draft.rules.len(), STEP_BYTES * facts]
+    } else {
+        vec![]
+    };
+    if operation.order_buffer().is_some() {
         lengths.push(RULE_NUMBER_BYTES * exceptions(draft).len());
     }
     lengths
@@ -351,9 +380,12 @@ struct Subject {
     file: Vec<u8>,
 }
 
-/// A case of any operation, from its own random numbers.
+/// A case of any operation, from its own random numbers. Most orders by ranks are asked
+/// of files that are made in layers.
 pub fn random_case(random: &mut Random) -> Case {
-    let mut draft = random_draft(random);
+    let chosen = random.below(28);
+    let layers = (23..27).contains(&chosen) && !random.one_in(3);
+    let mut draft = if layers { random_layers(random) } else { random_draft(random) };
     if random.one_in(20) {
         lengthen_rule(random, &mut draft);
     }
@@ -362,13 +394,14 @@ pub fn random_case(random: &mut Random) -> Case {
         spoil_file(random, &mut file);
     }
     let subject = Subject { draft, file };
-    match random.below(24) {
+    match chosen {
         0..2 => Case::new(Operation::Accept, &subject.file),
         2..7 => subject.random_run(random),
         7..11 => subject.random_judge(random),
         11..15 => subject.random_check(random),
         15..19 => subject.random_search(random),
         19..23 => subject.random_grounds(random),
+        23..27 => subject.random_layered(random),
         _ => subject.random_panel(random),
     }
 }
@@ -412,6 +445,12 @@ impl Subject {
         let mut case = search_case(&self.draft, &self.file);
         spoil_lengths(random, &mut case.lent);
         case
+    }
+
+    fn random_layered(&self, random: &mut Random) -> Case {
+        let mut lent = needed(Operation::Layered, &self.draft);
+        spoil_lengths(random, &mut lent);
+        Case { lent, ..Case::new(Operation::Layered, &self.file) }
     }
 
     fn random_panel(&self, random: &mut Random) -> Case {

@@ -1,7 +1,8 @@
-//! The search against the stable models of clingo, where it is installed.
+//! The search and the order by ranks against the stable models of clingo, where it is
+//! installed.
 
 use crate::archive;
-use crate::files::random_draft;
+use crate::files::{random_draft, random_layers};
 use crate::random::Random;
 use reference::{RULE_NUMBER_BYTES, RuleFile, STEP_BYTES};
 use std::collections::BTreeSet;
@@ -12,15 +13,25 @@ use std::process::{Command, Stdio};
 const FILES: usize = 400;
 const MOST_CONSTRAINT_FACTS: usize = 16;
 const MOST_RULES: usize = 100;
+/// At least one file in so many is layered.
+const LAYERED_ONE_IN: u64 = 10;
+/// The mark of a rule that is set aside.
+const SET_ASIDE: u8 = 2;
 
 type Model = BTreeSet<usize>;
 
-/// Compares some hundreds of files. An error names the first difference.
+/// Compares some hundreds of files for the search, and as many layered ones. An error
+/// names the first difference.
 pub fn compare(seed: u64) -> Result<(), String> {
     if !is_installed()? {
         println!("clingo is not on PATH: that comparison is left out");
         return Ok(());
     }
+    compare_searches(seed)?;
+    compare_layers(seed)
+}
+
+fn compare_searches(seed: u64) -> Result<(), String> {
     let mut without = 0;
     let mut compared = 0;
     for stream in 0.. {
@@ -46,6 +57,37 @@ pub fn compare(seed: u64) -> Result<(), String> {
     }
     println!("clingo agrees on {compared} files, {without} of them without a stable set");
     Ok(())
+}
+
+/// A layered file has one stable set, at which the run under the order by ranks ends.
+fn compare_layers(seed: u64) -> Result<(), String> {
+    let mut cyclic = 0;
+    let mut compared = 0;
+    for stream in 0..LAYERED_ONE_IN * FILES as u64 {
+        let random = &mut Random::new(seed ^ 0x1A_7E25, stream);
+        let draft = if random.one_in(4) { random_draft(random) } else { random_layers(random) };
+        let file = draft.bytes();
+        if draft.rules.len() > MOST_RULES {
+            continue;
+        }
+        let Some(end) = archive_end(&file)? else {
+            cyclic += 1;
+            continue;
+        };
+        let parsed = RuleFile::parse(&file).expect("a draft is accepted");
+        let models = stable_models(&program(&parsed))?;
+        if models[..] != [end.clone()] {
+            return Err(format!(
+                "clingo's sets {models:?}, the run ends at {end:?}, file {file:02X?}"
+            ));
+        }
+        compared += 1;
+        if compared == FILES {
+            println!("clingo agrees on {compared} layered files, met with {cyclic} others");
+            return Ok(());
+        }
+    }
+    Err(format!("only {compared} files were layered"))
 }
 
 fn is_installed() -> Result<bool, String> {
@@ -129,4 +171,28 @@ fn archive_set(file: &[u8]) -> Option<Model> {
     let reply = archive::search(file, &mut fact_marks, &mut rule_marks, &mut steps, &mut order);
     let marked = |&fact: &usize| fact_marks[fact] == 1;
     (reply[0] == 0).then(|| (0..counts.facts).filter(marked).collect())
+}
+
+/// Where the archive's run under its order by ranks ends, or none where it says that a
+/// cycle goes through a constraint.
+fn archive_end(file: &[u8]) -> Result<Option<Model>, String> {
+    let counts = reference::accept(file).expect("a draft is accepted");
+    let mut order = vec![0; RULE_NUMBER_BYTES * counts.exceptions];
+    match archive::layered(file, &mut order)[0] {
+        0 => {}
+        52 => return Ok(None),
+        refusal => return Err(format!("the layers are refused with {refusal}, file {file:02X?}")),
+    }
+    let mut fact_marks = vec![0; counts.facts];
+    let mut rule_marks = vec![0; counts.rules];
+    let mut steps = vec![0; STEP_BYTES * counts.facts];
+    let reply = archive::run(file, &order, &mut fact_marks, &mut rule_marks, &mut steps);
+    if reply[0] != 0 || rule_marks.contains(&SET_ASIDE) {
+        return Err(format!(
+            "the run under the order by ranks: reply {reply:?}, rule marks {rule_marks:?}, \
+             file {file:02X?}"
+        ));
+    }
+    let marked = |&fact: &usize| fact_marks[fact] == 1;
+    Ok(Some((0..counts.facts).filter(marked).collect()))
 }

@@ -140,7 +140,8 @@ fn refused_files() -> Vec<Vec<u8>> {
 
 /// One call of each operation, answered where the file is accepted: the run in
 /// ascending order, its last set with the rules set aside judged and its whole
-/// row of steps checked, which both say yes, and the grounds of its last fact.
+/// row of steps checked, which both say yes, the grounds of its last fact, and the order
+/// by ranks, which is refused where a cycle goes through a constraint.
 pub fn all_operations(file: &[u8]) -> Vec<Case> {
     let run = ascending_run(file);
     let reply = run.expected(|_| 0);
@@ -151,7 +152,8 @@ pub fn all_operations(file: &[u8]) -> Vec<Case> {
     let set_aside: Vec<usize> =
         (0..rule_marks.len()).filter(|&rule| rule_marks[rule] == 2).collect();
     let asked = if proof.is_empty() { 0 } else { u32::from(proof[steps - STEP_BYTES + 1]) };
-    let with_order = [&run.lent[..], &[run.rules.len()]].concat();
+    let order_bytes = vec![run.rules.len()];
+    let with_order = [&run.lent[..], &order_bytes].concat();
     let panel_bytes = vec![reference::panel(file).len()];
     let bare = Case { rules: vec![], lent: vec![], ..run.clone() };
     vec![
@@ -165,8 +167,9 @@ pub fn all_operations(file: &[u8]) -> Vec<Case> {
         },
         Case { operation: Operation::Check, set, asked, proof, ..bare.clone() },
         Case { operation: Operation::Search, lent: with_order, ..bare.clone() },
-        Case { operation: Operation::Panel, lent: panel_bytes, ..bare },
+        Case { operation: Operation::Panel, lent: panel_bytes, ..bare.clone() },
         Case { operation: Operation::Grounds, asked, ..run },
+        Case { operation: Operation::Layered, lent: order_bytes, ..bare },
     ]
 }
 
@@ -280,11 +283,55 @@ fn shared_steps() -> Draft {
     )
 }
 
+/// Files with several ranks, with facts that wait for each other, and with cycles
+/// through a constraint, where it is easy to take one for another.
+pub fn layered_examples() -> Vec<Draft> {
+    vec![
+        // Rank after rank, along the numbers and against them.
+        example(5, &[(1, &[], &[0]), (2, &[], &[1]), (3, &[], &[2]), (4, &[], &[3])]),
+        example(5, &[(0, &[], &[1]), (1, &[], &[2]), (2, &[], &[3]), (3, &[], &[4])]),
+        // Two rules of one conclusion, one with a low body.
+        example(4, &[(2, &[], &[0]), (1, &[], &[0]), (2, &[], &[1]), (3, &[1], &[0])]),
+        // A premise asks for no higher rank.
+        example(4, &[(2, &[1], &[3]), (1, &[0], &[3]), (0, &[], &[3])]),
+        // Premises that wait for each other, with rules above them and below.
+        example(5, &[(4, &[], &[1]), (0, &[1], &[]), (1, &[2], &[]), (2, &[0], &[3])]),
+        // The same, with a constraint inside.
+        example(5, &[(4, &[], &[1]), (0, &[1], &[]), (1, &[2], &[]), (2, &[0], &[1])]),
+        // From 0 to 1 and back, then to 2, whose constraint is 1.
+        example(3, &[(0, &[1], &[]), (1, &[0], &[]), (0, &[2], &[]), (2, &[], &[1])]),
+        // The same without the way back from 1.
+        example(3, &[(0, &[1], &[]), (0, &[2], &[]), (2, &[], &[1])]),
+        // Two parts, of which the second has a cycle; and a fact that no other needs.
+        example(4, &[(1, &[], &[0]), (2, &[3], &[]), (3, &[], &[2])]),
+        example(3, &[(1, &[], &[0]), (2, &[], &[2])]),
+        // Premises of itself, and items that stand twice.
+        example(3, &[(0, &[0], &[1]), (1, &[1], &[2, 2]), (2, &[2, 2], &[])]),
+        // Two ranks by turns, so that the rules of one are apart.
+        example(3, &[(2, &[], &[1]), (1, &[], &[0]), (2, &[], &[1, 0]), (1, &[0], &[0])]),
+    ]
+}
+
+/// Orders by ranks in buffers around the needed length.
+fn layered_cases(file: &[u8]) -> Vec<Case> {
+    let right = call_of(Operation::Layered, file);
+    let needed = right.lent[0];
+    let lengths = [0, needed.saturating_sub(3), needed.saturating_sub(1), needed, needed + 2];
+    lengths.map(|length| Case { lent: vec![length], ..right.clone() }).to_vec()
+}
+
 /// Every choice of buffers one byte too short, each buffer one byte longer, and
 /// all buffers empty.
 fn buffer_cases(file: &[u8]) -> Vec<Case> {
+    let operations = [
+        Operation::Run,
+        Operation::Search,
+        Operation::Panel,
+        Operation::Grounds,
+        Operation::Layered,
+    ];
     let mut cases = Vec::new();
-    for operation in [Operation::Run, Operation::Search, Operation::Panel, Operation::Grounds] {
+    for operation in operations {
         let right = call_of(operation, file);
         let buffers = right.lent.len();
         for chosen in 1..1 << buffers {
@@ -316,6 +363,9 @@ pub fn directed_cases() -> Vec<Case> {
         cases.extend(grounds_cases(file));
     }
     cases.extend(grounds_cases(&shared_steps().bytes()));
+    for draft in layered_examples() {
+        cases.extend(layered_cases(&draft.bytes()));
+    }
     for file in refused_files() {
         cases.extend(all_operations(&file));
     }

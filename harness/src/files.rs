@@ -100,6 +100,36 @@ fn stacked(random: &mut Random) -> Draft {
     finish(random, draft)
 }
 
+/// Facts in levels, and rules with premises of their conclusion's level or lower ones
+/// and constraints of lower ones, so that the file is layered; within a level facts
+/// often wait for each other. At times a rule goes against the levels, which mostly
+/// closes a cycle.
+pub fn random_layers(random: &mut Random) -> Draft {
+    let facts = if random.one_in(200) { random.within(40, 255) } else { random.within(1, 12) };
+    let levels = random.within(1, facts);
+    let level_of = |fact: usize| fact * levels / facts;
+    let first_of = |level: usize| (level * facts).div_ceil(levels);
+    let mut draft = Draft::new(facts);
+    for _ in 0..random.within(1, 250.min(2 * facts)) {
+        let conclusion = random.below(facts);
+        let level = level_of(conclusion);
+        let premises = some_facts(random, first_of(level + 1), 2);
+        let constraints = if level == 0 { vec![] } else { some_facts(random, first_of(level), 2) };
+        draft.rule(conclusion, &premises, &constraints);
+    }
+    if random.one_in(2) {
+        let level = random.below(levels);
+        let together: Vec<usize> = (first_of(level)..first_of(level + 1)).collect();
+        chain(&mut draft, &together);
+        draft.rule(together[0], &[together[together.len() - 1]], &[]);
+    }
+    if random.one_in(4) {
+        let premises = some_facts(random, facts, 1);
+        draft.rule(random.below(facts), &premises, &[random.below(facts)]);
+    }
+    finish(random, draft)
+}
+
 /// Rules that are as long as they may be, or a little shorter. Their premises are
 /// mostly given and their constraints are facts that such rules conclude, so that
 /// some of the rules exclude others.

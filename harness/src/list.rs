@@ -17,13 +17,13 @@
 //!   but these: it stands in the place of `??`, in the name too;
 //! - `caller <name> | file <file> | lent ..` is a row of cases (see `caller.rs`), and
 //!   with `refused <number>` only the search that refuses; with `order <order>` it is
-//!   those of grounds.
+//!   those of grounds, and with `layered` those of an order by ranks.
 //!
 //! Inputs are the fields `file`, `order`, `list`, `set`, `asked`, `row` and, for
 //! other buffers than before, `lent`. What is expected is `refused <number>`, with
-//! every count 0 and every buffer as it was; or the counts, as `1 stages, 2 steps`
-//! or `2 kept`, or a verdict; and the buffers that are written: `facts`, `rules`,
-//! `steps`, `order`, `text`, each from its start, and past that as it was.
+//! every count 0 and every buffer as it was; or the counts, as `1 stages, 2 steps`,
+//! `2 kept` or `2 named`, or a verdict; and the buffers that are written: `facts`,
+//! `rules`, `steps`, `order`, `text`, each from its start, and past that as it was.
 //!
 //! The reference must agree with everything that is expected.
 
@@ -119,8 +119,10 @@ impl List {
         let mut fields = text.split('|').map(str::trim);
         let name = fields.next().unwrap_or_default();
         let (mut bytes, mut buffers, mut refused, mut order) = (None, None, None, None);
+        let mut layered = false;
         for field in fields {
             match field.split_once(' ') {
+                None if field == "layered" => layered = true,
                 Some(("file", text)) => bytes = Some(file(text, &self.files)?),
                 Some(("lent", text)) => buffers = Some(lent(text)?),
                 Some(("refused", text)) => refused = Some(number(text)?),
@@ -132,6 +134,7 @@ impl List {
         let lent = |word: &str| buffers.unwrap_or_else(|| self.lent_to(word));
         match order {
             Some(order) => caller::grounds(name, &bytes, &order, &lent("grounds")),
+            None if layered => caller::layered(name, &bytes, &lent("search")),
             None => caller::cases(name, &bytes, &lent("search"), refused),
         }
     }
@@ -191,6 +194,7 @@ impl List {
                 Operation::AskSet => "| set 2",
                 Operation::AskRow => "| asked 4294967295 | row hex 06",
                 Operation::Grounds => "| order hex 05 | asked 4294967295 | lent 1 1 1 of 9",
+                Operation::Layered => "| lent 1 of 9",
             };
             let expected = match operation {
                 Operation::Panel => refused.replace("refused", "text E"),
@@ -272,7 +276,9 @@ struct CaseDraft {
 impl CaseDraft {
     fn new(operation: Operation, lent: Buffers) -> CaseDraft {
         let missing: &[&str] = match operation {
-            Operation::Accept | Operation::Search | Operation::Panel => &["file"],
+            Operation::Accept | Operation::Search | Operation::Panel | Operation::Layered => {
+                &["file"]
+            }
             Operation::Run | Operation::AskOrder => &["file", "order"],
             Operation::Judge => &["file", "list", "set"],
             Operation::Check => &["file", "set", "asked", "row"],
@@ -333,6 +339,7 @@ impl CaseDraft {
             (writes, "rules") if writes.writes_a_run() => self.wrote(1, bytes(text)?),
             (writes, "steps") if writes.writes_a_run() => self.wrote(2, steps(text)?),
             (Operation::Search, "order") => self.wrote(3, rule_numbers(text)?),
+            (Operation::Layered, "order") => self.wrote(0, rule_numbers(text)?),
             (Operation::Panel, "text") => {
                 let text = lines(text);
                 self.reply(vec![text.len() as u32])?;
@@ -356,6 +363,7 @@ impl CaseDraft {
                 self.reply([vec![0], counted(field, &["stages", "steps"])?].concat())
             }
             (Operation::Grounds, _) => self.reply([vec![0], counted(field, &["kept"])?].concat()),
+            (Operation::Layered, _) => self.reply([vec![0], counted(field, &["named"])?].concat()),
             _ => Ok(false),
         }
     }
@@ -364,7 +372,7 @@ impl CaseDraft {
         match self.case.operation {
             Operation::Accept => 6,
             Operation::Run | Operation::Search => 3,
-            Operation::Judge | Operation::Check | Operation::Grounds => 2,
+            Operation::Judge | Operation::Check | Operation::Grounds | Operation::Layered => 2,
             _ => 1,
         }
     }

@@ -2,6 +2,7 @@
 
 use crate::draft::{Draft, DraftRule, stairs};
 use crate::large;
+use crate::layers;
 use reference::kind;
 use std::collections::BTreeMap;
 use std::str::FromStr;
@@ -176,6 +177,9 @@ fn file_part(part: &str, named: &BTreeMap<String, Vec<u8>>) -> Bytes {
         ["words"] => large::words(),
         ["full", ..] => full(part)?,
         ["stairs", facts, premises] => stairs(number(facts)?, number(premises)?),
+        ["layers", rules, items, ref name @ ..] => {
+            layered(&name.join(" "), number(rules)?, number(items)?)?
+        }
         _ => return Err(format!("not a file: {part:?}")),
     };
     Ok(draft.bytes())
@@ -186,6 +190,13 @@ fn full(part: &str) -> Result<Draft, String> {
     let full = large::FULL.iter().find(|(name, _)| *name == part);
     let (_, premises) = full.ok_or_else(|| format!("not a file: {part:?}"))?;
     Ok(large::full(*premises))
+}
+
+/// A file of `layers.rs` by its name: `layers 254 1 ladder up`, of 254 rules with 1 item.
+fn layered(name: &str, rules: usize, items: usize) -> Result<Draft, String> {
+    let file = layers::FILES.iter().find(|(other, _)| *other == name);
+    let (_, file) = file.ok_or_else(|| format!("not a file of layers: {name:?}"))?;
+    Ok(file(rules, items))
 }
 
 /// What follows the count of facts: `; 0<; 1<0,!2`.

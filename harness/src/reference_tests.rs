@@ -81,6 +81,22 @@ fn grounds_of(file: &[u8], order: &[usize], fact: u32) -> Result<Written, Refusa
     })
 }
 
+/// The reply, and the buffer after the call.
+fn layered_in(file: &[u8], lent: usize) -> (Result<usize, Refusal>, Vec<u8>) {
+    let mut order = vec![9; lent];
+    (layered(file, &mut order), order)
+}
+
+/// The order, in a buffer that just takes it.
+fn layered_of(file: &[u8]) -> Result<Vec<u8>, Refusal> {
+    let exceptions = accept(file)?.exceptions;
+    let (reply, order) = layered_in(file, RULE_NUMBER_BYTES * exceptions);
+    reply.map(|count| {
+        assert_eq!(count, exceptions);
+        order
+    })
+}
+
 fn step(fact: usize, rule: usize) -> Step {
     Step { fact, rule }
 }
@@ -240,6 +256,7 @@ fn every_operation_asks_the_cap_and_leaves_its_buffers() {
     assert_eq!(found, Err(no));
     let kept = grounds(&file, &[], 0, Lent { fact_marks, rule_marks, steps });
     assert_eq!(kept, Err(no));
+    assert_eq!(layered(&file, order), Err(no));
     assert!(lent.iter().flatten().all(|&byte| byte == 9));
     assert_eq!(judge(&file, &[], &[0; 3]), Err(no));
     assert_eq!(check(&file, &[0; 3], 0, &[]), Err(no));
@@ -361,6 +378,74 @@ fn words_that_name_a_fact_and_words_that_do_not() {
     assert_eq!(fact_in_words(&[b"1", b""]), None);
 }
 
+#[test]
+fn layers_of_the_examples() {
+    assert_eq!(layered_of(&example_a()), Err(Refusal::NotLayered));
+    assert_eq!(layered_of(&file_of(1, &[(0, &[], &[0])])), Err(Refusal::NotLayered));
+    assert_eq!(layered_of(&example_c()), Ok(order_of(&[1, 0])));
+    let d = file_of(2, &[(1, &[0], &[]), (0, &[], &[1])]);
+    assert_eq!(layered_of(&d), Err(Refusal::NotLayered));
+    assert_eq!(layered_of(&file_of(0, &[])), Ok(vec![]));
+    assert_eq!(layered_of(&file_of(1, &[(0, &[0], &[])])), Ok(vec![]));
+}
+
+#[test]
+fn cycles_of_premises_alone_are_no_cycles() {
+    // 0, 1 and 2 rest on each other and above 3; 4 is above them.
+    let rules: [PlainRule; 5] =
+        [(4, &[], &[1]), (0, &[1], &[]), (1, &[2], &[]), (2, &[0], &[3]), (0, &[3], &[5])];
+    assert_eq!(layered_of(&file_of(6, &rules)), Ok(order_of(&[3, 4, 0])));
+    for constraint in 0..3 {
+        let within: PlainRule = (0, &[], &[constraint]);
+        let file = file_of(6, &[&rules[..], &[within]].concat());
+        assert_eq!(layered_of(&file), Err(Refusal::NotLayered));
+    }
+}
+
+#[test]
+fn a_constraint_across_two_branches_closes_a_cycle() {
+    // From 0 a walk comes to 1 and back, then to 2, whose constraint is 1.
+    let rules: [PlainRule; 4] = [(0, &[1], &[]), (1, &[0], &[]), (0, &[2], &[]), (2, &[], &[1])];
+    assert_eq!(layered_of(&file_of(3, &rules)), Err(Refusal::NotLayered));
+    assert_eq!(layered_of(&file_of(3, &rules[1..])), Err(Refusal::NotLayered));
+    assert_eq!(layered_of(&file_of(3, &[rules[0], rules[2], rules[3]])), Ok(order_of(&[2])));
+}
+
+#[test]
+fn the_rank_of_a_rule_is_that_of_its_conclusion() {
+    // 2 is above 1 by another rule of its own; the body of rule 0 is as low as 1's.
+    let file = file_of(4, &[(2, &[], &[0]), (1, &[], &[0]), (2, &[], &[1])]);
+    assert_eq!(layered_of(&file), Ok(order_of(&[1, 0, 2])));
+}
+
+#[test]
+fn layers_keep_the_bytes_past_them_and_all_bytes_on_a_refusal() {
+    let c = example_c();
+    assert_eq!(layered_in(&c, 6), (Ok(2), order_of(&[1, 0])));
+    assert_eq!(layered_in(&c, 8), (Ok(2), [order_of(&[1, 0]), vec![9; 2]].concat()));
+    assert_eq!(layered_in(&c, 5), (Err(Refusal::OrderShort), vec![9; 5]));
+    assert_eq!(layered_in(&c, 0), (Err(Refusal::OrderShort), vec![]));
+    assert_eq!(layered_in(&example_a(), 6), (Err(Refusal::NotLayered), vec![9; 6]));
+    assert_eq!(layered_in(&example_a(), 5), (Err(Refusal::OrderShort), vec![9; 5]));
+    assert_eq!(layered_in(&[], 0), (Err(Refusal::NoFactCount), vec![]));
+    assert_eq!(layered_in(&file_of(1, &[]), 2), (Ok(0), vec![9; 2]));
+}
+
+#[test]
+fn as_many_ranks_as_facts() {
+    let constraints: Vec<[usize; 1]> = (0..255).map(|fact| [fact]).collect();
+    let up: Vec<PlainRule> =
+        (1..255).map(|fact| (fact, &[][..], &constraints[fact - 1][..])).collect();
+    let down: Vec<PlainRule> =
+        (0..254).map(|fact| (fact, &[][..], &constraints[fact + 1][..])).collect();
+    let ascending: Vec<usize> = (0..254).collect();
+    let descending: Vec<usize> = (0..254).rev().collect();
+    assert_eq!(layered_of(&file_of(255, &up)), Ok(order_of(&ascending)));
+    assert_eq!(layered_of(&file_of(255, &down)), Ok(order_of(&descending)));
+    let ring = [&up[..], &[(0, &[254], &[])]].concat();
+    assert_eq!(layered_of(&file_of(255, &ring)), Err(Refusal::NotLayered));
+}
+
 /// The definitions, without any care for time.
 mod naive {
     use super::super::{FactSet, RuleFile, Step};
@@ -416,6 +501,47 @@ mod naive {
             && rule.premises.is_within(&end.derived)
             && !closure.meets(&rule.constraints)
             && !closure.meets(&end.ruled_out)
+    }
+
+    /// The least ranks, raised from 0 for as long as a rule asks for more. Each is
+    /// below the count of facts where there are such ranks.
+    pub fn ranks(file: &RuleFile) -> Option<Vec<usize>> {
+        let mut ranks = vec![0; file.facts];
+        loop {
+            let before = ranks.clone();
+            for rule in &file.rules {
+                let at_least = rule.premises.iter().map(|premise| ranks[premise]);
+                let above = rule.constraints.iter().map(|constraint| ranks[constraint] + 1);
+                let asked = at_least.chain(above).max().unwrap_or(0);
+                ranks[rule.conclusion] = ranks[rule.conclusion].max(asked);
+            }
+            if ranks == before {
+                return Some(ranks);
+            }
+            if ranks.iter().any(|&rank| rank > file.facts) {
+                return None;
+            }
+        }
+    }
+
+    /// A row of dependencies, one of them by a constraint, ends where it began: from
+    /// that constraint some row leads back to the conclusion.
+    pub fn has_cycle_through_a_constraint(file: &RuleFile) -> bool {
+        let leads_back = |constraint: usize, conclusion: usize| {
+            let mut reached: FactSet = [constraint].into_iter().collect();
+            loop {
+                let before = reached;
+                for rule in file.rules.iter().filter(|rule| before.contains(rule.conclusion)) {
+                    reached = reached.union(&rule.premises).union(&rule.constraints);
+                }
+                if reached == before {
+                    return reached.contains(conclusion);
+                }
+            }
+        };
+        file.rules.iter().any(|rule| {
+            rule.constraints.iter().any(|constraint| leads_back(constraint, rule.conclusion))
+        })
     }
 
     /// The least set of step numbers that has the fact's own step and, with a
@@ -545,6 +671,86 @@ fn the_grounds_are_a_proof_and_no_part_of_its_rules_gives_one() {
             assert!(!run.network.least_set(&others).contains(fact));
         }
     });
+}
+
+/// Each fact has a level, and its rules have no premise of a higher level and no
+/// constraint of its own level or a higher one.
+fn random_levels(random: &mut Random) -> RuleFile {
+    let facts = random.within(1, 8);
+    let width = random.within(1, 2);
+    let mut levels: Vec<usize> = (0..facts).map(|fact| fact / width).collect();
+    random.shuffle(&mut levels);
+    let some = |random: &mut Random, most: usize, below: usize| -> FactSet {
+        let lower: Vec<usize> = (0..facts).filter(|&fact| levels[fact] < below).collect();
+        let count = if lower.is_empty() { 0 } else { random.below(most + 1) };
+        (0..count).map(|_| lower[random.below(lower.len())]).collect()
+    };
+    let rule = |random: &mut Random| {
+        let conclusion = random.below(facts);
+        let level = levels[conclusion];
+        let premises = some(random, 1, level + 1);
+        Rule { conclusion, premises, constraints: some(random, 3, level) }
+    };
+    let rules = (0..random.within(1, 14)).map(|_| rule(random)).collect();
+    RuleFile { facts, rules }
+}
+
+#[test]
+fn the_ranks_agree_with_plain_iteration() {
+    let (mut cyclic, mut high) = (0, 0);
+    for stream in 0..20_000 {
+        let random = &mut Random::new(7, stream);
+        let file = if random.one_in(2) { random_file(random) } else { random_levels(random) };
+        let ranks = naive::ranks(&file);
+        assert_eq!(ranks.is_none(), naive::has_cycle_through_a_constraint(&file));
+        let found = Layers::ranks(&file).ok();
+        let found = found.map(|ranks| ranks.into_iter().map(usize::from).collect::<Vec<_>>());
+        assert_eq!(found, ranks);
+        cyclic += usize::from(ranks.is_none());
+        high += usize::from(ranks.is_some_and(|ranks| ranks.into_iter().max() > Some(2)));
+    }
+    assert!(cyclic > 1_000 && high > 500, "{cyclic} cyclic, {high} high");
+}
+
+#[test]
+fn the_order_by_rank_names_each_exception_rule_in_its_place() {
+    let mut rearranged = 0;
+    for stream in 0..20_000 {
+        let file = random_levels(&mut Random::new(8, stream));
+        let ranks = naive::ranks(&file).expect("the levels are ranks");
+        let order = order_by_rank(&file, &Layers::ranks(&file).expect("there are ranks"));
+        let ascending: Vec<usize> = file.exceptions().collect();
+        let mut named = order.clone();
+        named.sort_unstable();
+        assert_eq!(named, ascending);
+        let keys = order.iter().map(|&number| (ranks[file.rules[number].conclusion], number));
+        assert!(keys.is_sorted());
+        rearranged += usize::from(order != ascending);
+    }
+    assert!(rearranged > 1_000, "{rearranged} rearranged");
+}
+
+/// Every set of facts.
+fn all_sets(facts: usize) -> impl Iterator<Item = FactSet> {
+    (0..1 << facts).map(move |set: usize| (0..facts).filter(|fact| set >> fact & 1 == 1).collect())
+}
+
+#[test]
+fn under_the_order_by_rank_nothing_is_set_aside_and_one_set_is_stable() {
+    let (mut layered, mut stages) = (0, 0);
+    for stream in 0..4_000 {
+        let random = &mut Random::new(9, stream);
+        let file = if random.one_in(3) { random_file(random) } else { random_levels(random) };
+        let Ok(ranks) = Layers::ranks(&file) else { continue };
+        let run = Run::to_end(&file, &order_by_rank(&file, &ranks));
+        assert!((0..file.rules.len()).all(|number| run.rule_mark(number) != 2));
+        let is_stable = |set: &FactSet| file.is_stable(&RuleSet::EMPTY, set);
+        let stable: Vec<FactSet> = all_sets(file.facts).filter(is_stable).collect();
+        assert_eq!(stable, [run.derived.facts]);
+        layered += 1;
+        stages += run.counts().stages;
+    }
+    assert!(layered > 2_000 && stages > 1_000, "{layered} layered, {stages} stages");
 }
 
 #[test]

@@ -102,6 +102,14 @@ fn without_rules(case: &Case, rules: &[Range<usize>], cut: Range<usize>) -> Case
     if case.operation.writes_a_run() {
         smaller.lent[1] = smaller.lent[1].saturating_sub(cut.len());
     }
+    if let Some(buffer) = case.operation.order_buffer() {
+        let is_exception = |rule: &Range<usize>| {
+            case.file[rule.clone()].chunks(2).any(|item| item[0] == kind::CONSTRAINT)
+        };
+        let exceptions = rules[cut].iter().filter(|rule| is_exception(rule)).count();
+        let less = RULE_NUMBER_BYTES * exceptions;
+        smaller.lent[buffer] = smaller.lent[buffer].saturating_sub(less);
+    }
     smaller
 }
 

@@ -21,15 +21,16 @@ use Rattle.proofcheck.specs.declared.answer.Checked.the-variants.{Yes, No}
 use Rattle.proofcheck.specs.Checked.{checked}
 use Rattle.proofcheck.specs.Checked as checking
 use Rattle.search.specs.Outcome.{searchOutcome, searchWritten}
+use Rattle.layers.specs.Outcome.{layeredOutcome, orderedBy}
 use Rattle.panel_lines.specs.Text.{panelText}
 use Rattle.panel_text.proofs.RefusalText.{panel-refusal}
 use Rattle.grounds_text.specs.Text.{groundsText}
 use Rattle.grounds_text.proofs.RefusalTold.{grounds-refusal}
-use Rattle.retention.specs.Reply.{fileOf, countsOfRan, countsOfSearched, verdictOfJudged, verdictOfChecked, runReply, searchReply, countOfGrounds, groundsReply}
+use Rattle.retention.specs.Reply.{fileOf, countsOfRan, countsOfSearched, verdictOfJudged, verdictOfChecked, runReply, searchReply, countOfGrounds, groundsReply, countOfLayered, layeredReply}
 use Rattle.demands.specs.Demands.{Demand1}
-use Rattle.demands.specs.Calls.{RefusesExactly, listNumbers, orderNumbers, setNumbers, rowNumbers, acceptCall, askCall, askListCall, askOrderCall, askSetCall, askRowCall, runCall, groundsCall, judgeCall, checkCall, searchCall, textCall, retentionAcceptCall, retentionRunCall, retentionGroundsCall, retentionJudgeCall, retentionCheckCall, retentionSearchCall}
+use Rattle.demands.specs.Calls.{RefusesExactly, listNumbers, orderNumbers, setNumbers, rowNumbers, acceptCall, askCall, askListCall, askOrderCall, askSetCall, askRowCall, runCall, groundsCall, judgeCall, checkCall, searchCall, layeredCall, textCall, retentionAcceptCall, retentionRunCall, retentionGroundsCall, retentionJudgeCall, retentionCheckCall, retentionSearchCall, retentionLayeredCall}
 use Rattle.demands.proofs.RefusesExactly.{Own, refuses-exactly}
-use Rattle.demands.proofs.OwnNumbers.{file-own, after-file, list-own, order-own, set-own, row-own, run-own, grounds-own, judge-own, check-own, search-own}
+use Rattle.demands.proofs.OwnNumbers.{file-own, after-file, list-own, order-own, set-own, row-own, run-own, grounds-own, judge-own, check-own, search-own, layered-own}
 use Rattle.demands.proofs.CursorNext.{next-exactly, next-stays}
 
 pub accept-exactly : (file : List ℕ) → RefusesExactly (acceptCall file)
@@ -126,6 +127,16 @@ search-exactly file facts rules steps order =
       first-no = λ r h. rw (h, searchOutcome);
     })
 
+pub layered-exactly : (file order : List ℕ) → RefusesExactly (layeredCall file order)
+unfolding layeredOutcome orderedBy
+layered-exactly file order =
+    refuses-exactly 1 (layeredCall file order)
+    (record {
+      own-numbers = layered-own file (length order);
+      all-yes = λ h. rw (h, layeredOutcome);
+      first-no = λ r h. rw (h, layeredOutcome);
+    })
+
 -- nothing is asked
 pub text-exactly : (text out : List ℕ) → RefusesExactly (textCall text out)
 text-exactly text out =
@@ -159,6 +170,10 @@ pub retention-search-exactly : (file facts rules steps order : List ℕ) → Ref
 unfolding searchReply countsOfSearched
 retention-search-exactly = search-exactly
 
+pub retention-layered-exactly : (file order : List ℕ) → RefusesExactly (retentionLayeredCall file order)
+unfolding layeredReply countOfLayered
+retention-layered-exactly = layered-exactly
+
 -- Demand 1.
 pub every-call : Demand1
 every-call =
@@ -175,6 +190,7 @@ every-call =
       judge = judge-exactly;
       check = check-exactly;
       search = search-exactly;
+      layered = layered-exactly;
       render = λ file. text-exactly (panelText file);
       render-grounds = λ file fact. text-exactly (groundsText file fact);
       retention-accept = retention-accept-exactly;
@@ -183,6 +199,7 @@ every-call =
       retention-judge = retention-judge-exactly;
       retention-check = retention-check-exactly;
       retention-search = retention-search-exactly;
+      retention-layered = retention-layered-exactly;
       retention-panel = λ file. text-exactly (panelText file);
       panel-text = panel-refusal;
       grounds-text = grounds-refusal;

@@ -1,50 +1,23 @@
 -- For every stable set of an accepted file, the order that names first the exception rules with premises in the set and no constraint in it
 -- leads to the set.
-use Prim.Native.Nat.{ℕ, _<_}
-use native.Mathlib.Omega.{arith}
-use native.Mathlib.Decide.{decLt}
-use mathlib.Core.Path.{_≡_, refl, sym, _∙_, ap, fun-ext, subst}
-use mathlib.Core.Bool.{true, false}
-use mathlib.Core.List.{List, _++_}
+use Prim.Native.Nat.{ℕ}
+use mathlib.Core.Path.{_≡_}
+use mathlib.Core.List.{List}
 use mathlib.Core.Option.{Option, none}
 use lib.ListN.{length}
-use lib.Dec.{eqb}
-use Rattle.theory.specs.Rule.{howMany, Program, FactSet, inForce, count, exception, Step}
-use Rattle.theory.specs.Run.{Stand, run}
-use Rattle.theory.specs.Stable.{Stable, Within, Proof, Admits, rowTo, orderFor}
-use Rattle.theory.proofs.Bools.{never}
-use Rattle.theory.proofs.Search.{order-once, order-only}
-use Rattle.theory.proofs.Order.{order-reaches, order-none-aside}
-use Rattle.theory.proofs.Rows.{run-proof, run-admits}
-use Rattle.theory.proofs.Stable.{stable-within, outside-no-proof}
+use Rattle.theory.specs.Rule.{Program, FactSet, inForce}
+use Rattle.theory.specs.Run.{run}
+use Rattle.theory.specs.Stable.{Stable, rowTo, orderFor}
+use Rattle.theory.proofs.Search.{order-once, order-only, order-length}
+use Rattle.theory.proofs.Order.{order-reaches}
 use Rattle.items.specs.declared.refusal.Refusal.{Refusal}
-use Rattle.reader.specs.Questions.{programOf, fileQuestions, fileNo}
-use Rattle.reader.proofs.Accepted.{accepted-file, bounded}
-use Rattle.items.proofs.FirstNo.{all-yes}
 use Rattle.items.specs.Item.{narrow}
-use Rattle.questions.specs.Questions.{orderQuestions, rowOf, bufferQuestions, runQuestions, buffersNo, runNo, naming, runOf}
-use Rattle.questions.proofs.Orders.{naming-names}
+use Rattle.reader.specs.Questions.{programOf, fileNo, exceptions}
+use Rattle.questions.specs.Questions.{rowOf, buffersNo, naming}
 use Rattle.closure.specs.Steps.{stepBytes}
-use Rattle.run.specs.Outcome.{RunOutcome, runWritten, runOutcome}
-use Rattle.run.specs.Outcome as running
-use Rattle.run.proofs.ReadSteps.{steps-read}
-use Rattle.proofcheck.specs.declared.answer.Checked.{Checked}
-use Rattle.proofcheck.specs.declared.answer.Checked.the-variants as checking
-use Rattle.proofcheck.specs.Checked.{checked}
-use Rattle.proofcheck.specs.Checked as check
-use Rattle.proofcheck.proofs.Meaning.{checked-means}
-use Rattle.orders.proofs.OrderGroups.{order-width}
-use Rattle.search.proofs.RunUnder.{search-order-yes}
-use Rattle.demands.specs.Results.{setBytes, RowsProve, rowUpTo, EndsAt, LeadsTo}
-use Rattle.demands.proofs.RowChecked.{set-is, row-checked}
-use Rattle.demands.proofs.Outcomes.{run-written}
-use Rattle.demands.proofs.RunIs.{derived-is, aside-is, trace-is, row-is}
-
--- a verdict that is not yes is 0
-not-yes : (a : Checked) → (check.number a ≡ 0 → check.verdict a ≡ 1 → ⊥) → check.verdict a ≡ 0
-not-yes checking.Yes n = absurd (n refl refl)
-not-yes checking.No n = refl
-not-yes (checking.Refused r) n = refl
+use Rattle.run.specs.Outcome.{runWritten, runOutcome}
+use Rattle.demands.specs.Results.{RowsProve, LeadsTo}
+use Rattle.demands.proofs.OrderLeads as leading
 
 module _ (file : List ℕ) (accepted : _≡_ {A = Option Refusal} (fileNo file) none) (M : FactSet) (stable : Stable (programOf file) (inForce (programOf file)) M) where
   abbrev P : Program
@@ -53,95 +26,22 @@ module _ (file : List ℕ) (accepted : _≡_ {A = Option Refusal} (fileNo file) 
   abbrev row : List ℕ
   row = orderFor P (inForce P) M
 
-  abbrev s : Stand
-  s = run P (inForce P) row
+  names : leading.NamesOnce P row
+  unfolding exceptions
+  names = record { once = order-once P (inForce P) M; only = order-only P (inForce P) M; long = order-length P (inForce P) M }
 
-  pub reaches : s .derived ≡ M
-  reaches = fun-ext (order-reaches P (inForce P) M stable)
+  pub reaches : run P (inForce P) row .derived ≡ M
+  reaches = leading.reached file accepted M stable row names (order-reaches P (inForce P) M stable)
 
-  -- The set as bytes.
-  within : Within P M
-  within = stable-within P (inForce P) M (bounded (accepted-file file accepted)) stable
-
-  known : (f : ℕ) → M f ≡ true → f < P .facts
-  known f m = go (decLt f (P .facts))
-    where
-      go : Dec (f < P .facts) → f < P .facts
-      go (yes l) = l
-      go (no n) = never m (within f (omega arith))
-
-  -- The rows up to each fact's own step, wherever they are written.
-  module _ (rows : ℕ → List ℕ) (rows-are : (f : ℕ) → rows f ≡ stepBytes narrow (rowTo f (s .trace))) where
-    pub rows-read : (f : ℕ) → rowOf (rows f) ≡ rowTo f (s .trace)
-    rows-read f = ap rowOf (rows-are f) ∙ steps-read (rowTo f (s .trace))
-
-    proves : (f : ℕ) → M f ≡ true → Proof P (inForce P) (rowOf (rows f)) f
-    proves f m = rw (rows-read f) (run-proof P (inForce P) row f (ap (λ (X : FactSet). X f) reaches ∙ m))
-
-    admits : (f : ℕ) → Admits P M (rowOf (rows f))
-    admits f = rw (rows-read f) (subst (λ (X : FactSet). Admits P X (rowTo f (s .trace))) reaches (run-admits P (inForce P) row f))
-
-    yes-said : (f : ℕ) → M f ≡ true → checked file (setBytes file M) f (rows f) ≡ checking.Yes
-    yes-said f m =
-        ap (checked file (setBytes file M) f) (rows-are f)
-        ∙ row-checked file accepted M within f (known f m) (rowTo f (s .trace)) (rw (rows-read f) at (proves f m)) (rw (rows-read f) at (admits f))
+  module _ (rows : ℕ → List ℕ) (rows-are : (f : ℕ) → rows f ≡ stepBytes narrow (rowTo f (run P (inForce P) row .trace))) where
+    pub rows-read : (f : ℕ) → rowOf (rows f) ≡ rowTo f (run P (inForce P) row .trace)
+    rows-read = leading.rows-read file accepted M stable row names (order-reaches P (inForce P) M stable) rows rows-are
 
     pub rows-prove : RowsProve file M rows
-    rows-prove = record { proves = proves; admitted = λ f _. admits f; says-yes = yes-said }
+    rows-prove = leading.rows-prove file accepted M stable row names (order-reaches P (inForce P) M stable) rows rows-are
 
-  -- The run under the order.
-  module _ (facts rules steps : List ℕ) (fit : _≡_ {A = Option Refusal} (buffersNo narrow P (length facts) (length rules) (length steps)) none) where
-    may-run : _≡_ {A = Option Refusal} (runNo file (naming row) (length facts) (length rules) (length steps)) none
-    unfolding runQuestions
-    may-run =
-        all-yes (fileQuestions file) (orderQuestions (exception P) (count P) (naming row) ++ bufferQuestions narrow P (length facts) (length rules) (length steps)) accepted
-        (all-yes (orderQuestions (exception P) (count P) (naming row)) (bufferQuestions narrow P (length facts) (length rules) (length steps)) (search-order-yes P M) fit)
-
-    pub ran-under : runOf file (naming row) ≡ s
-    ran-under = ap (run P (inForce P)) (naming-names row)
-
-    abbrev o : RunOutcome
-    o = runOutcome file (naming row) facts rules steps
-
-    pub ran : o ≡ runWritten P s facts rules steps
-    ran =
-        run-written file (naming row) facts rules steps may-run
-        ∙ ap (λ (t : Stand). runWritten P t facts rules steps) ran-under
-
-    row-there : (f : ℕ) → rowUpTo f o ≡ stepBytes narrow (rowTo f (s .trace))
-    row-there f =
-        row-is file (naming row) facts rules steps may-run f
-        ∙ ap (λ (t : Stand). stepBytes narrow (rowTo f (t .trace))) ran-under
-
-    ends : EndsAt file M o
-    unfolding runWritten
-    ends =
-        record {
-          number = ap (λ (x : RunOutcome). running.number (x .answer)) ran;
-          ends-there = derived-is file (naming row) facts rules steps may-run ∙ (ap (λ (t : Stand). t .derived) ran-under ∙ reaches);
-          none-aside = λ i. rw (aside-is file (naming row) facts rules steps may-run, ran-under) (order-none-aside P (inForce P) M stable i);
-          rows-are = λ f. rows-read (λ g. rowUpTo g o) row-there f ∙ ap (rowTo f) (sym (trace-is file (naming row) facts rules steps may-run ∙ ap (λ (t : Stand). t .trace) ran-under));
-          rows-prove = rows-prove (λ g. rowUpTo g o) row-there;
-        }
-
-  outside : (f : ℕ) → M f ≡ false → (taken : List Step) → Proof P (inForce P) taken f → Admits P M taken → ⊥
-  outside f out taken p a = outside-no-proof P (inForce P) M f stable out taken p a
-
-  no-said : (f : ℕ) → M f ≡ false → (bytes : List ℕ) → check.verdict (checked file (setBytes file M) f bytes) ≡ 0
-  no-said f out bytes =
-      not-yes (checked file (setBytes file M) f bytes)
-      (λ n v.
-      let t = checked-means file (setBytes file M) f bytes .yes-exactly n .0 v in
-      outside f out (rowOf bytes) (t .0) (rw (set-is file accepted M within) at (t .1)))
+  pub ran : (facts rules steps : List ℕ) → _≡_ {A = Option Refusal} (buffersNo narrow P (length facts) (length rules) (length steps)) none → runOutcome file (naming row) facts rules steps ≡ runWritten P (run P (inForce P) row) facts rules steps
+  ran = leading.ran file accepted M stable row names (order-reaches P (inForce P) M stable)
 
   pub leads-to : LeadsTo file (naming row) M
-  leads-to =
-      record {
-        named-once = λ r e. ap (howMany (eqb r)) (naming-names row) ∙ order-once P (inForce P) M r e;
-        named-only = λ r e. ap (howMany (eqb r)) (naming-names row) ∙ order-only P (inForce P) M r e;
-        whole-items = order-width P M;
-        order-right = search-order-yes P M;
-        run-ends = ends;
-        outside-unproved = outside;
-        outside-unchecked = no-said;
-      }
+  leads-to = leading.order-leads file accepted M stable row names (order-reaches P (inForce P) M stable)

@@ -7,6 +7,7 @@ pub mod SetsReadBack
 pub mod RowChecked
 pub mod RunIs
 pub mod RunJudged
+pub mod OrderLeads
 pub mod LeadsTo
 pub mod SearchIs
 pub mod Searches
@@ -16,4 +17,5 @@ pub mod Starred
 pub mod Wish01
 pub mod Wish02
 pub mod Wish03
+pub mod Wish04
 pub mod Wish08

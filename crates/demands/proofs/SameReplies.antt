@@ -11,10 +11,10 @@ use Rattle.theory.specs.Rule.{keep, upTo, Program, FactSet, inForce, nothing, n
 use Rattle.theory.specs.Run.{run, stageCount, stepCount}
 use Rattle.theory.specs.Stable.{orderFor}
 use Rattle.theory.specs.Search.{search}
-use Rattle.theory.proofs.Repeats.{alike-exception, alike-exception-count, alike-constraint-count, alike-run, alike-aside, alike-factMark, alike-factMarks, alike-ruleMarks, alike-grounds, alike-isStable, alike-isProof, alike-search, alike-orderFor}
+use Rattle.theory.proofs.Repeats.{alike-exception, alike-exception-count, alike-constraint-count, alike-run, alike-aside, alike-factMark, alike-factMarks, alike-ruleMarks, alike-grounds, alike-isStable, alike-isProof, alike-search, alike-orderFor, alike-isLayered, alike-layeredOrder}
 use Rattle.reader.specs.declared.answer.Accept.the-variants.{Accepted}
 use Rattle.items.specs.declared.refusal.Refusal.{Refusal}
-use Rattle.items.specs.declared.refusal.Refusal.the-variants.{FactMarksShort, RuleMarksShort, StepsShort, OrderShort, TooManyConstraints, NoStableSet, NotDerived}
+use Rattle.items.specs.declared.refusal.Refusal.the-variants.{FactMarksShort, RuleMarksShort, StepsShort, OrderShort, TooManyConstraints, NoStableSet, NotDerived, NotLayered}
 use Rattle.items.specs.Question.{Question, ask, firstNo}
 use Rattle.items.specs.Question as refusal
 use Rattle.items.specs.Item.{narrow, stepWidth, nameWidth, has, maxGuessed}
@@ -23,7 +23,7 @@ use Rattle.reader.specs.Accept.{acceptOf}
 use Rattle.reader.proofs.FileAsked.{accepted-answer}
 use Rattle.items.proofs.FirstNo.{first-yes}
 use Rattle.questions.specs.Answer.{answerOf}
-use Rattle.questions.specs.Questions.{rowOf, namedIn, listQuestions, orderQuestions, setQuestions, rowQuestions, askListQuestions, askOrderQuestions, askSetQuestions, askRowQuestions, bufferQuestions, runQuestions, runNo, derivedQuestion, groundsQuestions, groundsNo, judgeQuestions, judgeNo, checkQuestions, checkNo, someStable, stableQuestion, limitQuestions, earlyQuestions, searchQuestions, searchNo, each, naming, runOf}
+use Rattle.questions.specs.Questions.{rowOf, namedIn, listQuestions, orderQuestions, setQuestions, rowQuestions, askListQuestions, askOrderQuestions, askSetQuestions, askRowQuestions, bufferQuestions, runQuestions, runNo, derivedQuestion, groundsQuestions, groundsNo, judgeQuestions, judgeNo, checkQuestions, checkNo, someStable, stableQuestion, limitQuestions, earlyQuestions, searchQuestions, searchNo, orderRoomQuestion, layeredQuestion, layeredQuestions, layeredNo, each, naming, runOf}
 use Rattle.closure.specs.Steps.{stepBytes}
 use Rattle.run.specs.declared.answer.Ran.the-variants as ran
 use Rattle.run.specs.Outcome.{RunOutcome, runWritten, runOutcome}
@@ -39,8 +39,10 @@ use Rattle.proofcheck.specs.Checked.{checked}
 use Rattle.search.specs.declared.answer.Searched.the-variants as searched
 use Rattle.search.specs.Outcome.{SearchOutcome, searchWritten, refusedWith, takenSet, searchOutcome}
 use Rattle.panel_lines.specs.Text.{headLine, stepLine, line, lastLine, rejectedFacts, asideRules, runText, ascending, panelText, shown}
+use Rattle.layers.specs.declared.answer.Layered.the-variants as layers
+use Rattle.layers.specs.Outcome.{LayeredOutcome, orderedBy, layeredOutcome}
 use Rattle.grounds_text.specs.Text.{textQuestions, textNo, groundsText}
-use Rattle.retention.specs.Reply.{fileOf, verdictOfJudged, verdictOfChecked, runReply, searchReply, groundsReply}
+use Rattle.retention.specs.Reply.{fileOf, verdictOfJudged, verdictOfChecked, runReply, searchReply, groundsReply, layeredReply}
 use Rattle.demands.specs.Results.{SameReplies}
 
 module _ (s t : List ℕ) (yes-s : _≡_ {A = Option Refusal} (fileNo s) none) (yes-t : _≡_ {A = Option Refusal} (fileNo t) none) (a : Alike (programOf s) (programOf t)) where
@@ -238,6 +240,21 @@ module _ (s t : List ℕ) (yes-s : _≡_ {A = Option Refusal} (fileNo s) none) (
         | some r ↦ refusedWith r facts rules steps order
       ]
 
+  -- The order by rank.
+  layered-asked : (order : ℕ) → layeredNo s order ≡ layeredNo t order
+  unfolding layeredQuestions
+  layered-asked order =
+      behind (orderRoomQuestion P order ∷ layeredQuestion P ∷ []) (orderRoomQuestion Q order ∷ layeredQuestion Q ∷ [])
+      (λ i. firstNo (ask OrderShort (leb (nameWidth * same-exceptions i) order) ∷ ask NotLayered (alike-isLayered a (inForce P) i) ∷ []))
+
+  same-layered : (order : List ℕ) → layeredOutcome s order ≡ layeredOutcome t order
+  unfolding layeredOutcome orderedBy
+  same-layered order i =
+      elim (layered-asked (length order) i) as (λ _. LayeredOutcome) [
+        | none ↦ record { answer = layers.Ordered (length (alike-layeredOrder a (inForce P) i)); order = over (naming (alike-layeredOrder a (inForce P) i)) order }
+        | some r ↦ record { answer = layers.Refused r; order = order }
+      ]
+
   -- The panel's text.
   text-of : (u : List ℕ) → _≡_ {A = Option Refusal} (fileNo u) none → panelText u ≡ runText (programOf u) (run (programOf u) (inForce (programOf u)) (ascending (programOf u)))
   unfolding panelText
@@ -291,6 +308,7 @@ module _ (s t : List ℕ) (yes-s : _≡_ {A = Option Refusal} (fileNo s) none) (
         judge = same-judge;
         check = same-check;
         search = same-search;
+        layered = same-layered;
         render = λ room. (ap length same-text, ap (λ (text : List ℕ). shown text room) same-text);
         render-grounds = λ fact room. (ap length (same-grounds-text fact), ap (λ (text : List ℕ). shown text room) (same-grounds-text fact));
         retention-accept = ap fileOf accepted;
@@ -299,4 +317,5 @@ module _ (s t : List ℕ) (yes-s : _≡_ {A = Option Refusal} (fileNo s) none) (
         retention-judge = λ list set. ap verdictOfJudged (same-judge list set);
         retention-check = λ set fact row. ap verdictOfChecked (same-check set fact row);
         retention-search = λ facts rules steps order. ap searchReply (same-search facts rules steps order);
+        retention-layered = λ order. ap layeredReply (same-layered order);
       }

@@ -25,7 +25,7 @@ use Rattle.reader.specs.Questions.{ruleOf, rulesOf, factCount, programOf, fresh
 use Rattle.reader.specs.RuleLength.{ruleLength, WithinCap}
 use Rattle.reader.proofs.Accepted.{all-asked, AllYes, EachRule, opens-rule, opens-none, own-opens-none, accepted-file}
 use Rattle.reader.proofs.RuleLengths.{ownAhead, own-ahead, Short, within-cap, together-few}
-use Rattle.questions.specs.Questions.{askListQuestions, askOrderQuestions, askSetQuestions, askRowQuestions, runQuestions, groundsQuestions, judgeQuestions, checkQuestions, earlyQuestions, searchQuestions}
+use Rattle.questions.specs.Questions.{askListQuestions, askOrderQuestions, askSetQuestions, askRowQuestions, runQuestions, groundsQuestions, judgeQuestions, checkQuestions, earlyQuestions, searchQuestions, layeredQuestions}
 use Rattle.grounds_text.specs.Text.{textQuestions}
 use Rattle.demands.specs.Calls.{firstNumber, Call, RefusesExactly}
 use Rattle.demands.specs.Wish02.{without51, firstNo01, lastRule, TwentyFifth, Refused51, EachRefuses51, Wish02}
@@ -351,6 +351,10 @@ module _ (file : List ℕ) where
     unfolding groundsQuestions
     grounds-stop order fact facts rules steps = stops-first (runQuestions file order facts rules steps) _ (run-stops order facts rules steps)
 
+    layered-stops : (order : ℕ) → firstNumber (layeredQuestions file order) ≡ some 51
+    unfolding layeredQuestions
+    layered-stops order = stops-there _
+
     search-stops : (facts rules steps order : ℕ) → firstNumber (searchQuestions file facts rules steps order) ≡ some 51
     unfolding searchQuestions earlyQuestions
     search-stops facts rules steps order = stops-first (earlyQuestions file facts rules steps order) _ (stops-there _)
@@ -372,12 +376,14 @@ module _ (file : List ℕ) where
           judge = λ list set. says (demand-1 .judge file list set) (stops-there _);
           check = λ set fact row. says (demand-1 .check file set fact row) (stops-there _);
           search = λ facts rules steps order. says (demand-1 .search file facts rules steps order) (search-stops _ _ _ _);
+          layered = λ order. says (demand-1 .layered file order) (layered-stops _);
           retention-accept = says (demand-1 .retention-accept file) file-stops;
           retention-run = λ order facts rules steps. says (demand-1 .retention-run file order facts rules steps) (run-stops _ _ _ _);
           retention-grounds = λ order fact facts rules steps. says (demand-1 .retention-grounds file order fact facts rules steps) (grounds-stop _ _ _ _ _);
           retention-judge = λ list set. says (demand-1 .retention-judge file list set) (stops-there _);
           retention-check = λ set fact row. says (demand-1 .retention-check file set fact row) (stops-there _);
           retention-search = λ facts rules steps order. says (demand-1 .retention-search file facts rules steps order) (search-stops _ _ _ _);
+          retention-layered = λ order. says (demand-1 .retention-layered file order) (layered-stops _);
           panel-text = demand-1 .panel-text file 51 .1 file-stops;
           grounds-text = λ fact. demand-1 .grounds-text file fact 51 .1 (stops-there _);
         }

@@ -18,18 +18,19 @@ use Rattle.cursors.specs.declared.cursor.Read.the-variants.{Ended, Refused}
 use Rattle.cursors.specs.Cursor.{front, placeQuestions, nextAt}
 use Rattle.reader.specs.Questions.{fileQuestions}
 use Rattle.reader.specs.Accept.{acceptOf}
-use Rattle.questions.specs.Questions.{askListQuestions, askOrderQuestions, askSetQuestions, askRowQuestions, runQuestions, groundsQuestions, judgeQuestions, checkQuestions, searchQuestions}
+use Rattle.questions.specs.Questions.{askListQuestions, askOrderQuestions, askSetQuestions, askRowQuestions, runQuestions, groundsQuestions, judgeQuestions, checkQuestions, searchQuestions, layeredQuestions}
 use Rattle.questions.specs.Answer.{answerOf}
 use Rattle.run.specs.Outcome.{runOutcome}
 use Rattle.keeping.specs.Outcome.{groundsOutcome}
 use Rattle.judge.specs.Judged.{judged}
 use Rattle.proofcheck.specs.Checked.{checked}
 use Rattle.search.specs.Outcome.{searchOutcome}
+use Rattle.layers.specs.Outcome.{layeredOutcome}
 use Rattle.panel_lines.specs.Text.{panelText, shown}
 use Rattle.grounds_text.specs.Text.{groundsText}
 use Rattle.retention.specs.declared.reply.FileReply.{FileReply}
 use Rattle.retention.specs.declared.reply.Verdict.{Verdict}
-use Rattle.retention.specs.Reply.{fileOf, verdictOfJudged, verdictOfChecked, RunReply, runReply, SearchReply, searchReply, GroundsReply, groundsReply}
+use Rattle.retention.specs.Reply.{fileOf, verdictOfJudged, verdictOfChecked, RunReply, runReply, SearchReply, searchReply, GroundsReply, groundsReply, LayeredReply, layeredReply}
 use Rattle.items.specs.Question as refusal
 use Rattle.cursors.specs.Cursor as read
 use Rattle.reader.specs.Accept as accepted
@@ -39,6 +40,7 @@ use Rattle.keeping.specs.Outcome as grounds
 use Rattle.judge.specs.Judged as judgement
 use Rattle.proofcheck.specs.Checked as checking
 use Rattle.search.specs.Outcome as searched
+use Rattle.layers.specs.Outcome as layers
 
 -- The number of the first no; none where every question gets yes.
 abbrev pub firstNumber : List Question → Option ℕ
@@ -105,6 +107,9 @@ checkNumbers = fileNumbers ++ (setNumbers ++ rowNumbers)
 
 abbrev pub searchNumbers : List ℕ
 searchNumbers = fileNumbers ++ (bufferNumbers ++ limitNumbers) ++ (41 ∷ [])
+
+abbrev pub layeredNumbers : List ℕ
+layeredNumbers = fileNumbers ++ (34 ∷ 52 ∷ [])
 
 -- A call of an operation that is lent no buffer.
 abbrev pub lentNothing : List Question → List ℕ → ℕ → List ℕ → Call
@@ -218,6 +223,19 @@ searchCall file facts rules steps order =
       reply = searchReplied (searchOutcome file facts rules steps order);
     }
 
+-- `layered`
+abbrev pub layeredReplied : layers.LayeredOutcome → Reply
+layeredReplied o = record { number = layers.number (o .answer); counts = layers.count (o .answer) ∷ []; left = o .order ∷ [] }
+
+abbrev pub layeredCall : List ℕ → List ℕ → Call
+layeredCall file order =
+    record {
+      questions = layeredQuestions file (length order);
+      own = layeredNumbers;
+      lent = order ∷ [];
+      reply = layeredReplied (layeredOutcome file order);
+    }
+
 -- A text: it asks nothing and refuses nothing. The first no stands in it.
 abbrev pub textCall : List ℕ → List ℕ → Call
 textCall text out =
@@ -300,6 +318,13 @@ retentionSearchCall file facts rules steps order =
           counts = o .reply .stages ∷ o .reply .steps ∷ [];
           left = o .fact-marks ∷ o .rule-marks ∷ o .steps ∷ o .order ∷ [];
         }
+
+-- `retention_layered`
+abbrev pub retentionLayeredCall : List ℕ → List ℕ → Call
+retentionLayeredCall file order = replying (layeredCall file order) (counted (layeredReply (layeredOutcome file order)))
+  where
+    counted : LayeredReply → Reply
+    counted o = record { number = o .reply .refusal; counts = o .reply .count ∷ []; left = o .order ∷ [] }
 
 -- `retention_panel`
 abbrev pub retentionPanelCall : List ℕ → List ℕ → Call

@@ -7,4 +7,5 @@ pub mod Starred
 pub mod Wish01
 pub mod Wish02
 pub mod Wish03
+pub mod Wish04
 pub mod Wish08

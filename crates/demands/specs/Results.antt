@@ -20,12 +20,13 @@ use mathlib.Core.Option.{none}
 use Rattle.proofcheck.specs.declared.answer.Checked.the-variants.{Yes}
 use Rattle.proofcheck.specs.Checked.{checked}
 use Rattle.search.specs.Outcome.{SearchOutcome, searchOutcome}
+use Rattle.layers.specs.Outcome.{layeredOutcome}
 use Rattle.items.specs.Question.{firstNo}
 use Rattle.reader.specs.Accept.{acceptOf}
 use Rattle.questions.specs.Answer.{answerOf}
 use Rattle.panel_lines.specs.Text.{panelText, shown}
 use Rattle.grounds_text.specs.Text.{groundsText}
-use Rattle.retention.specs.Reply.{fileOf, verdictOfJudged, verdictOfChecked, runReply, searchReply, groundsReply}
+use Rattle.retention.specs.Reply.{fileOf, verdictOfJudged, verdictOfChecked, runReply, searchReply, groundsReply, layeredReply}
 use Rattle.run.specs.Outcome as run
 use Rattle.judge.specs.declared.answer.Judged.the-variants as judgement
 use Rattle.proofcheck.specs.Checked as check
@@ -250,6 +251,7 @@ pub record SameReplies (s t : List ℕ) : Type 0 where
   pub judge : (list set : List ℕ) → judged s list set ≡ judged t list set
   pub check : (set : List ℕ) (fact : ℕ) (row : List ℕ) → checked s set fact row ≡ checked t set fact row
   pub search : (facts rules steps order : List ℕ) → searchOutcome s facts rules steps order ≡ searchOutcome t facts rules steps order
+  pub layered : (order : List ℕ) → layeredOutcome s order ≡ layeredOutcome t order
   pub render : (room : List ℕ) → (length (panelText s) ≡ length (panelText t)) × (shown (panelText s) room ≡ shown (panelText t) room)
   pub render-grounds : (fact : ℕ) (room : List ℕ) → (length (groundsText s fact) ≡ length (groundsText t fact)) × (shown (groundsText s fact) room ≡ shown (groundsText t fact) room)
   -- The operations for callers in C and Rust; the panel's is `render`.
@@ -259,3 +261,4 @@ pub record SameReplies (s t : List ℕ) : Type 0 where
   pub retention-judge : (list set : List ℕ) → verdictOfJudged (judged s list set) ≡ verdictOfJudged (judged t list set)
   pub retention-check : (set : List ℕ) (fact : ℕ) (row : List ℕ) → verdictOfChecked (checked s set fact row) ≡ verdictOfChecked (checked t set fact row)
   pub retention-search : (facts rules steps order : List ℕ) → searchReply (searchOutcome s facts rules steps order) ≡ searchReply (searchOutcome t facts rules steps order)
+  pub retention-layered : (order : List ℕ) → layeredReply (layeredOutcome s order) ≡ layeredReply (layeredOutcome t order)

@@ -18,7 +18,7 @@ use Rattle.reader.specs.Questions.{rulesOf, factCount, programOf, openingQuesti
 use Rattle.reader.specs.RuleLength.{ruleLength, allLengths, WithinCap}
 use Rattle.panel_lines.specs.Text.{panelText, line}
 use Rattle.grounds_text.specs.Text.{groundsText}
-use Rattle.demands.specs.Calls.{Call, acceptCall, askListCall, askOrderCall, askSetCall, askRowCall, runCall, groundsCall, judgeCall, checkCall, searchCall, retentionAcceptCall, retentionRunCall, retentionGroundsCall, retentionJudgeCall, retentionCheckCall, retentionSearchCall}
+use Rattle.demands.specs.Calls.{Call, acceptCall, askListCall, askOrderCall, askSetCall, askRowCall, runCall, groundsCall, judgeCall, checkCall, searchCall, layeredCall, retentionAcceptCall, retentionRunCall, retentionGroundsCall, retentionJudgeCall, retentionCheckCall, retentionSearchCall, retentionLayeredCall}
 
 -- The questions of document 01 alone: all but 51.
 abbrev pub without51 : List Question → List Question
@@ -68,12 +68,14 @@ pub record EachRefuses51 (file : List ℕ) : Type 0 where
   pub judge : (list set : List ℕ) → Refused51 (judgeCall file list set)
   pub check : (set : List ℕ) (fact : ℕ) (row : List ℕ) → Refused51 (checkCall file set fact row)
   pub search : (facts rules steps order : List ℕ) → Refused51 (searchCall file facts rules steps order)
+  pub layered : (order : List ℕ) → Refused51 (layeredCall file order)
   pub retention-accept : Refused51 (retentionAcceptCall file)
   pub retention-run : (order facts rules steps : List ℕ) → Refused51 (retentionRunCall file order facts rules steps)
   pub retention-grounds : (order : List ℕ) (fact : ℕ) (facts rules steps : List ℕ) → Refused51 (retentionGroundsCall file order fact facts rules steps)
   pub retention-judge : (list set : List ℕ) → Refused51 (retentionJudgeCall file list set)
   pub retention-check : (set : List ℕ) (fact : ℕ) (row : List ℕ) → Refused51 (retentionCheckCall file set fact row)
   pub retention-search : (facts rules steps order : List ℕ) → Refused51 (retentionSearchCall file facts rules steps order)
+  pub retention-layered : (order : List ℕ) → Refused51 (retentionLayeredCall file order)
   -- the panel, and the text of the grounds, say `E 51`
   pub panel-text : panelText file ≡ line 0x45 51
   pub grounds-text : (fact : ℕ) → groundsText file fact ≡ line 0x45 51

@@ -29,6 +29,7 @@ pub enum Refusal {
     NoStableSet,
     NotDerived,
     RuleTooLong,
+    NotLayered,
 }
 
 impl Refusal {
@@ -63,6 +64,7 @@ impl Refusal {
             Refusal::NoStableSet => 41,
             Refusal::NotDerived => 50,
             Refusal::RuleTooLong => 51,
+            Refusal::NotLayered => 52,
         }
     }
 }

@@ -2,7 +2,7 @@
 ghost use Prim.Native.Nat.{_≤_};
 ghost use Rattle.items.specs.Item.{maxRules};
 ghost use Rattle.questions.specs.Questions.{naming};
-ghost use Rattle.questions.specs.Orders.{placesMarked};
+ghost use Rattle.theory.specs.Places.{placesMarked};
 ghost use Rattle.questions.specs.Put.{Fits, Put};
 use items::item::MAX_RULES;
 use items::item::RuleId;

@@ -1,1 +1,3 @@
+pub mod KeysFilled
+pub mod KeysWritten
 pub mod OrderGroups

@@ -9,10 +9,10 @@ ghost use Rattle.items.specs.Write.{over};
 ghost use Rattle.reader.specs.Questions.{exceptions};
 ghost use Rattle.questions.specs.Questions.{naming};
 ghost use Rattle.tables.specs.Layout.{programIn, WellFormed};
+use crate::by_key::write_by_key;
 use crate::groups::GROUPS;
 use crate::groups::groups_of;
 use items::item::MAX_FACTS;
-use naming::write::write_names;
 use tables::layout::TABLE_CELLS;
 use tables::layout::rules_of;
 
@@ -23,13 +23,6 @@ pub fn write_order(tables: &[u16; TABLE_CELLS], set: &[u8; MAX_FACTS], order: &m
     requires { ⌜ nameWidth * exceptions (programIn (now tables)) ≤ length (now order) ⌝ }
     ensures { λ r. ⌜ (now (order .exit) ≡ over (naming (orderFor (programIn (now (tables .entry))) (inForce (programIn (now (tables .entry)))) (has (now (set .entry))))) (now (order .entry))) × (r ≡ length (naming (orderFor (programIn (now (tables .entry))) (inForce (programIn (now (tables .entry)))) (has (now (set .entry)))))) ⌝ }
 {
-    let rules = rules_of(tables);
     let groups = groups_of(tables, set);
-    let mut at: usize = 0;
-    let mut group: u8 = 0;
-    while group < GROUPS {
-        at = write_names(&groups, group, rules, order, at);
-        group += 1;
-    }
-    at
+    write_by_key(&groups, rules_of(tables), GROUPS, order)
 }

@@ -25,7 +25,7 @@ use Rattle.items.proofs.FirstNo.{all-yes}
 use Rattle.questions.proofs.OperationAsked.{file-accepted}
 use Rattle.questions.proofs.Orders.{keep-once, order-yes}
 use Rattle.panel_lines.specs.Text.{ascending}
-use Rattle.questions.specs.Orders.{placesMarked}
+use Rattle.theory.specs.Places.{placesMarked}
 
 -- The rules that are not marked as plain are the exception rules, ascending.
 pub unmarked-ascending : {T : List ℕ} → WellFormed T → (marks : List ℕ) → marks ≡ paint (plainRules (programIn T) (inForce (programIn T))) (replicate maxRules 0) → (n : ℕ) → n ≡ count (programIn T) → placesMarked 0 marks n ≡ ascending (programIn T)

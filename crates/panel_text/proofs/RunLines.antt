@@ -30,7 +30,7 @@ use Rattle.results.proofs.StepsWritten.{over-length, step-bytes-length}
 use Rattle.run.proofs.ReadMarks.{length-marks, mark-at, read-aside}
 use Rattle.run.proofs.ReadSteps.{steps-front, steps-read}
 use Rattle.panel_lines.specs.Text.{line, asideRules, runText, ascending, panelText}
-use Rattle.questions.specs.Orders.{placesMarked}
+use Rattle.theory.specs.Places.{placesMarked}
 use Rattle.panel_text.specs.Left.{leftText, Tables}
 use Rattle.questions.proofs.Orders.{naming-names}
 use Rattle.panel_text.proofs.AscendingOrder.{run-yes}

@@ -5,7 +5,7 @@ use lib.ListN.{length}
 use Rattle.theory.specs.Rule.{null}
 use Rattle.items.specs.Item.{maxRules}
 use Rattle.questions.specs.Questions.{rowOf, each}
-use Rattle.questions.specs.Orders.{placesMarked}
+use Rattle.theory.specs.Places.{placesMarked}
 use Rattle.panel_lines.specs.Text.{headLine, stepLine, line, lastLine}
 
 -- The lines by the counts, the marks and the row of steps.

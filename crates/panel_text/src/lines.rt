@@ -3,7 +3,7 @@ ghost use Prim.Native.Nat.{_≤_};
 ghost use lib.ListN.{length};
 ghost use Rattle.items.specs.Item.{maxRules};
 ghost use Rattle.questions.specs.Questions.{each, rowOf};
-ghost use Rattle.questions.specs.Orders.{placesMarked};
+ghost use Rattle.theory.specs.Places.{placesMarked};
 ghost use Rattle.panel_lines.specs.Text.{line, stepLine};
 ghost use Rattle.panel_text.specs.Left.{leftText, Tables};
 ghost use Rattle.questions.specs.Put.{Fits, Put};

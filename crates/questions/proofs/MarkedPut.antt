@@ -9,7 +9,7 @@ use lib.Dec.{eqb}
 use Rattle.theory.specs.Rule.{keep, range}
 use Rattle.theory.proofs.Lists.{range-all, range-cons, range-end}
 use Rattle.questions.specs.Questions.{each}
-use Rattle.questions.specs.Orders.{placesMarked}
+use Rattle.theory.specs.Places.{placesMarked}
 use Rattle.questions.specs.Put.{Fits, Put}
 use Rattle.questions.proofs.BytesPut.{Putting, begun, ended, nothing-put, next-fits, one-put}
 

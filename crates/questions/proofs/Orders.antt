@@ -10,8 +10,8 @@ use borrow.Author.Tests.{eqb-true}
 use lib.ListN.{length}
 use lib.Dec.{eqb}
 use Rattle.theory.specs.Rule.{all, mem, keep, range, upTo, howMany, nothing, adjoin}
-use Rattle.theory.proofs.Bools.{never, and-left, and-right, false-of, or-cases}
-use Rattle.theory.proofs.Lists.{all-of, mem-keep, mem-range, mem-upTo, mem-there, mem-here, eqb-self, howMany-less}
+use Rattle.theory.proofs.Bools.{either, never, and-left, and-right, false-of, or-cases}
+use Rattle.theory.proofs.Lists.{all-of, mem-keep, mem-range, mem-upTo, mem-there, mem-here, eqb-self, howMany-less, howMany-none}
 use Rattle.theory.proofs.Run.{NoRepeat}
 use Rattle.items.specs.declared.refusal.Refusal.{Refusal}
 use Rattle.items.specs.Item.{nameWidth}
@@ -95,6 +95,14 @@ once-each (r ∷ rs) h = (false-of (mem r rs) not-again, once-each rs (λ x. res
     rest : (x : ℕ) (b : Bool) → cond b (suc (howMany (eqb x) rs)) (howMany (eqb x) rs) ≤ 1 → howMany (eqb x) rs ≤ 1
     rest x true l = omega arith
     rest x false l = l
+
+-- An order that names each known rule once, and no other, gets yes to 11 to 14.
+pub once-yes : (known : ℕ → Bool) (n : ℕ) (rs : List ℕ) → ((r : ℕ) → known r ≡ true → howMany (eqb r) rs ≡ 1) → ((r : ℕ) → known r ≡ false → howMany (eqb r) rs ≡ 0) → _≡_ {A = Option Refusal} (orderNo known n (naming rs)) none
+once-yes known n rs once only =
+    order-yes known n rs
+    (all-of known rs (λ r m. ⊎-elim (λ k. k) (λ k. absurd (omega (arith, named-some r rs m, only r k))) (either (known r))))
+    (once-each rs (λ r. ⊎-elim (λ k. omega (arith, once r k)) (λ k. omega (arith, only r k)) (either (known r))))
+    (λ r _ k. ⊎-elim (λ m. m) (λ m. absurd (omega (arith, howMany-none (eqb r) rs m, once r k))) (either (mem r rs)))
 
 -- Rows written one behind the other, and how long they are.
 pub naming-append : (xs ys : List ℕ) → naming (xs ++ ys) ≡ naming xs ++ naming ys

@@ -2,6 +2,5 @@
 pub mod Questions
 pub mod Answer
 -- What only code and proofs use.
-pub mod Orders
 pub mod Named
 pub mod Put

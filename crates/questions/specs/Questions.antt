@@ -8,7 +8,7 @@ use lib.ListN.{length}
 use lib.Dec.{eqb, ltb, leb}
 use Rattle.theory.specs.Rule.{all, mem, upTo, nothing, adjoin, count, exception, Program, FactSet, inForce, Step}
 use Rattle.items.specs.declared.refusal.Refusal.{Refusal}
-use Rattle.items.specs.declared.refusal.Refusal.the-variants.{NotRuleItems, NotAnException, NamedTwice, NotAllNamed, WrongSetLength, NotZeroOrOne, NotStepItems, AskedFactTooHigh, FactMarksShort, RuleMarksShort, StepsShort, OrderShort, TooManyConstraints, NoStableSet, NotDerived}
+use Rattle.items.specs.declared.refusal.Refusal.the-variants.{NotRuleItems, NotAnException, NamedTwice, NotAllNamed, WrongSetLength, NotZeroOrOne, NotStepItems, AskedFactTooHigh, FactMarksShort, RuleMarksShort, StepsShort, OrderShort, TooManyConstraints, NoStableSet, NotDerived, NotLayered}
 use Rattle.items.specs.Item.{narrow, classOf, whereSaid, Width, stepWidth, nameWidth, maxGuessed}
 use Rattle.cursors.specs.Cursor.{Token, item, bad, itemsAt, orderStart, stepsStart}
 use Rattle.items.specs.Question.{Question, ask, firstNo}
@@ -19,6 +19,7 @@ use mathlib.Core.Path.{_≡_}
 use mathlib.Core.Logic.{_↔_}
 use Rattle.theory.specs.Stable.{Stable}
 use Rattle.theory.specs.Search.{search}
+use Rattle.theory.specs.Layers.{Cycle, isLayered}
 use Rattle.theory.specs.Run.{Stand, run}
 use Rattle.items.specs.Write.{ruleItem}
 
@@ -242,3 +243,19 @@ earlyNo file facts rules steps order = firstNo (earlyQuestions file facts rules 
 
 abbrev pub searchNo : List ℕ → ℕ → ℕ → ℕ → ℕ → Option Refusal
 searchNo file facts rules steps order = firstNo (searchQuestions file facts rules steps order)
+
+-- Does no cycle of dependencies go through a constraint? (document 02, wish 4)
+abbrev pub layeredQuestion : Program → Question
+layeredQuestion P = ask NotLayered (isLayered P (inForce P))
+
+-- What the answer means: of an accepted file it is no exactly where there is such a cycle. `layered-asked` of the layers shows it of every file.
+abbrev pub LayeredAsked : List ℕ → Type 0
+LayeredAsked file =
+    fileNo file ≡ none → (isLayered (programOf file) (inForce (programOf file)) ≡ false) ↔ Cycle (programOf file) (inForce (programOf file))
+
+-- The order by rank: the file, the order's buffer, then this one.
+unfoldable pub layeredQuestions : List ℕ → ℕ → List Question
+layeredQuestions file order = fileQuestions file ++ (orderRoomQuestion (programOf file) order ∷ layeredQuestion (programOf file) ∷ [])
+
+abbrev pub layeredNo : List ℕ → ℕ → Option Refusal
+layeredNo file order = firstNo (layeredQuestions file order)

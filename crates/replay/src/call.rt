@@ -86,6 +86,10 @@ fn reply(
             let a = retention::retention_grounds(file, second, fact, f, r, s);
             [a.refusal, a.count, 0, 0, 0, 0]
         }
+        12 => {
+            let a = retention::retention_layered(file, o);
+            [a.refusal, a.count, 0, 0, 0, 0]
+        }
         _ => answer(operation, file, second, row(bytes, places[4]), fact),
     }
 }

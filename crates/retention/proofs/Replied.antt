@@ -8,9 +8,11 @@ use Rattle.search.specs.declared.answer.Searched.{Searched}
 use Rattle.search.specs.Outcome as searched
 use Rattle.keeping.specs.declared.answer.Grounds.{Grounds}
 use Rattle.keeping.specs.Outcome as grounds
+use Rattle.layers.specs.declared.answer.Layered.{Layered}
+use Rattle.layers.specs.Outcome as layered
 use Rattle.retention.specs.declared.reply.Count.{Count}
 use Rattle.retention.specs.declared.reply.RunCounts.{RunCounts}
-use Rattle.retention.specs.Reply.{countsOfRan, countsOfSearched, RunReply, runReply, SearchReply, searchReply, countOfGrounds, GroundsReply, groundsReply}
+use Rattle.retention.specs.Reply.{countsOfRan, countsOfSearched, RunReply, runReply, SearchReply, searchReply, countOfGrounds, GroundsReply, groundsReply, countOfLayered, LayeredReply, layeredReply}
 
 pub run-replied : (a : Ran) (r : RunCounts) (facts rules steps : List ℕ) (o : ran.RunOutcome) → r ≡ countsOfRan a → _≡_ {A = ran.RunOutcome} (record { answer = a; fact-marks = facts; rule-marks = rules; steps = steps }) o → _≡_ {A = RunReply} (record { reply = r; fact-marks = facts; rule-marks = rules; steps = steps }) (runReply o)
 unfolding runReply
@@ -23,3 +25,7 @@ search-replied a r facts rules steps order o said left = rw (said, ← left, sea
 pub grounds-replied : (a : Grounds) (r : Count) (facts rules steps : List ℕ) (o : grounds.GroundsOutcome) → r ≡ countOfGrounds a → _≡_ {A = grounds.GroundsOutcome} (record { answer = a; fact-marks = facts; rule-marks = rules; steps = steps }) o → _≡_ {A = GroundsReply} (record { reply = r; fact-marks = facts; rule-marks = rules; steps = steps }) (groundsReply o)
 unfolding groundsReply
 grounds-replied a r facts rules steps o said left = rw (said, ← left, groundsReply)
+
+pub layered-replied : (a : Layered) (r : Count) (order : List ℕ) (o : layered.LayeredOutcome) → r ≡ countOfLayered a → _≡_ {A = layered.LayeredOutcome} (record { answer = a; order = order }) o → _≡_ {A = LayeredReply} (record { reply = r; order = order }) (layeredReply o)
+unfolding layeredReply
+layered-replied a r order o said left = rw (said, ← left, layeredReply)

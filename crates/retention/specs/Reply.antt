@@ -15,6 +15,8 @@ use Rattle.search.specs.declared.answer.Searched.{Searched}
 use Rattle.search.specs.Outcome as searched
 use Rattle.keeping.specs.declared.answer.Grounds.{Grounds}
 use Rattle.keeping.specs.Outcome as grounds
+use Rattle.layers.specs.declared.answer.Layered.{Layered}
+use Rattle.layers.specs.Outcome as layered
 use Rattle.retention.specs.declared.reply.Count.{Count}
 use Rattle.retention.specs.declared.reply.FileReply.{FileReply}
 use Rattle.retention.specs.declared.reply.RunCounts.{RunCounts}
@@ -50,6 +52,9 @@ verdictOfChecked a = record { refusal = checked.number a; verdict = checked.verd
 
 unfoldable pub countOfGrounds : Grounds → Count
 countOfGrounds a = record { refusal = grounds.number a; count = grounds.count a }
+
+unfoldable pub countOfLayered : Layered → Count
+countOfLayered a = record { refusal = layered.number a; count = layered.count a }
 
 -- The reply of a run and the three buffers, from the run's outcome.
 pub record RunReply : Type 0 where
@@ -100,3 +105,11 @@ searchReply o =
       steps = o .steps;
       order = o .order;
     }
+
+-- The reply of asking for the order by rank and the buffer, from its outcome.
+pub record LayeredReply : Type 0 where
+  pub reply : Count
+  pub order : List ℕ
+
+unfoldable pub layeredReply : layered.LayeredOutcome → LayeredReply
+layeredReply o = record { reply = countOfLayered (o .answer); order = o .order }

@@ -8,8 +8,9 @@ ghost use Rattle.judge.specs.Judged.{judged};
 ghost use Rattle.proofcheck.specs.Checked.{checked};
 ghost use Rattle.search.specs.Outcome.{searchOutcome};
 ghost use Rattle.keeping.specs.Outcome.{groundsOutcome};
+ghost use Rattle.layers.specs.Outcome.{layeredOutcome};
 ghost use Rattle.panel_lines.specs.Text.{panelText, shown};
-ghost use Rattle.retention.specs.Reply.{fileOf, verdictOfJudged, verdictOfChecked, RunReply, runReply, SearchReply, searchReply, GroundsReply, groundsReply};
+ghost use Rattle.retention.specs.Reply.{fileOf, verdictOfJudged, verdictOfChecked, RunReply, runReply, SearchReply, searchReply, GroundsReply, groundsReply, LayeredReply, layeredReply};
 
 pub mod reply;
 
@@ -83,6 +84,14 @@ pub extern "C" fn retention_search(
     ensures { λ r. ⌜ _≡_ {A = SearchReply} (record { reply = r; fact-marks = now («fact_marks» .exit); rule-marks = now («rule_marks» .exit); steps = now (steps .exit); order = now (order .exit) }) (searchReply (searchOutcome (now (file .entry)) (now («fact_marks» .entry)) (now («rule_marks» .entry)) (now (steps .entry)) (now (order .entry)))) ⌝ }
 {
     reply::of_searched(search::search(file, fact_marks, rule_marks, steps, order))
+}
+
+// The order by rank of a layered file.
+#[no_mangle]
+pub extern "C" fn retention_layered(file: &[u8], order: &mut [u8]) -> Count
+    ensures { λ r. ⌜ _≡_ {A = LayeredReply} (record { reply = r; order = now (order .exit) }) (layeredReply (layeredOutcome (now (file .entry)) (now (order .entry)))) ⌝ }
+{
+    reply::of_layered(layers::layered(file, order))
 }
 
 // The panel's text for a file, written where it fits. Answers its length.

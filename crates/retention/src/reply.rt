@@ -1,9 +1,10 @@
 // The replies, and each answer as a reply. A refusal has its number and 0 for every other value.
 ghost use mathlib.Core.Path.{_≡_};
-ghost use Rattle.retention.specs.Reply.{fileOf, countsOfRan, countsOfSearched, verdictOfJudged, verdictOfChecked, countOfGrounds};
+ghost use Rattle.retention.specs.Reply.{fileOf, countsOfRan, countsOfSearched, verdictOfJudged, verdictOfChecked, countOfGrounds, countOfLayered};
 use items::lengths::STEP_WIDTH;
 use judge::answer::Judged;
 use keeping::answer::Grounds;
+use layers::answer::Layered;
 use proofcheck::answer::Checked;
 use reader::answer::Accept;
 use run::answer::Ran;
@@ -151,6 +152,21 @@ pub fn of_grounds(a: Grounds) -> Count
             count: steps as u32,
         },
         Grounds::Refused(r) => Count {
+            refusal: r.number() as u32,
+            count: 0,
+        },
+    }
+}
+
+pub fn of_layered(a: Layered) -> Count
+    ensures { λ r. ⌜ r ≡ countOfLayered a ⌝ }
+{
+    match a {
+        Layered::Ordered { rules } => Count {
+            refusal: 0,
+            count: rules as u32,
+        },
+        Layered::Refused(r) => Count {
             refusal: r.number() as u32,
             count: 0,
         },

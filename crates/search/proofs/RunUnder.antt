@@ -1,25 +1,20 @@
 -- The run under the order for a set.
 use Prim.Native.Nat.{ℕ, _≤_}
 use native.Mathlib.Omega.{arith}
-use mathlib.Core.Path.{_≡_, refl, sym, ap, ap₂, _∙_}
-use mathlib.Core.Bool.{true}
+use mathlib.Core.Path.{_≡_, sym, ap, ap₂, _∙_}
 use mathlib.Core.List.{List}
-use mathlib.Core.Logic.{⊎-elim}
 use mathlib.Core.Option.{Option, none}
 use lib.ListN.{length, take, drop, length-append}
 use lib.Seq.{take-append-seam}
-use lib.Dec.{eqb}
-use Rattle.theory.specs.Rule.{mem, howMany, Program, FactSet, inForce, count, exception}
+use Rattle.theory.specs.Rule.{Program, FactSet, inForce, count, exception}
 use Rattle.theory.specs.Run.{Stand, run, stageCount, stepCount}
 use Rattle.theory.specs.Stable.{orderFor}
-use Rattle.theory.proofs.Bools.{either}
-use Rattle.theory.proofs.Lists.{all-of}
-use Rattle.theory.proofs.Search.{order-once, order-only, order-names}
+use Rattle.theory.proofs.Search.{order-once, order-only}
 use Rattle.items.specs.declared.refusal.Refusal.{Refusal}
 use Rattle.reader.specs.Questions.{programOf, fileQuestions}
 use Rattle.questions.specs.Questions.{orderQuestions, orderNo, bufferQuestions, runQuestions, runNo, naming}
 use Rattle.items.proofs.FirstNo.{all-yes}
-use Rattle.questions.proofs.Orders.{naming-names, named-some, once-each, order-yes}
+use Rattle.questions.proofs.Orders.{naming-names, once-yes}
 use Rattle.run.specs.declared.answer.Ran.{Ran}
 use Rattle.run.specs.declared.answer.Ran.the-variants.{Done, Refused}
 use Rattle.run.specs.Outcome.{RunOutcome, runWritten, runOutcome}
@@ -33,17 +28,7 @@ use Rattle.search.proofs.SearchAsked.{AllYesses}
 -- The order for a set gets yes to 11 to 14.
 pub search-order-yes : (P : Program) (M : FactSet) → _≡_ {A = Option Refusal} (orderNo (exception P) (count P) (naming (orderFor P (inForce P) M))) none
 search-order-yes P M =
-    order-yes (exception P) (count P) (orderFor P (inForce P) M) (all-of (exception P) (orderFor P (inForce P) M) exceptions) (once-each (orderFor P (inForce P) M) once) (λ i h k. order-names P (inForce P) M i k refl)
-  where
-    exceptions : (i : ℕ) → mem i (orderFor P (inForce P) M) ≡ true → exception P i ≡ true
-    exceptions i m =
-        ⊎-elim (λ e. e)
-        (λ e. absurd (omega (arith, named-some i (orderFor P (inForce P) M) m, order-only P (inForce P) M i e)))
-        (either (exception P i))
-
-    once : (r : ℕ) → howMany (eqb r) (orderFor P (inForce P) M) ≤ 1
-    once r =
-        ⊎-elim (λ e. omega (arith, order-once P (inForce P) M r e)) (λ e. omega (arith, order-only P (inForce P) M r e)) (either (exception P r))
+    once-yes (exception P) (count P) (orderFor P (inForce P) M) (order-once P (inForce P) M) (order-only P (inForce P) M)
 
 -- What is written over the front of a buffer lies inside it.
 pub front-inside : (bytes before after : List ℕ) (n : ℕ) → (after ≡ over bytes before) × (n ≡ length bytes) → n ≤ length after

@@ -1,2 +1,3 @@
 pub mod ProgramHeld
 pub mod PartsSpanned
+pub mod RanksHeld

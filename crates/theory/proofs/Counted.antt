@@ -1,13 +1,14 @@
--- How many numbers pass a test, and how many of a list's are missing from a set.
-use Prim.Native.Nat.{ℕ, suc, _+_, _<_, _≤_}
+-- How many numbers pass a test, how many of a list's are missing from a set, and sums of values.
+use Prim.Native.Nat.{ℕ, suc, _+_, _*_, _<_, _≤_}
 use native.Mathlib.Omega.{arith}
 use mathlib.Core.Path.{_≡_, refl, sym, ap, _∙_}
 use mathlib.Core.Bool.{Bool, true, false, cond, not, _&&_, _||_}
 use mathlib.Core.List.{List, [], _∷_}
 use mathlib.Core.Logic.{⊎-elim}
 use borrow.Author.Tests.{eqb-true}
+use lib.ListN.{length}
 use lib.Dec.{eqb}
-use Rattle.theory.specs.Rule.{all, mem, howMany, upTo, adjoin, FactSet}
+use Rattle.theory.specs.Rule.{all, mem, howMany, sumOf, upTo, adjoin, FactSet}
 use Rattle.theory.proofs.Bools.{either, never, and-false, and-left, and-right, and-both, or-left, not-of-false, false-of-not, false-of}
 use Rattle.theory.proofs.Lists.{eqb-self, eqb-sym, mem-here, mem-there, mem-cases, upTo-mem, length-range, all-of, all-elem, howMany-le, howMany-less, howMany-every, howMany-upTo}
 
@@ -92,3 +93,20 @@ lacked-none xs S n a = none-counted (lackedOf xs S) (upTo n) (λ x _. false-of (
   where
     out : (x : ℕ) → lackedOf xs S x ≡ true → ⊥
     out x t = never (all-elem S xs a x (and-left (mem x xs) _ t)) (false-of-not (S x) (and-right (mem x xs) _ t))
+
+-- The sum of some values: smaller where each is at most as large and one is smaller, and at most the bound of each as often as there are values.
+pub sum-mono : (v w : ℕ → ℕ) → ((x : ℕ) → v x ≤ w x) → (xs : List ℕ) → sumOf v xs ≤ sumOf w xs
+sum-mono v w h [] = omega arith
+sum-mono v w h (x ∷ xs) = omega (arith, h x, sum-mono v w h xs)
+
+pub sum-less : (v w : ℕ → ℕ) → ((x : ℕ) → v x ≤ w x) → (xs : List ℕ) (y : ℕ) → mem y xs ≡ true → v y < w y → sumOf v xs < sumOf w xs
+sum-less v w h [] y m l = never m refl
+sum-less v w h (x ∷ xs) y m l =
+    ⊎-elim
+    (λ e. let l′ : v x < w x = rw (← e) l in omega (arith, sum-mono v w h xs))
+    (λ e. omega (arith, h x, sum-less v w h xs y e l))
+    (mem-cases y x xs m)
+
+pub sum-most : (v : ℕ → ℕ) (n : ℕ) → ((x : ℕ) → v x ≤ n) → (xs : List ℕ) → sumOf v xs ≤ n * length xs
+sum-most v n h [] = omega arith
+sum-most v n h (x ∷ xs) = omega (arith, h x, sum-most v n h xs)

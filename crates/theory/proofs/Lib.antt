@@ -17,6 +17,9 @@ pub mod Stages
 pub mod Chaining
 pub mod Marks
 pub mod Stable
+pub mod Cycles
+pub mod Ranks
+pub mod Layered
 pub mod Search
 pub mod Repeats
 pub mod Absent

@@ -54,7 +54,7 @@ module _ (P : Program) (on : Mask) (M : FactSet) (m : Stable P on M) where
       derive-below P (plainRules P on) (conclude P D i) M (adjoin-sub D M (rule P i .conclusion) d (upheld-in i k u)) closed-plain
 
   -- an upheld exception rule with its premises in D and its conclusion outside is eligible
-  upheld-eligible : (s : Stand) (i : ℕ) → Inside s → exception P i ≡ true → upheld P on M i ≡ true → all (s .derived) (rule P i .premises) ≡ true → s .derived (rule P i .conclusion) ≡ false → eligible P on s i ≡ true
+  pub upheld-eligible : (s : Stand) (i : ℕ) → Inside s → exception P i ≡ true → upheld P on M i ≡ true → all (s .derived) (rule P i .premises) ≡ true → s .derived (rule P i .conclusion) ≡ false → eligible P on s i ≡ true
   unfolding spares
   upheld-eligible s i v x u p c =
       eligible-whole P on s i

@@ -1,6 +1,6 @@
--- Repeats within a rule change nothing: programs that are alike have the same counts, runs, marks, stable sets, proofs and searches, each by one
--- equation. The counts of facts and of rules are equal by `Alike` itself.
-use Prim.Native.Nat.{ℕ, zero, suc, _≤_, _<_}
+-- Repeats within a rule change nothing: programs that are alike have the same counts, runs, marks, stable sets, proofs, searches and ranks, each by
+-- one equation. The counts of facts and of rules are equal by `Alike` itself.
+use Prim.Native.Nat.{ℕ, zero, suc, _*_, _≤_, _<_}
 use native.Mathlib.Omega.{arith}
 use native.Mathlib.Decide.{decLt}
 use mathlib.Core.Path.{_≡_, refl, sym, _∙_, ap, subst}
@@ -19,9 +19,11 @@ use Rattle.theory.specs.Check.{leastOf, isStable, stepHolds, stepsHold, 
 use Rattle.theory.specs.Stable.{reduct, Stable, stepAt, factsOf, Proof, Admits, Earlier, Earliest, upheld, orderGroups, orderFor}
 use Rattle.theory.specs.Keeping.{select, wanted, keptSteps, groundsOf}
 use Rattle.theory.specs.Search.{guessed, fits, hunt, search}
+use Rattle.theory.specs.Layers.{higher, highest, asks, lacking, raise, allZero, ranksOf, isLayered, layeredOrder}
 use Rattle.theory.specs.Repeats.{once, withoutRepeats}
 use Rattle.theory.proofs.Bools.{either, never, both-ways}
 use Rattle.theory.proofs.Lists.{all-elem, all-of, mem-cases, mem-here, mem-there, howMany-none}
+use Rattle.theory.proofs.Ranks.{highest-above, highest-below}
 
 -- lists with the same elements pass the same tests
 pub all-elements : (p : ℕ → Bool) (xs ys : List ℕ) → ((x : ℕ) → mem x xs ≡ mem x ys) → all p xs ≡ all p ys
@@ -29,6 +31,12 @@ all-elements p xs ys e =
     both-ways _ _
     (λ a. all-of p ys (λ x m. all-elem p xs a x (e x ∙ m)))
     (λ a. all-of p xs (λ x m. all-elem p ys a x (sym (e x) ∙ m)))
+
+highest-elements : (value : ℕ → ℕ) (xs ys : List ℕ) → ((x : ℕ) → mem x xs ≡ mem x ys) → highest value xs ≡ highest value ys
+highest-elements value xs ys e =
+    let below = highest-below value xs (highest value ys) (λ x m. highest-above value ys x (sym (e x) ∙ m)) in
+    let above = highest-below value ys (highest value xs) (λ x m. highest-above value xs x (e x ∙ m)) in
+    omega (arith, below, above)
 
 null-elements : (xs ys : List ℕ) → ((x : ℕ) → mem x xs ≡ mem x ys) → null xs ≡ null ys
 null-elements [] [] e = refl
@@ -229,6 +237,33 @@ module _ {P Q : Program} (a : Alike P Q) where
     where
       upheld-alike : (i : ℕ) → upheld P on M i ≡ upheld Q on M i
       upheld-alike i t = on i && (premises-alike M i t && constraints-alike M i t)
+
+  -- Each rule asks the same rank, so the ranks are the same, and so is the order by rank.
+  asks-alike : (rank : ℕ → ℕ) (i : ℕ) → asks P rank i ≡ asks Q rank i
+  unfolding asks
+  asks-alike rank i t = higher (highest-elements rank (rule P i .premises) (rule Q i .premises) (premises-same i) t) (highest-elements (λ k. suc (rank k)) (rule P i .constraints) (rule Q i .constraints) (constraints-same i) t)
+
+  lacking-alike : (on : Mask) (rank : ℕ → ℕ) (i : ℕ) → lacking P on rank i ≡ lacking Q on rank i
+  unfolding lacking
+  lacking-alike on rank i t = on i && ltb (rank (conclusion-same i t)) (asks-alike rank i t)
+
+  raise-alike : (rank : ℕ → ℕ) (i : ℕ) → raise P rank i ≡ raise Q rank i
+  raise-alike rank i t f = cond (eqb f (conclusion-same i t)) (asks-alike rank i t) (rank f)
+
+  pub alike-ranksOf : (on : Mask) → ranksOf P on ≡ ranksOf Q on
+  unfolding ranksOf
+  alike-ranksOf on t =
+      after (λ rank i. raise-alike rank i t) allZero
+      (picks (λ rank. seek (λ i. lacking-alike on rank i t) (upTo (a .same-count t))) (λ rank i. raise-alike rank i t) (suc (a .same-facts t) * suc (a .same-facts t)) allZero)
+
+  pub alike-isLayered : (on : Mask) → isLayered P on ≡ isLayered Q on
+  unfolding isLayered
+  alike-isLayered on t = not (any (λ i. lacking-alike on (alike-ranksOf on t) i t) (upTo (a .same-count t)))
+
+  pub alike-layeredOrder : (on : Mask) → layeredOrder P on ≡ layeredOrder Q on
+  unfolding layeredOrder
+  alike-layeredOrder on t =
+      byKey (alike-exception t) (λ i. cond (on i) (alike-ranksOf on t (conclusion-same i t)) (a .same-facts t)) (a .same-count t) 0 (suc (a .same-facts t))
 
   -- the steps of a row hold alike
   stepHolds-alike : (on : Mask) (S : FactSet) (s : Step) → stepHolds P on S s ≡ stepHolds Q on S s

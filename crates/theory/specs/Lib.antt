@@ -8,8 +8,10 @@ pub mod Run
 pub mod Stable
 pub mod Keeping
 pub mod Repeats
+pub mod Layers
 pub mod Examples
 -- What only code and proofs use.
 pub mod Check
 pub mod Search
 pub mod Bounds
+pub mod Places

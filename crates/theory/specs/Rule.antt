@@ -1,6 +1,6 @@
 -- Rules, programs and sets of facts, and the least set closed under some rules (document 01, "Facts, rules and the file"), with the tests
 -- over lists that the definitions use.
-use Prim.Native.Nat.{ℕ, zero, suc, _<_}
+use Prim.Native.Nat.{ℕ, zero, suc, _+_, _<_}
 use mathlib.Core.Bool.{Bool, true, false, cond, not, _&&_, _||_}
 use mathlib.Core.List.{List, [], _∷_, _++_}
 use mathlib.Core.Option.{Option, none, some}
@@ -53,6 +53,11 @@ downFrom (suc n) = n ∷ downFrom n
 abbrev pub howMany : (ℕ → Bool) → List ℕ → ℕ
 howMany p [] = 0
 howMany p (x ∷ xs) = cond (p x) (suc (howMany p xs)) (howMany p xs)
+
+-- the sum of the values of the elements
+abbrev pub sumOf : (ℕ → ℕ) → List ℕ → ℕ
+sumOf value [] = 0
+sumOf value (x ∷ xs) = value x + sumOf value xs
 
 -- The numbers below m that pass the test, by key: for each of the n keys from p on, in turn, those that have it, ascending.
 abbrev pub byKey : (ℕ → Bool) → (ℕ → ℕ) → ℕ → ℕ → ℕ → List ℕ

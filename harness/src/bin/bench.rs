@@ -9,6 +9,8 @@
 mod archive;
 #[path = "../draft.rs"]
 mod draft;
+#[path = "../layers.rs"]
+mod layers;
 #[path = "../random.rs"]
 mod random;
 
@@ -164,21 +166,55 @@ fn mixed(seed: u64) -> Draft {
     draft
 }
 
-/// The test load of document 02, wish 5, from state 0.
-fn test_load(facts: usize, rules: usize) -> Draft {
-    let mut draft = Draft::new(facts);
+/// What the test load of document 02, wish 5, draws from state 0.
+fn draws(facts: usize) -> impl FnMut() -> usize {
     let mut state: u32 = 0;
-    let mut drawn = || {
+    move || {
         state = state.wrapping_add(2_654_435_769);
         (state >> 16) as usize % facts
-    };
+    }
+}
+
+/// Adds a rule of these three facts, with items as the test load has them by turns.
+fn add_load_rule(draft: &mut Draft, [conclusion, second, third]: [usize; 3]) {
+    match draft.rules.len() % 3 {
+        0 => draft.rule(conclusion, &[], &[second, third]),
+        1 => draft.rule(conclusion, &[second, third], &[]),
+        _ => draft.rule(conclusion, &[second], &[third]),
+    }
+}
+
+fn test_load(facts: usize, rules: usize) -> Draft {
+    let mut draft = Draft::new(facts);
+    let mut drawn = draws(facts);
+    for _ in 0..rules {
+        add_load_rule(&mut draft, [drawn(), drawn(), drawn()]);
+    }
+    draft
+}
+
+/// The test load in layers: the lowest fact that a rule draws is its conclusion, and
+/// where it was drawn twice the other is one higher.
+fn load_in_layers((rules, facts): (usize, usize)) -> Draft {
+    let mut draft = Draft::new(facts);
+    let mut drawn = draws(facts - 1);
+    for _ in 0..rules {
+        let mut three = [drawn(), drawn(), drawn()];
+        three.sort_unstable();
+        let [conclusion, second, third] = three;
+        let above = conclusion + 1;
+        add_load_rule(&mut draft, [conclusion, second.max(above), third.max(above)]);
+    }
+    draft
+}
+
+/// Each fact has the next as a constraint and the one behind that as a premise: as many
+/// ranks as facts, against the numbers.
+fn ranks((rules, facts): (usize, usize)) -> Draft {
+    let mut draft = Draft::new(facts);
     for rule in 0..rules {
-        let [conclusion, second, third] = [drawn(), drawn(), drawn()];
-        match rule % 3 {
-            0 => draft.rule(conclusion, &[], &[second, third]),
-            1 => draft.rule(conclusion, &[second, third], &[]),
-            _ => draft.rule(conclusion, &[second], &[third]),
-        }
+        let fact = rule % (facts - 1);
+        draft.rule(fact, &[(fact + 2).min(facts - 1)], &[fact + 1]);
     }
     draft
 }
@@ -295,7 +331,13 @@ impl Subject {
         let stable = archive::judge(&self.file, &self.list, &self.set) == [0, 1];
         let checked = archive::check(&self.file, &self.set, self.asked, &self.proof);
         let proved = checked == [0, u32::from(!self.proof.is_empty())];
-        searched && same_panel && accepted && stable && proved && self.agrees_on_grounds()
+        searched
+            && same_panel
+            && accepted
+            && stable
+            && proved
+            && self.agrees_on_grounds()
+            && self.agrees_on_layers()
     }
 
     fn agrees_on_grounds(&self) -> bool {
@@ -307,6 +349,16 @@ impl Subject {
             Err(refusal) => [refusal as u32, 0],
         };
         self.archive_grounds(&mut theirs) == expected && ours == theirs
+    }
+
+    fn agrees_on_layers(&self) -> bool {
+        let mut ours = self.buffers.order.clone();
+        let mut theirs = self.buffers.order.clone();
+        let expected = match reference::layered(&self.file, &mut ours) {
+            Ok(count) => [0, count as u32],
+            Err(refusal) => [refusal as u32, 0],
+        };
+        archive::layered(&self.file, &mut theirs) == expected && ours == theirs
     }
 
     fn archive_search(&self, buffers: &mut Buffers) -> [u32; 3] {
@@ -333,6 +385,7 @@ impl Subject {
             Operation::Check => archive::check(file, set, self.asked, &self.proof)[1],
             Operation::Search => self.archive_search(buffers)[0],
             Operation::Grounds => self.archive_grounds(buffers)[0],
+            Operation::Layered => archive::layered(file, &mut buffers.order)[0],
         }
     }
 
@@ -346,6 +399,7 @@ impl Subject {
             Operation::Check => reference::check(file, set, self.asked, &self.proof).is_ok(),
             Operation::Search => reference::search(file, lent, order).is_ok(),
             Operation::Grounds => reference::grounds(file, &self.order, self.asked, lent).is_ok(),
+            Operation::Layered => reference::layered(file, order).is_ok(),
         }
     }
 }
@@ -378,15 +432,17 @@ enum Operation {
     Check,
     Search,
     Grounds,
+    Layered,
 }
 
-const OPERATIONS: [Operation; 6] = [
+const OPERATIONS: [Operation; 7] = [
     Operation::Accept,
     Operation::Run,
     Operation::Judge,
     Operation::Check,
     Operation::Search,
     Operation::Grounds,
+    Operation::Layered,
 ];
 const COUNT: usize = OPERATIONS.len();
 
@@ -480,15 +536,44 @@ impl Table {
         ));
     }
 
+    /// The rows of files that grow, and how the times grow with them.
+    fn family(&mut self, (name, file): Family, operations: &[Operation]) -> Result<(), String> {
+        let mut before: [Option<Times>; COUNT] = [None; COUNT];
+        let mut smallest: [Option<Times>; COUNT] = [None; COUNT];
+        for size in SIZES {
+            let subject = agreeing(name, &file(size))?;
+            for &operation in operations {
+                let now = times(slice::from_ref(&subject), operation);
+                let before = before[operation as usize].replace(now);
+                self.row(name, &subject, operation, TimesRow { now, before });
+                smallest[operation as usize].get_or_insert(now);
+            }
+        }
+        let rules = SIZES[SIZES.len() - 1].0 as f64 / SIZES[0].0 as f64;
+        for (exponents, (first, last)) in
+            self.exponents.iter_mut().zip(smallest.iter().zip(&before))
+        {
+            if let (Some(first), Some(last)) = (first, last) {
+                exponents.push((last.archive / first.archive).ln() / rules.ln());
+            }
+        }
+        Ok(())
+    }
+
     /// The rows of files of one size; the search is not timed where it refuses them.
     fn rows(&mut self, file: &str, subjects: &[Subject]) {
         for operation in OPERATIONS {
             let searches = matches!(operation, Operation::Search);
             if !searches || subjects[0].constraint_facts <= MOST_GUESSED {
-                let now = times(subjects, operation);
-                self.row(file, &subjects[0], operation, TimesRow { now, before: None });
+                self.single(file, subjects, operation);
             }
         }
+    }
+
+    /// The row of files of one size under one operation.
+    fn single(&mut self, file: &str, subjects: &[Subject], operation: Operation) {
+        let now = times(subjects, operation);
+        self.row(file, &subjects[0], operation, TimesRow { now, before: None });
     }
 
     fn row(&mut self, file: &str, subject: &Subject, operation: Operation, rows: TimesRow) {
@@ -553,6 +638,9 @@ const FAMILIES: [Family; 8] = [
     ("exceptions", |size| exceptions(size, 16)),
 ];
 
+/// Layered files that grow; of those above only the chains are.
+const LAYERED_FAMILIES: [Family; 2] = [("load in layers", load_in_layers), ("ranks", ranks)];
+
 type Single = (&'static str, fn() -> Draft);
 
 /// Files of one size. On those with too many constraint facts the search is not timed.
@@ -591,26 +679,11 @@ fn measure() -> Result<Table, String> {
     let mut table =
         Table { text: String::new(), ratios: Default::default(), exponents: Default::default() };
     table.head();
-    for (name, family) in FAMILIES {
-        let mut before: [Option<Times>; COUNT] = [None; COUNT];
-        let mut smallest: [Option<Times>; COUNT] = [None; COUNT];
-        for size in SIZES {
-            let subject = agreeing(name, &family(size))?;
-            for operation in OPERATIONS {
-                let now = times(slice::from_ref(&subject), operation);
-                let before = before[operation as usize].replace(now);
-                table.row(name, &subject, operation, TimesRow { now, before });
-                smallest[operation as usize].get_or_insert(now);
-            }
-        }
-        let rules = SIZES[SIZES.len() - 1].0 as f64 / SIZES[0].0 as f64;
-        for (exponents, (first, last)) in
-            table.exponents.iter_mut().zip(smallest.iter().zip(&before))
-        {
-            if let (Some(first), Some(last)) = (first, last) {
-                exponents.push((last.archive / first.archive).ln() / rules.ln());
-            }
-        }
+    for family in FAMILIES {
+        table.family(family, &OPERATIONS)?;
+    }
+    for family in LAYERED_FAMILIES {
+        table.family(family, &[Operation::Layered])?;
     }
     for (name, file) in SINGLES {
         table.rows(name, &[agreeing(name, &file())?]);
@@ -620,10 +693,18 @@ fn measure() -> Result<Table, String> {
     let worst = WORST_SEARCHES.map(|single| (single, Operation::Search));
     let deepest = DEEPEST_GROUNDS.map(|single| (single, Operation::Grounds));
     for ((name, file), operation) in worst.into_iter().chain(deepest) {
-        let subject = agreeing(name, &file())?;
-        let now = times(slice::from_ref(&subject), operation);
-        table.row(name, &subject, operation, TimesRow { now, before: None });
+        table.single(name, &[agreeing(name, &file())?], operation);
     }
+    for (name, file) in layers::FILES {
+        let subject = agreeing(name, &file(512, MOST_OWN_ITEMS))?;
+        table.single(name, &[subject], Operation::Layered);
+    }
+    let teeth = agreeing("ring and teeth", &layers::ring_and_teeth(255, 1))?;
+    table.single("ring and teeth, 1 item", &[teeth], Operation::Layered);
+    let scattered = (0..IN_TURN)
+        .map(|seed| agreeing("scattered", &layers::scattered(seed, 512, MOST_OWN_ITEMS)));
+    let scattered = scattered.collect::<Result<Vec<_>, String>>()?;
+    table.single("scattered, in turn", &scattered, Operation::Layered);
     table.summary();
     Ok(table)
 }

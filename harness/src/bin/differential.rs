@@ -21,15 +21,18 @@ mod draft;
 mod files;
 #[path = "../large.rs"]
 mod large;
+#[path = "../layers.rs"]
+mod layers;
 #[path = "../random.rs"]
 mod random;
 #[path = "../shrink.rs"]
 mod shrink;
 
 use cases::{Case, Met, Operation, Reply, Tally, random_case};
-use directed::{all_operations, directed_cases, examples};
+use directed::{all_operations, directed_cases, examples, layered_examples};
 use draft::{Draft, MOST_OWN_ITEMS, stairs};
 use random::Random;
+use reference::{RULE_NUMBER_BYTES, accept, kind};
 use std::process::ExitCode;
 use std::sync::Mutex;
 use std::thread;
@@ -44,6 +47,9 @@ const LENT_FENCE: u8 = 0xC3;
 
 /// The longest file that question 1 lets pass. None of that length is within the cap.
 const LONGEST: usize = 32_767;
+
+/// The kinds of the items that a rule has of its own.
+const ITEM_KINDS: [u8; 2] = [kind::PREMISE, kind::CONSTRAINT];
 
 /// What a lent buffer holds at first: by place, and never a mark, a kind or a
 /// byte of text.
@@ -114,6 +120,7 @@ fn call_archive(case: &Case) -> Result<Reply, String> {
         (Operation::Grounds, [fact_marks, rule_marks, steps]) => {
             archive::grounds(file, rules, case.asked, fact_marks, rule_marks, steps).to_vec()
         }
+        (Operation::Layered, [order]) => archive::layered(file, order).to_vec(),
         _ => unreachable!("a case lends what its operation takes"),
     };
     if lent.iter().chain(&inputs).any(|fenced| !fenced.is_intact()) {
@@ -169,6 +176,58 @@ fn neighbours(file: &[u8]) -> Vec<Case> {
     files.iter().flat_map(|file| calls.iter().map(move |call| on(file, call))).collect()
 }
 
+/// The order by ranks of a draft, in a buffer that just suffices.
+fn layered_of(draft: &Draft) -> Case {
+    let file = draft.bytes();
+    let exceptions = accept(&file).expect("a draft is accepted").exceptions;
+    Case { lent: vec![RULE_NUMBER_BYTES * exceptions], ..Case::new(Operation::Layered, &file) }
+}
+
+/// Every draft in which one premise or constraint is another one.
+fn with_another_item(draft: &Draft) -> Vec<Draft> {
+    let mut changed = Vec::new();
+    for (number, rule) in draft.rules.iter().enumerate() {
+        for place in 0..rule.items.len() {
+            for item in (0..draft.facts).flat_map(|fact| ITEM_KINDS.map(|kind| (kind, fact))) {
+                let mut draft = draft.clone();
+                draft.rules[number].items[place] = item;
+                changed.push(draft);
+            }
+        }
+    }
+    changed
+}
+
+/// Every file of three facts in which each fact depends on each, itself too, by a
+/// premise, by a constraint or not at all: by turns one rule for each fact, and one for
+/// each that it depends on.
+fn all_dependencies() -> Vec<Case> {
+    const FACTS: usize = 3;
+    let case = |number: usize| {
+        let mut draft = Draft::new(FACTS);
+        let mut rest = number;
+        for conclusion in 0..FACTS {
+            let (mut premises, mut constraints) = (vec![], vec![]);
+            for fact in 0..FACTS {
+                match rest % 3 {
+                    0 => {}
+                    1 => premises.push(fact),
+                    _ => constraints.push(fact),
+                }
+                rest /= 3;
+            }
+            if number.is_multiple_of(2) {
+                draft.rule(conclusion, &premises, &constraints);
+            } else {
+                premises.iter().for_each(|&fact| draft.rule(conclusion, &[fact], &[]));
+                constraints.iter().for_each(|&fact| draft.rule(conclusion, &[], &[fact]));
+            }
+        }
+        layered_of(&draft)
+    };
+    (0..3usize.pow((FACTS * FACTS) as u32)).map(case).collect()
+}
+
 /// Every prefix and every change of one byte of the order, the list or the proof that
 /// fits a file.
 fn neighbours_beside(file: &[u8]) -> Vec<Case> {
@@ -216,9 +275,9 @@ fn file_at_the_cap() -> Vec<u8> {
 }
 
 /// As many rules as may be; steps that go as deep as they can, by a chain, by rules of
-/// 24 items, and by rules that are too long; each rule as long as may be, and such
-/// files with something else behind their last rule; as many bytes as question 1 lets
-/// pass, and one more.
+/// 24 items, and by rules that are too long; ranks and cycles that do; each rule as long
+/// as may be, and such files with something else behind their last rule; as many bytes
+/// as question 1 lets pass, and one more.
 fn large_files() -> Vec<Vec<u8>> {
     let rules = [
         large::exceptions(512, 16),
@@ -228,7 +287,10 @@ fn large_files() -> Vec<Vec<u8>> {
         large::words(),
     ];
     let deep = [1, MOST_OWN_ITEMS - 1, 60].map(|premises| stairs(255, premises));
-    let mut files: Vec<Vec<u8>> = rules.iter().chain(&deep).map(Draft::bytes).collect();
+    let layers =
+        layers::FILES.iter().flat_map(|(_, file)| [file(512, MOST_OWN_ITEMS), file(256, 3)]);
+    let mut files: Vec<Vec<u8>> =
+        rules.into_iter().chain(deep).chain(layers).map(|draft| draft.bytes()).collect();
     for (_, premises) in large::FULL {
         let full = large::full(premises).bytes();
         let unended = &full[..full.len() - 3];
@@ -251,6 +313,9 @@ fn purposeful_cases() -> Vec<Case> {
     cases.extend(neighbours(&mixed_file()));
     cases.extend(neighbours_beside(&mixed_file()));
     cases.extend(neighbours(&file_at_the_cap()));
+    let changed = layered_examples().into_iter().flat_map(|draft| with_another_item(&draft));
+    cases.extend(changed.map(|draft| layered_of(&draft)));
+    cases.extend(all_dependencies());
     for file in large_files() {
         cases.extend(all_operations(&file));
     }

@@ -19,7 +19,8 @@
 //! - the file;
 //! - two more inputs, in the order of the operation's parameters;
 //! - what is expected of the four buffers: the bytes up to the last that differs
-//!   from the byte before the call. A panel's text is in the first.
+//!   from the byte before the call. A panel's text is in the first, and an order by
+//!   ranks in the last, where the search has its order.
 //!
 //! After the last case stands an empty row, then the name of each operation.
 
@@ -35,6 +36,8 @@ mod draft;
 mod files;
 #[path = "../large.rs"]
 mod large;
+#[path = "../layers.rs"]
+mod layers;
 #[path = "../list.rs"]
 mod list;
 #[path = "../notation.rs"]
@@ -49,9 +52,9 @@ use random::Random;
 use std::process::ExitCode;
 
 const SEED: u64 = 1;
-const RANDOM_VECTORS: usize = 3_400;
+const RANDOM_VECTORS: usize = 3_200;
 /// The reader has some more room for the file, and this for each buffer.
-const MOST_BYTES: usize = 1_240_000;
+const MOST_BYTES: usize = 1_290_000;
 const MOST_LENT: usize = 16_384;
 /// What the buffers of cases without a name hold.
 const UNTOUCHED: u8 = 0xA5;
@@ -76,7 +79,7 @@ fn put_numbers(out: &mut Vec<u8>, numbers: &[u32]) {
 /// The inputs after the file.
 fn inputs(case: &Case) -> [&[u8]; 2] {
     match case.operation {
-        Operation::Accept | Operation::Search | Operation::Panel => [&[], &[]],
+        Operation::Accept | Operation::Search | Operation::Panel | Operation::Layered => [&[], &[]],
         Operation::Run | Operation::AskOrder | Operation::AskList | Operation::Grounds => {
             [&case.rules, &[]]
         }
@@ -85,6 +88,12 @@ fn inputs(case: &Case) -> [&[u8]; 2] {
         Operation::AskSet => [&case.set, &[]],
         Operation::AskRow => [&case.proof, &[]],
     }
+}
+
+/// What stands in the places of the four buffers, of one thing for each buffer lent.
+fn in_places<T>(operation: Operation, lent: &[T]) -> [Option<&T>; BUFFERS] {
+    let first = if operation == Operation::Layered { BUFFERS - 1 } else { 0 };
+    std::array::from_fn(|place| place.checked_sub(first).and_then(|buffer| lent.get(buffer)))
 }
 
 /// A row without the values at its end that are equal to this one.
@@ -99,17 +108,16 @@ fn vector(name: &str, case: &Case, fill: u8, expected: &Reply, file_before: &[u8
     let same_file = case.file == file_before;
     let mut numbers = vec![case.operation as u32 + 1, u32::from(same_file), u32::from(fill)];
     numbers.extend([case.asked >> 16, case.asked & 0xFFFF]);
-    let length = |buffer| case.lent.get(buffer).map_or(0, |&length| length as u32);
-    numbers.extend((0..BUFFERS).map(length));
+    let lengths = in_places(case.operation, &case.lent);
+    numbers.extend(lengths.map(|length| length.map_or(0, |&length| length as u32)));
     numbers.extend(without_end(&expected.numbers, 0));
     let mut out = Vec::new();
     put_numbers(&mut out, &numbers);
     put_row(&mut out, name.as_bytes());
     put_row(&mut out, if same_file { &[] } else { &case.file });
     inputs(case).iter().for_each(|input| put_row(&mut out, input));
-    for buffer in 0..BUFFERS {
-        let buffer = expected.buffers.get(buffer).map_or(&[][..], Vec::as_slice);
-        put_row(&mut out, without_end(buffer, fill));
+    for buffer in in_places(case.operation, &expected.buffers) {
+        put_row(&mut out, without_end(buffer.map_or(&[][..], Vec::as_slice), fill));
     }
     out
 }

@@ -6,7 +6,7 @@ use denote.Ref.{now}
 use borrow.Author.Needs.{needs}
 use Rattle.theory.specs.Rule.{null}
 use Rattle.questions.specs.Questions.{each, rowOf}
-use Rattle.questions.specs.Orders.{placesMarked}
+use Rattle.theory.specs.Places.{placesMarked}
 use Rattle.panel_lines.specs.Text.{line, stepLine, lastLine}
 use Rattle.panel_text.specs.Left.{leftText}
 use Rattle.questions.proofs.BytesPut.{Putting, begun, nothing-put, next-fits, one-put}

@@ -5,7 +5,7 @@ use denote.Ref.{now}
 use Rattle.tables.specs.Layout.{programIn}
 use Rattle.tables.proofs.ProgramHeld.{rules-below}
 use Rattle.panel_lines.specs.Text.{ascending}
-use Rattle.questions.specs.Orders.{placesMarked}
+use Rattle.theory.specs.Places.{placesMarked}
 use Rattle.panel_text.proofs.AscendingOrder.{unmarked-ascending}
 use borrow.Author.Needs.{needs}
 use Rattle.panel_text.proofs.order.put_order.Statement.{statement}

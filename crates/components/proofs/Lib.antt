@@ -1,0 +1,7 @@
+pub mod RuleLooked
+pub mod ComponentClosed
+pub mod RootsLeft
+pub mod FactOpened
+pub mod Reaching
+pub mod ComponentWalk
+pub mod WalkClosed

@@ -1,0 +1,3 @@
+-- What only code and proofs use.
+pub mod Open
+pub mod Look

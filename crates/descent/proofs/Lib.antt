@@ -1,0 +1,4 @@
+pub mod ThreadsBegun
+pub mod ThreadsFollowed
+pub mod WalkTurned
+pub mod WalkRested

@@ -1,0 +1,235 @@
+-- A turn of the walk: each way that it can go keeps what the walk knows and leaves less to be done, or has met a cycle.
+use Prim.Native.Nat.{ℕ, _+_, _-_, _*_, _≤_, _<_}
+use native.Mathlib.Omega.{arith}
+use mathlib.Core.Path.{_≡_, refl, sym, ap, subst, _∙_}
+use mathlib.Core.Bool.{Bool, true, false, cond}
+use mathlib.Core.List.{List}
+use mathlib.Core.Logic.{_⊎_, inl, inr, ⊎-elim}
+use borrow.Author.Tests.{ne-eqb}
+use lib.ListN.{length, getD, set}
+use lib.Dec.{eqb}
+use Rattle.theory.specs.Rule.{Program, inForce, count, rule}
+use Rattle.theory.specs.Layers.{Cycle}
+use Rattle.items.specs.Item.{narrow, maxFacts, maxRules}
+use Rattle.items.specs.declared.item.FactId.{FactId}
+use Rattle.tables.specs.Ranking.{RanksSoFar}
+use Rattle.threads.specs.Threads.{threadEnd}
+use Rattle.components.specs.declared.look.Look.{Look}
+use Rattle.components.specs.declared.look.Look.the-variants as look
+use Rattle.components.specs.declared.«open».Merge.{Merge}
+use Rattle.components.specs.declared.«open».Merge.the-variants as merge
+use Rattle.components.specs.Open.{unmet, seenOf, factAt, rootPlace, unmetCount, Walking, Current, MayOpen, Merges, ClosedFrom}
+use Rattle.components.specs.Look.{LookFinds}
+use Rattle.components.proofs.ComponentWalk.{current-fewer, left-one, may-open, open-constraint-cycle, merged, merge-cycle, none-merged, none-cycle}
+use Rattle.tables.proofs.RanksHeld.{raised}
+use Rattle.components.proofs.WalkClosed.{last-highest, closed-ranks, closed-unmet, closed-walking, closed-current, closed-all}
+use Rattle.descent.specs.declared.walk.Standing.{Standing}
+use Rattle.descent.specs.declared.walk.Turn.the-variants.{Goes}
+use Rattle.descent.specs.Standing.{threadsLeft, Stands, TurnLeaves}
+use Rattle.descent.proofs.ThreadsFollowed.{followed, less-followed}
+
+-- Less is left where there is less of what counts for many places, ..
+fewer-left : (x y n at n′ at′ : ℕ) → x < y → at′ < maxFacts narrow → x * (maxFacts narrow + 1) + cond (eqb n′ 0) 0 (at′ + 1) < y * (maxFacts narrow + 1) + cond (eqb n 0) 0 (at + 1)
+fewer-left x y n at n′ at′ l h = go (eqb n′ 0)
+  where
+    go : (b : Bool) → x * (maxFacts narrow + 1) + cond b 0 (at′ + 1) < y * (maxFacts narrow + 1) + cond (eqb n 0) 0 (at + 1)
+    go true = omega arith
+    go false = omega arith
+
+-- .. or as much of that and the place is an earlier one, or no fact is open any more.
+nearer-left : (x y n at n′ at′ : ℕ) → x ≡ y → 0 < n → (n′ ≡ 0) ⊎ (at′ < at) → x * (maxFacts narrow + 1) + cond (eqb n′ 0) 0 (at′ + 1) < y * (maxFacts narrow + 1) + cond (eqb n 0) 0 (at + 1)
+nearer-left x y n at n′ at′ same some-open less =
+    rw (ne-eqb n 0 (λ e. omega arith))
+    (⊎-elim (λ e. rw e (omega arith)) (λ l. go l (eqb n′ 0)) less)
+  where
+    go : at′ < at → (b : Bool) → x * (maxFacts narrow + 1) + cond b 0 (at′ + 1) < y * (maxFacts narrow + 1) + (at + 1)
+    go l true = omega arith
+    go l false = omega arith
+
+module _ {P : Program} {seen stack roots todo next ranks : List ℕ} {s : Standing} (w : Stands P seen stack roots todo next ranks s) (some-open : 0 < s .height) where
+  -- a fact is open, so one is looked at, and there is a root
+  here : Current roots (s .height) (s .roots) (s .at)
+  here = w .current some-open
+
+  some-root : 0 < s .roots
+  some-root = w .walking .first-root some-open .0
+
+  -- The facts that are open and the roots are few, and the one that is looked at is among them.
+  pub few-open : s .height < maxFacts narrow
+  few-open = omega (arith, w .walking .room, w .walking .few)
+
+  pub few-roots : s .roots ≤ s .height
+  few-roots =
+      let last : s .roots - 1 < s .roots = omega (arith, some-root) in
+      omega (arith, w .walking .root-inside (s .roots - 1) last .0, w .walking .root-inside (s .roots - 1) last .1)
+
+  pub looked-inside : s .at < s .height
+  looked-inside = here .inside
+
+  stack-low : (a : ℕ) → a < s .height → factAt stack a < maxFacts narrow
+  stack-low a l = omega (arith, w .walking .fact-there a l .0, w .walking .few)
+
+  pub looked-small : factAt stack (s .at) < maxFacts narrow
+  looked-small = stack-low (s .at) looked-inside
+
+  -- what merging components asks, and what leaving a fact asks
+  pub may-merge : (s .roots ≤ maxFacts narrow) × (length roots ≡ maxFacts narrow)
+  may-merge = (omega (arith, few-roots, few-open), w .walking .root-places)
+
+  pub may-leave : ((0 < s .height) × (s .height ≤ maxFacts narrow) × (0 < s .roots) × (s .roots ≤ maxFacts narrow) × (s .at < s .height)) × ((length seen ≡ maxFacts narrow) × (length ranks ≡ maxFacts narrow) × ((a : ℕ) → a < s .height → factAt stack a < maxFacts narrow))
+  may-leave = ((some-open, omega (arith, few-open), some-root, may-merge .0, looked-inside), (w .walking .seen-places, w .so-far .places, stack-low))
+
+  -- The fact is left for the one before it.
+  pub stepped-back : rootPlace roots (s .roots - 1) < s .at → TurnLeaves P seen todo s next (Goes (record { height = s .height; roots = s .roots; at = s .at - 1 })) seen stack roots todo ranks
+  stepped-back behind = (
+    record {
+      walking = w .walking;
+      current = λ _. left-one roots (s .height) (s .roots) (s .at) here (λ t l. omega (arith, last-highest (w .walking) t l));
+      threads = w .threads;
+      so-far = w .so-far;
+    },
+    nearer-left _ _ (s .height) (s .at) (s .height) (s .at - 1) refl some-open (inr (omega arith)),
+  )
+
+  -- The last component is closed.
+  module _ (not-behind : s .at ≤ rootPlace roots (s .roots - 1)) (seen′ ranks′ : List ℕ) (c : ClosedFrom stack (s .at) (s .height) seen ranks seen′ ranks′) where
+    last-root : rootPlace roots (s .roots - 1) ≡ s .at
+    last-root = let last : s .roots - 1 < s .roots = omega (arith, some-root) in omega (arith, here .no-root-behind (s .roots - 1) last)
+
+    same-left : unmetCount P seen′ + threadsLeft P todo ≡ unmetCount P seen + threadsLeft P todo
+    same-left = ap (λ u. u + threadsLeft P todo) (closed-unmet (w .walking) here some-root last-root c)
+
+    pub closed-last : 0 < s .at → TurnLeaves P seen todo s next (Goes (record { height = s .at; roots = s .roots - 1; at = s .at - 1 })) seen′ stack roots todo ranks′
+    closed-last h = (
+      record {
+        walking = closed-walking (w .walking) here some-root last-root c;
+        current = λ _. closed-current (w .walking) here some-root last-root c h;
+        threads = w .threads;
+        so-far = closed-ranks (w .walking) here some-root last-root c (w .so-far);
+      },
+      nearer-left _ _ (s .height) (s .at) (s .at) (s .at - 1) same-left some-open (inr (omega arith)),
+    )
+
+    pub closed-first : s .at ≡ 0 → TurnLeaves P seen todo s next (Goes (record { height = 0; roots = 0; at = 0 })) seen′ stack roots todo ranks′
+    closed-first z = (
+      record {
+        walking = closed-all (w .walking) here some-root last-root c z;
+        current = λ h. absurd (omega arith);
+        threads = w .threads;
+        so-far = closed-ranks (w .walking) here some-root last-root c (w .so-far);
+      },
+      nearer-left _ _ (s .height) (s .at) 0 0 same-left some-open (inl refl),
+    )
+
+-- The next rule of the fact is looked at.
+pub record AtRule (P : Program) (seen stack roots todo next ranks : List ℕ) (s : Standing) (fact i : ℕ) : Type 0 where
+  pub stands : Stands P seen stack roots todo next ranks s
+  pub some-open : 0 < s .height
+  pub is-fact : fact ≡ factAt stack (s .at)
+  pub is-rule : getD todo fact 0 ≡ i
+  pub not-end : i ≡ threadEnd → ⊥
+  pub few-rules : count P ≤ maxRules
+
+module _ {P : Program} {seen stack roots todo next ranks : List ℕ} {s : Standing} {fact i : ℕ} (l : AtRule P seen stack roots todo next ranks s fact i) where
+  abbrev w : Stands P seen stack roots todo next ranks s
+  w = l .stands
+
+  abbrev now-here : Current roots (s .height) (s .roots) (s .at)
+  now-here = here w (l .some-open)
+
+  -- The fact is one of the program, and the rule concludes it.
+  fact-low : fact < P .facts
+  fact-low = rw (l .is-fact) (w .walking .fact-there (s .at) (now-here .inside) .0)
+
+  pub fact-small : fact < maxFacts narrow
+  fact-small = omega (arith, fact-low, w .walking .few)
+
+  own-rule : (i < count P) × (rule P i .conclusion ≡ fact)
+  own-rule =
+      ⊎-elim
+      (λ e. absurd (l .not-end (sym (l .is-rule) ∙ e)))
+      (λ h. subst (λ j. (j < count P) × (rule P j .conclusion ≡ fact)) (l .is-rule) h)
+      (w .threads .todo-rule fact fact-low)
+
+  pub rule-known : i < count P
+  rule-known = own-rule .0
+
+  pub rule-small : i < maxRules
+  rule-small = omega (arith, rule-known, l .few-rules)
+
+  concludes : rule P i .conclusion ≡ factAt stack (s .at)
+  concludes = own-rule .1 ∙ l .is-fact
+
+  -- A fact that was not met is opened, and is looked at then.
+  module _ {r : Look} {f : FactId} {barring : Bool} (is : r ≡ look.Unmet f barring) (finds : LookFinds P i seen r) where
+    found : LookFinds P i seen (look.Unmet f barring)
+    found = subst (λ q. LookFinds P i seen q) is finds
+
+    pub may-open-it : ((length seen ≡ maxFacts narrow) × (length stack ≡ maxFacts narrow) × (length roots ≡ maxFacts narrow)) × ((s .height < maxFacts narrow) × (s .roots ≤ s .height) × (f .0 < maxFacts narrow))
+    may-open-it = ((w .walking .seen-places, w .walking .stack-places, w .walking .root-places), (few-open w (l .some-open), few-roots w (l .some-open), omega (arith, found .1 .0, w .walking .few)))
+
+    pub opened :
+        (seen′ stack′ roots′ : List ℕ)
+        → (Walking P seen stack roots (s .height) (s .roots) → f .0 < P .facts → seenOf seen (f .0) ≡ unmet → MayOpen P stack (s .height) (f .0) barring → Walking P seen′ stack′ roots′ (s .height + 1) (s .roots + 1) × ((factAt stack′ (s .height) ≡ f .0) × (unmetCount P seen ≡ unmetCount P seen′ + 1)))
+        → TurnLeaves P seen todo s next (Goes (record { height = s .height + 1; roots = s .roots + 1; at = s .height })) seen′ stack′ roots′ todo ranks
+    opened seen′ stack′ roots′ opens =
+        let (now-open, (there, fewer)) = opens (w .walking) (found .1 .0) (found .1 .1) (may-open (w .walking) now-here i rule-known concludes (f .0) barring (found .0)) in (
+          record {
+            walking = now-open;
+            current = λ _. record { inside = omega arith; no-root-behind = λ t u. omega (arith, now-open .root-inside t u .1) };
+            threads = w .threads;
+            so-far = w .so-far;
+          },
+          fewer-left _ _ (s .height) (s .at) (s .height + 1) (s .height) (omega (arith, fewer)) (few-open w (l .some-open)),
+        )
+
+  -- A constraint that is open closes a cycle.
+  pub barred-look : {r : Look} → r ≡ look.Barred → LookFinds P i seen r → Cycle P (inForce P)
+  barred-look is finds =
+      let (k, (named, (low, is-open))) = subst (λ q. LookFinds P i seen q) is finds in
+      open-constraint-cycle (w .walking) now-here i rule-known concludes k named low is-open
+
+  -- All facts of the rule were met. Its conclusion gets the rank that they ask; the roots behind the lowest open premise go, or a cycle is met.
+  module _ {r : Look} {low high : ℕ} (is : r ≡ look.Seen low high) (finds : LookFinds P i seen r) where
+    met : LookFinds P i seen (look.Seen low high)
+    met = subst (λ q. LookFinds P i seen q) is finds
+
+    asked-rank : RanksSoFar P (set ranks fact high)
+    asked-rank = raised P ranks fact high fact-small (met .1 .0) (λ rank r. subst (λ f. high ≤ rank f) (own-rule .1) (met .1 .1 rank r)) (w .so-far)
+
+    pub merged-cycle : {m : Merge} → m ≡ merge.Barred → Merges roots (s .roots) low m → Cycle P (inForce P)
+    merged-cycle way merges =
+        ⊎-elim
+        (λ e. absurd (none-cycle (w .walking) (rw e at gone)))
+        (λ (g, (named, (below, (place, is-open)))). merge-cycle (w .walking) now-here i rule-known concludes g low named below place is-open gone)
+        (met .0)
+      where
+        gone : Merges roots (s .roots) low merge.Barred
+        gone = subst (λ q. Merges roots (s .roots) low q) way merges
+
+    left-walking : (left : ℕ) → Merges roots (s .roots) low (merge.Left left) → Walking P seen stack roots (s .height) left
+    left-walking left gone =
+        ⊎-elim
+        (λ e. none-merged (w .walking) left (rw e at gone))
+        (λ (g, (named, (below, (place, is-open)))). merged (w .walking) now-here i rule-known concludes g low named below place is-open left gone)
+        (met .0)
+
+    -- The rule is done with: the fact's next one follows it in the thread. Its rank is raised where it was below the one that is asked.
+    pub looked-on :
+        {m : Merge} {left : ℕ} (j : ℕ) (ranks′ : List ℕ) → m ≡ merge.Left left → Merges roots (s .roots) low m → j ≡ i → (ranks′ ≡ set ranks fact high) ⊎ (ranks′ ≡ ranks)
+        → TurnLeaves P seen todo s next (Goes (record { height = s .height; roots = left; at = s .at })) seen stack roots (set todo fact (getD next j 0)) ranks′
+    looked-on {left = left} j ranks′ way merges same ranked =
+        rw same (
+          record {
+            walking = left-walking left gone;
+            current = λ _. current-fewer roots (s .height) (s .roots) left (s .at) (gone .0) now-here;
+            threads = followed (w .threads) (w .walking .few) fact-low (l .is-rule) rule-known (own-rule .1);
+            so-far = ⊎-elim (λ e. rw e asked-rank) (λ e. rw e (w .so-far)) ranked;
+          },
+          fewer-left _ _ (s .height) (s .at) (s .height) (s .at)
+              (omega (arith, less-followed (w .threads) (w .walking .few) fact-low (l .is-rule) rule-known (own-rule .1) (l .few-rules)))
+              (omega (arith, looked-inside w (l .some-open), few-open w (l .some-open))),
+        )
+      where
+        gone : Merges roots (s .roots) low (merge.Left left)
+        gone = subst (λ q. Merges roots (s .roots) low q) way merges

@@ -1,0 +1,217 @@
+// The walk. Internal.
+ghost use Prim.Native.Nat.{ℕ, _<_, _≤_};
+ghost use mathlib.Core.Path.{_≡_};
+ghost use mathlib.Core.List.{List};
+ghost use lib.ListN.{length, getD};
+ghost use Rattle.theory.specs.Rule.{Program, count, rule as ruleOf};
+ghost use Rattle.items.specs.Item.{narrow, maxFacts};
+ghost use Rattle.tables.specs.Layout.{programIn, WellFormed};
+ghost use Rattle.tables.specs.Ranking.{RanksSoFar};
+ghost use Rattle.components.specs.Open.{seenOf, unmet, factAt};
+ghost use Rattle.descent.specs.declared.walk.Turn.the-variants.{Goes};
+ghost use Rattle.descent.specs.Standing.{Stands, Rests, TurnLeaves, WalkLeaves, Guides};
+use components::close::close_from;
+use components::look::Look;
+use components::look::UNMET;
+use components::look::look_at_rule;
+use components::open::Merge;
+use components::open::merge_roots;
+use components::open::open_fact;
+use components::open::root_place;
+use items::item::FactId;
+use items::item::MAX_FACTS;
+use items::item::MAX_RULES;
+use items::item::RuleId;
+use tables::layout::TABLE_CELLS;
+use tables::layout::facts_of;
+use tables::layout::rules_of;
+use tables::layout::wide;
+use tables::rule::conclusion;
+use threads::END;
+
+// How many facts are open, how many of them are roots, and the place of the one that is looked at.
+pub struct Standing {
+    pub height: usize,
+    pub roots: usize,
+    pub at: usize,
+}
+
+// A turn of the walk.
+pub enum Turn {
+    Goes(Standing),
+    Cyclic,
+}
+
+// A fact has no rule left to look at: where it is the last root its component is closed, and else the fact before it is looked at again.
+fn leave(
+    seen: &mut [u16; MAX_FACTS],
+    stack: &[u16; MAX_FACTS],
+    roots: &[u16; MAX_FACTS],
+    ranks: &mut [u16; MAX_FACTS],
+    s: Standing,
+) -> Standing
+    requires { ⌜ (0 < s .height) × (s .height ≤ maxFacts narrow) × (0 < s .roots) × (s .roots ≤ maxFacts narrow) × (s .at < s .height) ⌝ }
+    requires { ⌜ (length (now seen) ≡ maxFacts narrow) × (length (now ranks) ≡ maxFacts narrow) × ((a : ℕ) → a < s .height → factAt (now stack) a < maxFacts narrow) ⌝ }
+    ensures { λ r. ⌜ ((P : Program) (todo next : List ℕ) → Stands P (now (seen .entry)) (now (stack .entry)) (now (roots .entry)) todo next (now (ranks .entry)) s → TurnLeaves P (now (seen .entry)) todo s next (Goes r) (now (seen .exit)) (now (stack .entry)) (now (roots .entry)) todo (now (ranks .exit))) ⌝ }
+{
+    let height = s.height;
+    let count = s.roots;
+    let at = s.at;
+    if root_place(roots, count - 1) < at {
+        return Standing {
+            height,
+            roots: count,
+            at: at - 1,
+        };
+    }
+    close_from(seen, stack, ranks, at, height);
+    if at == 0 {
+        return Standing {
+            height: 0,
+            roots: 0,
+            at: 0,
+        };
+    }
+    Standing {
+        height: at,
+        roots: count - 1,
+        at: at - 1,
+    }
+}
+
+// One turn: looks at the next rule of the present fact. A fact that was not met is opened, and is the present one then; an open premise makes one component of
+// all that is behind it; where no rule is left the fact is left.
+fn take_turn(
+    tables: &[u16; TABLE_CELLS],
+    next: &[u16; MAX_RULES],
+    todo: &mut [u16; MAX_FACTS],
+    seen: &mut [u16; MAX_FACTS],
+    stack: &mut [u16; MAX_FACTS],
+    roots: &mut [u16; MAX_FACTS],
+    ranks: &mut [u16; MAX_FACTS],
+    s: Standing,
+) -> Turn
+    requires { ⌜ WellFormed (now tables) × (0 < s .height) ⌝ }
+    requires { ⌜ Stands (programIn (now tables)) (now seen) (now stack) (now roots) (now todo) (now next) (now ranks) s ⌝ }
+    ensures { λ r. ⌜ TurnLeaves (programIn (now (tables .entry))) (now (seen .entry)) (now (todo .entry)) s (now (next .entry)) r (now (seen .exit)) (now (stack .exit)) (now (roots .exit)) (now (todo .exit)) (now (ranks .exit)) ⌝ }
+{
+    let height = s.height;
+    let count = s.roots;
+    let at = s.at;
+    let fact = wide(stack[at]);
+    let rule = todo[fact];
+    if rule == END {
+        return Turn::Goes(leave(seen, stack, roots, ranks, s));
+    }
+    match look_at_rule(tables, RuleId(rule), seen, ranks) {
+        Look::Unmet(found, barring) => {
+            open_fact(seen, stack, roots, height, count, found, barring);
+            Turn::Goes(Standing {
+                height: height + 1,
+                roots: count + 1,
+                at: height,
+            })
+        }
+        Look::Barred => Turn::Cyclic,
+        Look::Seen { low, high } => {
+            if ranks[fact] < high {
+                ranks[fact] = high;
+            }
+            todo[fact] = next[wide(rule)];
+            match merge_roots(roots, count, low) {
+                Merge::Barred => Turn::Cyclic,
+                Merge::Left(left) => Turn::Goes(Standing {
+                    height,
+                    roots: left,
+                    at,
+                }),
+            }
+        }
+    }
+}
+
+// Walks from a fact that was not met until no fact is open. Answers false where it met a cycle.
+fn walk_from(
+    tables: &[u16; TABLE_CELLS],
+    next: &[u16; MAX_RULES],
+    todo: &mut [u16; MAX_FACTS],
+    seen: &mut [u16; MAX_FACTS],
+    stack: &mut [u16; MAX_FACTS],
+    roots: &mut [u16; MAX_FACTS],
+    ranks: &mut [u16; MAX_FACTS],
+    fact: FactId,
+) -> bool
+    requires { ⌜ WellFormed (now tables) × Rests (programIn (now tables)) (now seen) (now stack) (now roots) (now todo) (now next) (now ranks) ⌝ }
+    requires { ⌜ (fact .0 < programIn (now tables) .facts) × (seenOf (now seen) (fact .0) ≡ unmet) ⌝ }
+    ensures { λ r. ⌜ WalkLeaves (programIn (now (tables .entry))) (now (next .entry)) r (now (seen .exit)) (now (stack .exit)) (now (roots .exit)) (now (todo .exit)) (now (ranks .exit)) ⌝ }
+{
+    open_fact(seen, stack, roots, 0, 0, fact, false);
+    let mut s = Standing {
+        height: 1,
+        roots: 1,
+        at: 0,
+    };
+    while s.height > 0 {
+        match take_turn(tables, next, todo, seen, stack, roots, ranks, s) {
+            Turn::Cyclic => {
+                return false;
+            }
+            Turn::Goes(then) => {
+                s = then;
+            }
+        }
+    }
+    true
+}
+
+// The conclusion of each rule, as its key.
+fn conclusions_of(tables: &[u16; TABLE_CELLS]) -> [u16; MAX_RULES]
+    requires { ⌜ WellFormed (now tables) ⌝ }
+    ensures { λ r. ⌜ ((i : ℕ) → i < count (programIn (now (tables .entry))) → getD r i 0 ≡ ruleOf (programIn (now (tables .entry))) i .conclusion) ⌝ }
+{
+    let rules = rules_of(tables);
+    let mut keys = [0u16; MAX_RULES];
+    let mut i: usize = 0;
+    while i < rules {
+        let fact = conclusion(tables, RuleId(i as u16));
+        keys[i] = fact.0;
+        i += 1;
+    }
+    keys
+}
+
+// Walks from every fact. Raises the ranks of all facts as far as the walk shows them, from ranks that are not too high; answers false where it met a cycle.
+pub fn walk(tables: &[u16; TABLE_CELLS], ranks: &mut [u16; MAX_FACTS]) -> bool
+    requires { ⌜ WellFormed (now tables) × RanksSoFar (programIn (now tables)) (now ranks) ⌝ }
+    ensures { λ r. ⌜ Guides (programIn (now (tables .entry))) r (now (ranks .exit)) ⌝ }
+{
+    let keys = conclusions_of(tables);
+    let mut todo = [END; MAX_FACTS];
+    let mut next = [0u16; MAX_RULES];
+    threads::thread(&keys, rules_of(tables), &mut todo, &mut next);
+    let mut seen = [UNMET; MAX_FACTS];
+    let mut stack = [0u16; MAX_FACTS];
+    let mut roots = [0u16; MAX_FACTS];
+    let facts = facts_of(tables);
+    let mut f: usize = 0;
+    while f < facts {
+        if seen[f] != UNMET {
+            f += 1;
+            continue;
+        }
+        if !walk_from(
+            tables,
+            &next,
+            &mut todo,
+            &mut seen,
+            &mut stack,
+            &mut roots,
+            ranks,
+            FactId(f as u16),
+        ) {
+            return false;
+        }
+        f += 1;
+    }
+    true
+}

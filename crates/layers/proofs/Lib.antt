@@ -1,0 +1,3 @@
+pub mod RanksFound
+pub mod LayeredAnswers
+pub mod LayersMeaning

@@ -1,0 +1,2 @@
+pub mod RuleAsks
+pub mod RanksRaised

@@ -1,0 +1,3 @@
+// Ranks of the facts of a program, raised until no rule asks for more. Internal.
+mod asks;
+pub mod raise;

@@ -1,0 +1,2 @@
+pub mod RulesThreaded
+pub mod KeysTold
