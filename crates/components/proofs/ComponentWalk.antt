@@ -1,5 +1,5 @@
 -- The walk along dependencies: what the fact that is looked at says of all open facts, when components are merged, and where a cycle is met.
-use Prim.Native.Nat.{ℕ, _-_, _≤_, _<_}
+use Prim.Native.Nat.{ℕ, _≤_, _<_}
 use native.Mathlib.Omega.{arith}
 use mathlib.Core.Path.{_≡_, sym, subst}
 use mathlib.Core.Bool.{Bool, true, false}
@@ -12,7 +12,7 @@ use Rattle.theory.specs.Layers.{Cycle}
 use Rattle.theory.proofs.Bools.{either}
 use Rattle.items.specs.Item.{narrow, maxFacts}
 use Rattle.components.specs.declared.«open».Merge.the-variants.{Left, Barred}
-use Rattle.components.specs.Open.{Reaches, ReachesBarred, nowhere, seenOf, factAt, rootPlace, Walking, Current, MayOpen, Merges}
+use Rattle.components.specs.Open.{Reaches, ReachesBarred, nowhere, seenOf, factAt, openerAt, rootPlace, Walking, Current, MayOpen, Merges}
 use Rattle.components.specs.Look.{bodyPart}
 use Rattle.components.proofs.Reaching.{one-link, barring-link, reaches-join, then-barred, round}
 
@@ -20,9 +20,10 @@ use Rattle.components.proofs.Reaching.{one-link, barring-link, reaches-
 pub current-fewer : (roots : List ℕ) (n m left at : ℕ) → left ≤ m → Current roots n m at → Current roots n left at
 current-fewer roots n m left at few here = record { inside = here .inside; no-root-behind = λ t l. here .no-root-behind t (omega arith) }
 
--- Where it is not the last root it can be left for the fact before it.
-pub left-one : (roots : List ℕ) (n m at : ℕ) → Current roots n m at → ((t : ℕ) → t < m → rootPlace roots t < at) → Current roots n m (at - 1)
-left-one roots n m at here before = record { inside = omega (arith, here .inside); no-root-behind = λ t l. omega (arith, before t l) }
+-- It can be left for the fact that opened it, where all roots that stay are before it: none of them stands between the two.
+pub left-for-opener : {P : Program} {seen stack roots : List ℕ} {n m at : ℕ} (k left : ℕ) → Walking P seen stack roots n m → 0 < at → at < n → at ≤ k → left ≤ m → ((t : ℕ) → t < left → rootPlace roots t < at) → Current roots k left (openerAt stack at)
+left-for-opener {at = at} k left w some-before inside up few before =
+    record { inside = omega (arith, w .opener-earlier at some-before inside); no-root-behind = λ t l. w .opener-rooted at t some-before inside (omega arith) (before t l) }
 
 module _ {P : Program} {seen stack roots : List ℕ} {n m at : ℕ} (w : Walking P seen stack roots n m) (here : Current roots n m at) where
   -- every open fact depends on the one that is looked at
@@ -71,6 +72,8 @@ module _ {P : Program} {seen stack roots : List ℕ} {n m at : ℕ} (w : Walking
             few = w .few;
             fact-there = w .fact-there;
             place-there = w .place-there;
+            opener-earlier = w .opener-earlier;
+            opener-rooted = λ a t h l u. w .opener-rooted a t h l (omega (arith, gone .0));
             first-root = first;
             root-inside = λ t l. w .root-inside t (omega (arith, gone .0));
             ascending = λ t u l h. w .ascending t u l (omega (arith, gone .0));

@@ -13,7 +13,8 @@ use Rattle.theory.specs.Rule.{Program}
 use Rattle.theory.proofs.Bools.{either}
 use Rattle.theory.proofs.Counted.{counted-less}
 use Rattle.items.specs.Item.{narrow, maxFacts}
-use Rattle.components.specs.Open.{Reaches, ReachesBarred, unmet, seenOf, factAt, rootPlace, rootBarred, unmetCount, Walking, MayOpen}
+use Rattle.components.specs.Open.{Reaches, ReachesBarred, unmet, seenOf, factAt, openerAt, rootPlace, rootBarred, unmetCount, Walking, Current, MayOpen}
+use Rattle.components.proofs.StackCells.{stackCell, cell-fact, cell-opener, same-fact, same-opener}
 
 -- The cell of a root: its place, and so many more where it was met by a constraint.
 abbrev pub rootCell : Bool → ℕ → ℕ
@@ -62,14 +63,14 @@ last-or : {A : Type 0} (k x : ℕ) → x < k + 1 → (x ≡ k → A) → (x < k 
 last-or k x h last before =
     ⊎-elim (λ e. last (eqb-true x k e)) (λ e. let other : x ≡ k → ⊥ = eqb-false x k e in before (omega arith)) (either (eqb x k))
 
--- The fact f was not met and may be opened: it gets the place n, and the root m stands there.
-module _ {P : Program} {seen stack roots : List ℕ} {n m : ℕ} (w : Walking P seen stack roots n m) (small : n < maxFacts narrow) (fewer : m ≤ n)
-    (f : ℕ) (known : f < P .facts) (new : seenOf seen f ≡ unmet) (barring : Bool) (may : MayOpen P stack n f barring) where
+-- The fact f was not met and may be opened, by the fact that is looked at: it gets the place n, and the root m stands there.
+module _ {P : Program} {seen stack roots : List ℕ} {n m opener : ℕ} (w : Walking P seen stack roots n m) (small : n < maxFacts narrow) (fewer : m ≤ n)
+    (here : 0 < n → Current roots n m opener) (f : ℕ) (known : f < P .facts) (new : seenOf seen f ≡ unmet) (barring : Bool) (may : MayOpen P stack n f barring) where
   abbrev seen′ : List ℕ
   seen′ = set seen f n
 
   abbrev stack′ : List ℕ
-  stack′ = set stack n f
+  stack′ = set stack n (stackCell f opener)
 
   abbrev roots′ : List ℕ
   roots′ = set roots m (rootCell barring n)
@@ -78,8 +79,14 @@ module _ {P : Program} {seen stack roots : List ℕ} {n m : ℕ} (w : Walking P 
   new-seen : seenOf seen′ f ≡ n
   new-seen = getD-set-same seen f n 0 (omega (arith, w .seen-places, w .few))
 
+  new-stack-cell : getD stack′ n 0 ≡ stackCell f opener
+  new-stack-cell = getD-set-same stack n (stackCell f opener) 0 (omega (arith, w .stack-places))
+
   new-fact : factAt stack′ n ≡ f
-  new-fact = getD-set-same stack n f 0 (omega (arith, w .stack-places))
+  new-fact = cell-fact stack′ n f opener (omega (arith, w .few)) new-stack-cell
+
+  new-opener : openerAt stack′ n ≡ opener
+  new-opener = cell-opener stack′ n f opener (omega (arith, w .few)) new-stack-cell
 
   new-cell : (rootPlace roots′ m ≡ n) × (rootBarred roots′ m ≡ barring)
   new-cell = cell-told roots′ m barring n small (getD-set-same roots m (rootCell barring n) 0 (omega (arith, w .root-places)))
@@ -90,8 +97,14 @@ module _ {P : Program} {seen stack roots : List ℕ} {n m : ℕ} (w : Walking P 
   other-seen : (g : ℕ) → (g ≡ f → ⊥) → seenOf seen′ g ≡ seenOf seen g
   other-seen g o = getD-set-other seen f g n 0 o
 
+  old-stack-cell : (a : ℕ) → a < n → getD stack′ a 0 ≡ getD stack a 0
+  old-stack-cell a h = getD-set-other stack n a (stackCell f opener) 0 (λ (e : a ≡ n). omega arith)
+
   old-fact : (a : ℕ) → a < n → factAt stack′ a ≡ factAt stack a
-  old-fact a h = getD-set-other stack n a f 0 (λ (e : a ≡ n). omega arith)
+  old-fact a h = same-fact stack a stack′ (old-stack-cell a h)
+
+  old-opener : (a : ℕ) → a < n → openerAt stack′ a ≡ openerAt stack a
+  old-opener a h = same-opener stack a stack′ (old-stack-cell a h)
 
   old-place : (t : ℕ) → t < m → rootPlace roots′ t ≡ rootPlace roots t
   old-place t h = same-place roots t roots′ (getD-set-other roots m t (rootCell barring n) 0 (λ (e : t ≡ m). omega arith))
@@ -133,6 +146,31 @@ module _ {P : Program} {seen stack roots : List ℕ} {n m : ℕ} (w : Walking P 
           let same : seenOf seen′ g ≡ seenOf seen g = other-seen g o in
           let there : (seenOf seen g < n) × (factAt stack (seenOf seen g) ≡ g) = w .place-there g l (omega arith) in
           rw same (omega (arith, there .0), old-fact (seenOf seen g) (there .0) ∙ there .1)
+
+  -- The new fact was opened by the one that is looked at, with no root behind it; the new root is no earlier than the new fact.
+  earlier-now : (a : ℕ) → 0 < a → a < n + 1 → openerAt stack′ a < a
+  earlier-now a some-before h = last-or n a h last before
+    where
+      last : a ≡ n → openerAt stack′ a < a
+      last e = rw (e, new-opener) (here (omega arith) .inside)
+
+      before : a < n → openerAt stack′ a < a
+      before l = rw (old-opener a l) (w .opener-earlier a some-before l)
+
+  rooted-now : (a t : ℕ) → 0 < a → a < n + 1 → t < m + 1 → rootPlace roots′ t < a → rootPlace roots′ t ≤ openerAt stack′ a
+  rooted-now a t some-before h k u = last-or m t k new-root old-root
+    where
+      new-root : t ≡ m → rootPlace roots′ t ≤ openerAt stack′ a
+      new-root e = let place : rootPlace roots′ t ≡ n = rw e new-place in absurd (omega arith)
+
+      old-root : t < m → rootPlace roots′ t ≤ openerAt stack′ a
+      old-root o = last-or n a h last before
+        where
+          last : a ≡ n → rootPlace roots′ t ≤ openerAt stack′ a
+          last e = rw (e, new-opener, old-place t o) (here (omega arith) .no-root-behind t o)
+
+          before : a < n → rootPlace roots′ t ≤ openerAt stack′ a
+          before l = rw (old-opener a l, old-place t o) (w .opener-rooted a t some-before l o (rw (old-place t o) at u))
 
   -- the new root is the first where none was, and then no fact was open
   first-now : rootPlace roots′ 0 ≡ 0
@@ -206,12 +244,14 @@ module _ {P : Program} {seen stack roots : List ℕ} {n m : ℕ} (w : Walking P 
   opened =
       record {
         seen-places = length-set seen f n ∙ w .seen-places;
-        stack-places = length-set stack n f ∙ w .stack-places;
+        stack-places = length-set stack n (stackCell f opener) ∙ w .stack-places;
         root-places = length-set roots m (rootCell barring n) ∙ w .root-places;
         room = omega (arith, w .room, one-less);
         few = w .few;
         fact-there = there-now;
         place-there = placed-now;
+        opener-earlier = earlier-now;
+        opener-rooted = rooted-now;
         first-root = λ _. (omega arith, first-now);
         root-inside = inside-now;
         ascending = ascending-now;

@@ -1,4 +1,5 @@
 pub mod RuleLooked
+pub mod StackCells
 pub mod ComponentClosed
 pub mod RootsLeft
 pub mod FactOpened

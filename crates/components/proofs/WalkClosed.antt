@@ -112,6 +112,8 @@ module _ {P : Program} {seen stack roots : List ℕ} {n m at : ℕ} (w : Walking
         few = w .few;
         fact-there = there;
         place-there = places;
+        opener-earlier = λ a h l. w .opener-earlier a h (omega (arith, here .inside));
+        opener-rooted = λ a t h l u. w .opener-rooted a t h (omega (arith, here .inside)) (omega arith);
         first-root = first;
         root-inside = λ t l. (w .root-inside t (omega arith) .0, omega (arith, w .ascending t (m - 1) l (omega arith)));
         ascending = λ t u l h. w .ascending t u l (omega arith);
@@ -157,14 +159,3 @@ module _ {P : Program} {seen stack roots : List ℕ} {n m at : ℕ} (w : Walking
           (λ e. behind t (ltb-true _ _ e) u)
           (λ e. let high : m - 1 ≤ t = ltb-false _ _ e in let is-last : t ≡ m - 1 = omega arith in rw (is-last, last) la)
           (either (ltb t (m - 1)))
-
-  pub closed-current : 0 < at → Current roots at (m - 1) (at - 1)
-  closed-current h = record { inside = omega arith; no-root-behind = λ t l. omega (arith, closed-walking .root-inside t l .1) }
-
-  -- Where the place is the first one no fact stays open.
-  pub closed-all : at ≡ 0 → Walking P seen′ stack roots 0 0
-  closed-all z = subst (λ r. Walking P seen′ stack roots 0 r) (none (ltb 0 (m - 1)) refl) (subst (λ a. Walking P seen′ stack roots a (m - 1)) z closed-walking)
-    where
-      none : (b : Bool) → ltb 0 (m - 1) ≡ b → m - 1 ≡ 0
-      none true e = absurd (omega (arith, closed-walking .root-inside 0 (ltb-true _ _ e) .1))
-      none false e = let few : m - 1 ≤ 0 = ltb-false _ _ e in omega arith

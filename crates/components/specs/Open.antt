@@ -1,6 +1,6 @@
 -- Internal: the walk along dependencies that finds the strong components (sets of facts each of which depends on each other), after Gabow: facts are
 -- open from when they are met until their component is closed, and stand on a stack; some of them are roots, where a component begins as far as is known.
-use Prim.Native.Nat.{ℕ, _+_, _-_, _<_, _≤_}
+use Prim.Native.Nat.{ℕ, _+_, _-_, _/_, _%_, _<_, _≤_}
 use mathlib.Core.Path.{_≡_}
 use mathlib.Core.Bool.{Bool, true, false, cond, not}
 use mathlib.Core.List.{List}
@@ -34,9 +34,12 @@ nowhere = 65535
 abbrev pub seenOf : List ℕ → ℕ → ℕ
 seenOf seen f = getD seen f 0
 
--- the fact at a place of the stack
-abbrev pub factAt : List ℕ → ℕ → ℕ
-factAt stack a = getD stack a 0
+-- A cell of the stack has the fact that stands there and, 256 times, the place of the fact that opened it.
+unfoldable pub factAt : List ℕ → ℕ → ℕ
+factAt stack a = getD stack a 0 % maxFacts narrow
+
+unfoldable pub openerAt : List ℕ → ℕ → ℕ
+openerAt stack a = getD stack a 0 / maxFacts narrow
 
 -- A root has its place, and behind the last place there stand the roots that were met by a constraint.
 unfoldable pub rootPlace : List ℕ → ℕ → ℕ
@@ -59,6 +62,9 @@ pub record Walking (P : Program) (seen stack roots : List ℕ) (n m : ℕ) : Typ
   -- the stack and the places agree
   pub fact-there : (a : ℕ) → a < n → (factAt stack a < P .facts) × (seenOf seen (factAt stack a) ≡ a)
   pub place-there : (f : ℕ) → f < P .facts → seenOf seen f < maxFacts narrow → (seenOf seen f < n) × (factAt stack (seenOf seen f) ≡ f)
+  -- each fact but the first was opened by an earlier one, and no root stands between the two
+  pub opener-earlier : (a : ℕ) → 0 < a → a < n → openerAt stack a < a
+  pub opener-rooted : (a t : ℕ) → 0 < a → a < n → t < m → rootPlace roots t < a → rootPlace roots t ≤ openerAt stack a
   -- the first open fact is a root, and the roots ascend
   pub first-root : 0 < n → (0 < m) × (rootPlace roots 0 ≡ 0)
   pub root-inside : (t : ℕ) → t < m → (t ≤ rootPlace roots t) × (rootPlace roots t < n)

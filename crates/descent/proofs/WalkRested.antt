@@ -14,7 +14,7 @@ use Rattle.theory.proofs.Counted.{counted-most}
 use Rattle.items.specs.Item.{narrow, maxFacts}
 use Rattle.tables.specs.Ranking.{RanksSoFar}
 use Rattle.threads.specs.Threads.{Threaded}
-use Rattle.components.specs.Open.{unmet, seenOf, factAt, unmetCount, Walking, MayOpen}
+use Rattle.components.specs.Open.{unmet, seenOf, factAt, unmetCount, Walking, Current, MayOpen}
 use Rattle.descent.specs.declared.walk.Standing.{Standing}
 use Rattle.descent.specs.Standing.{Stands, Rests}
 use Rattle.descent.proofs.ThreadsBegun.{threads-begin}
@@ -30,6 +30,8 @@ none-met P seen stack roots few all-unmet stack-places root-places =
       few = few;
       fact-there = λ a l. absurd (omega arith);
       place-there = λ f low is-open. absurd (omega (arith, not-met f low));
+      opener-earlier = λ a h l. absurd (omega arith);
+      opener-rooted = λ a t h l. absurd (omega arith);
       first-root = λ l. absurd (omega arith);
       root-inside = λ t l. absurd (omega arith);
       ascending = λ t u l h. absurd (omega arith);
@@ -52,15 +54,15 @@ rests-first P {keys} {todo} {next} b few told all-rules threaded all-unmet stack
 
 -- A fact that was not met is opened.
 module _ {P : Program} {seen stack roots todo next ranks : List ℕ} (w : Rests P seen stack roots todo next ranks) (f : ℕ) (low : f < P .facts) where
-  pub may-begin : ((length seen ≡ maxFacts narrow) × (length stack ≡ maxFacts narrow) × (length roots ≡ maxFacts narrow)) × ((0 < maxFacts narrow) × (0 ≤ 0) × (f < maxFacts narrow))
-  may-begin = ((w .walking .seen-places, w .walking .stack-places, w .walking .root-places), (omega arith, omega arith, omega (arith, w .walking .few)))
+  pub may-begin : ((length seen ≡ maxFacts narrow) × (length stack ≡ maxFacts narrow) × (length roots ≡ maxFacts narrow)) × ((0 < maxFacts narrow) × (0 ≤ 0) × (0 < maxFacts narrow) × (f < maxFacts narrow))
+  may-begin = ((w .walking .seen-places, w .walking .stack-places, w .walking .root-places), (omega arith, omega arith, omega arith, omega (arith, w .walking .few)))
 
   pub begun :
       (barring : Bool) (seen′ stack′ roots′ : List ℕ) → seenOf seen f ≡ unmet
-      → (Walking P seen stack roots 0 0 → f < P .facts → seenOf seen f ≡ unmet → MayOpen P stack 0 f barring → Walking P seen′ stack′ roots′ 1 1 × ((factAt stack′ 0 ≡ f) × (unmetCount P seen ≡ unmetCount P seen′ + 1)))
+      → (Walking P seen stack roots 0 0 → (0 < 0 → Current roots 0 0 0) → f < P .facts → seenOf seen f ≡ unmet → MayOpen P stack 0 f barring → Walking P seen′ stack′ roots′ 1 1 × ((factAt stack′ 0 ≡ f) × (unmetCount P seen ≡ unmetCount P seen′ + 1)))
       → Stands P seen′ stack′ roots′ todo next ranks (record { height = 1; roots = 1; at = 0 })
   begun barring seen′ stack′ roots′ not-met opens =
-      let now-open = opens (w .walking) low not-met (λ a l. absurd (omega arith)) .0 in
+      let now-open = opens (w .walking) (λ l. absurd (omega arith)) low not-met (λ a l. absurd (omega arith)) .0 in
       record {
         walking = now-open;
         current = λ _. record { inside = omega arith; no-root-behind = λ t l. omega (arith, now-open .root-inside t l .1) };

@@ -5,11 +5,12 @@ use mathlib.Core.Path.{_≡_, refl, sym, ap, subst, _∙_}
 use mathlib.Core.Bool.{Bool, true, false, cond}
 use mathlib.Core.List.{List}
 use mathlib.Core.Logic.{_⊎_, inl, inr, ⊎-elim}
-use borrow.Author.Tests.{ne-eqb}
+use borrow.Author.Tests.{eqb-true, eqb-false, ne-eqb}
 use lib.ListN.{length, getD, set}
 use lib.Dec.{eqb}
 use Rattle.theory.specs.Rule.{Program, inForce, count, rule}
 use Rattle.theory.specs.Layers.{Cycle}
+use Rattle.theory.proofs.Bools.{either}
 use Rattle.items.specs.Item.{narrow, maxFacts, maxRules}
 use Rattle.items.specs.declared.item.FactId.{FactId}
 use Rattle.tables.specs.Ranking.{RanksSoFar}
@@ -18,11 +19,11 @@ use Rattle.components.specs.declared.look.Look.{Look}
 use Rattle.components.specs.declared.look.Look.the-variants as look
 use Rattle.components.specs.declared.«open».Merge.{Merge}
 use Rattle.components.specs.declared.«open».Merge.the-variants as merge
-use Rattle.components.specs.Open.{unmet, seenOf, factAt, rootPlace, unmetCount, Walking, Current, MayOpen, Merges, ClosedFrom}
+use Rattle.components.specs.Open.{unmet, seenOf, factAt, openerAt, rootPlace, unmetCount, Walking, Current, MayOpen, Merges, ClosedFrom}
 use Rattle.components.specs.Look.{LookFinds}
-use Rattle.components.proofs.ComponentWalk.{current-fewer, left-one, may-open, open-constraint-cycle, merged, merge-cycle, none-merged, none-cycle}
+use Rattle.components.proofs.ComponentWalk.{current-fewer, left-for-opener, may-open, open-constraint-cycle, merged, merge-cycle, none-merged, none-cycle}
 use Rattle.tables.proofs.RanksHeld.{raised}
-use Rattle.components.proofs.WalkClosed.{last-highest, closed-ranks, closed-unmet, closed-walking, closed-current, closed-all}
+use Rattle.components.proofs.WalkClosed.{last-highest, closed-ranks, closed-unmet, closed-walking}
 use Rattle.descent.specs.declared.walk.Standing.{Standing}
 use Rattle.descent.specs.declared.walk.Turn.the-variants.{Goes}
 use Rattle.descent.specs.Standing.{threadsLeft, Stands, TurnLeaves}
@@ -63,32 +64,32 @@ module _ {P : Program} {seen stack roots todo next ranks : List ℕ} {s : Standi
       let last : s .roots - 1 < s .roots = omega (arith, some-root) in
       omega (arith, w .walking .root-inside (s .roots - 1) last .0, w .walking .root-inside (s .roots - 1) last .1)
 
-  pub looked-inside : s .at < s .height
+  looked-inside : s .at < s .height
   looked-inside = here .inside
 
-  stack-low : (a : ℕ) → a < s .height → factAt stack a < maxFacts narrow
-  stack-low a l = omega (arith, w .walking .fact-there a l .0, w .walking .few)
-
-  pub looked-small : factAt stack (s .at) < maxFacts narrow
-  looked-small = stack-low (s .at) looked-inside
+  pub looked-small : s .at < maxFacts narrow
+  looked-small = omega (arith, looked-inside, few-open)
 
   -- what merging components asks, and what leaving a fact asks
   pub may-merge : (s .roots ≤ maxFacts narrow) × (length roots ≡ maxFacts narrow)
   may-merge = (omega (arith, few-roots, few-open), w .walking .root-places)
 
-  pub may-leave : ((0 < s .height) × (s .height ≤ maxFacts narrow) × (0 < s .roots) × (s .roots ≤ maxFacts narrow) × (s .at < s .height)) × ((length seen ≡ maxFacts narrow) × (length ranks ≡ maxFacts narrow) × ((a : ℕ) → a < s .height → factAt stack a < maxFacts narrow))
-  may-leave = ((some-open, omega (arith, few-open), some-root, may-merge .0, looked-inside), (w .walking .seen-places, w .so-far .places, stack-low))
+  pub may-leave : ((0 < s .height) × (s .height ≤ maxFacts narrow) × (0 < s .roots) × (s .roots ≤ maxFacts narrow) × (s .at < s .height)) × ((length seen ≡ maxFacts narrow) × (length ranks ≡ maxFacts narrow))
+  may-leave = ((some-open, omega (arith, few-open), some-root, may-merge .0, looked-inside), (w .walking .seen-places, w .so-far .places))
 
-  -- The fact is left for the one before it.
-  pub stepped-back : rootPlace roots (s .roots - 1) < s .at → TurnLeaves P seen todo s next (Goes (record { height = s .height; roots = s .roots; at = s .at - 1 })) seen stack roots todo ranks
+  opener-before : 0 < s .at → openerAt stack (s .at) < s .at
+  opener-before h = w .walking .opener-earlier (s .at) h looked-inside
+
+  -- The fact is left for the one that opened it.
+  pub stepped-back : rootPlace roots (s .roots - 1) < s .at → TurnLeaves P seen todo s next (Goes (record { height = s .height; roots = s .roots; at = openerAt stack (s .at) })) seen stack roots todo ranks
   stepped-back behind = (
     record {
       walking = w .walking;
-      current = λ _. left-one roots (s .height) (s .roots) (s .at) here (λ t l. omega (arith, last-highest (w .walking) t l));
+      current = λ _. left-for-opener (s .height) (s .roots) (w .walking) (omega arith) looked-inside (omega (arith, looked-inside)) (omega arith) (λ t l. omega (arith, last-highest (w .walking) t l));
       threads = w .threads;
       so-far = w .so-far;
     },
-    nearer-left _ _ (s .height) (s .at) (s .height) (s .at - 1) refl some-open (inr (omega arith)),
+    nearer-left _ _ (s .height) (s .at) (s .height) (openerAt stack (s .at)) refl some-open (inr (opener-before (omega arith))),
   )
 
   -- The last component is closed.
@@ -99,26 +100,19 @@ module _ {P : Program} {seen stack roots todo next ranks : List ℕ} {s : Standi
     same-left : unmetCount P seen′ + threadsLeft P todo ≡ unmetCount P seen + threadsLeft P todo
     same-left = ap (λ u. u + threadsLeft P todo) (closed-unmet (w .walking) here some-root last-root c)
 
-    pub closed-last : 0 < s .at → TurnLeaves P seen todo s next (Goes (record { height = s .at; roots = s .roots - 1; at = s .at - 1 })) seen′ stack roots todo ranks′
-    closed-last h = (
-      record {
-        walking = closed-walking (w .walking) here some-root last-root c;
-        current = λ _. closed-current (w .walking) here some-root last-root c h;
-        threads = w .threads;
-        so-far = closed-ranks (w .walking) here some-root last-root c (w .so-far);
-      },
-      nearer-left _ _ (s .height) (s .at) (s .at) (s .at - 1) same-left some-open (inr (omega arith)),
-    )
+    still : Walking P seen′ stack roots (s .at) (s .roots - 1)
+    still = closed-walking (w .walking) here some-root last-root c
 
-    pub closed-first : s .at ≡ 0 → TurnLeaves P seen todo s next (Goes (record { height = 0; roots = 0; at = 0 })) seen′ stack roots todo ranks′
-    closed-first z = (
+    pub closed-last : TurnLeaves P seen todo s next (Goes (record { height = s .at; roots = s .roots - 1; at = openerAt stack (s .at) })) seen′ stack roots todo ranks′
+    closed-last = (
       record {
-        walking = closed-all (w .walking) here some-root last-root c z;
-        current = λ h. absurd (omega arith);
+        walking = still;
+        current = λ h. left-for-opener (s .at) (s .roots - 1) (w .walking) h looked-inside (omega arith) (omega arith) (λ t l. still .root-inside t l .1);
         threads = w .threads;
         so-far = closed-ranks (w .walking) here some-root last-root c (w .so-far);
       },
-      nearer-left _ _ (s .height) (s .at) 0 0 same-left some-open (inl refl),
+      nearer-left _ _ (s .height) (s .at) (s .at) (openerAt stack (s .at)) same-left some-open
+          (⊎-elim (λ e. inl (eqb-true _ _ e)) (λ e. let other : s .at ≡ 0 → ⊥ = eqb-false _ _ e in inr (opener-before (omega arith))) (either (eqb (s .at) 0))),
     )
 
 -- The next rule of the fact is looked at.
@@ -141,7 +135,7 @@ module _ {P : Program} {seen stack roots todo next ranks : List ℕ} {s : Standi
   fact-low : fact < P .facts
   fact-low = rw (l .is-fact) (w .walking .fact-there (s .at) (now-here .inside) .0)
 
-  pub fact-small : fact < maxFacts narrow
+  fact-small : fact < maxFacts narrow
   fact-small = omega (arith, fact-low, w .walking .few)
 
   own-rule : (i < count P) × (rule P i .conclusion ≡ fact)
@@ -165,15 +159,15 @@ module _ {P : Program} {seen stack roots todo next ranks : List ℕ} {s : Standi
     found : LookFinds P i seen (look.Unmet f barring)
     found = subst (λ q. LookFinds P i seen q) is finds
 
-    pub may-open-it : ((length seen ≡ maxFacts narrow) × (length stack ≡ maxFacts narrow) × (length roots ≡ maxFacts narrow)) × ((s .height < maxFacts narrow) × (s .roots ≤ s .height) × (f .0 < maxFacts narrow))
-    may-open-it = ((w .walking .seen-places, w .walking .stack-places, w .walking .root-places), (few-open w (l .some-open), few-roots w (l .some-open), omega (arith, found .1 .0, w .walking .few)))
+    pub may-open-it : ((length seen ≡ maxFacts narrow) × (length stack ≡ maxFacts narrow) × (length roots ≡ maxFacts narrow)) × ((s .height < maxFacts narrow) × (s .roots ≤ s .height) × (s .at < maxFacts narrow) × (f .0 < maxFacts narrow))
+    may-open-it = ((w .walking .seen-places, w .walking .stack-places, w .walking .root-places), (few-open w (l .some-open), few-roots w (l .some-open), looked-small w (l .some-open), omega (arith, found .1 .0, w .walking .few)))
 
     pub opened :
         (seen′ stack′ roots′ : List ℕ)
-        → (Walking P seen stack roots (s .height) (s .roots) → f .0 < P .facts → seenOf seen (f .0) ≡ unmet → MayOpen P stack (s .height) (f .0) barring → Walking P seen′ stack′ roots′ (s .height + 1) (s .roots + 1) × ((factAt stack′ (s .height) ≡ f .0) × (unmetCount P seen ≡ unmetCount P seen′ + 1)))
+        → (Walking P seen stack roots (s .height) (s .roots) → (0 < s .height → Current roots (s .height) (s .roots) (s .at)) → f .0 < P .facts → seenOf seen (f .0) ≡ unmet → MayOpen P stack (s .height) (f .0) barring → Walking P seen′ stack′ roots′ (s .height + 1) (s .roots + 1) × ((factAt stack′ (s .height) ≡ f .0) × (unmetCount P seen ≡ unmetCount P seen′ + 1)))
         → TurnLeaves P seen todo s next (Goes (record { height = s .height + 1; roots = s .roots + 1; at = s .height })) seen′ stack′ roots′ todo ranks
     opened seen′ stack′ roots′ opens =
-        let (now-open, (there, fewer)) = opens (w .walking) (found .1 .0) (found .1 .1) (may-open (w .walking) now-here i rule-known concludes (f .0) barring (found .0)) in (
+        let (now-open, (there, fewer)) = opens (w .walking) (w .current) (found .1 .0) (found .1 .1) (may-open (w .walking) now-here i rule-known concludes (f .0) barring (found .0)) in (
           record {
             walking = now-open;
             current = λ _. record { inside = omega arith; no-root-behind = λ t u. omega (arith, now-open .root-inside t u .1) };
@@ -228,7 +222,7 @@ module _ {P : Program} {seen stack roots todo next ranks : List ℕ} {s : Standi
           },
           fewer-left _ _ (s .height) (s .at) (s .height) (s .at)
               (omega (arith, less-followed (w .threads) (w .walking .few) fact-low (l .is-rule) rule-known (own-rule .1) (l .few-rules)))
-              (omega (arith, looked-inside w (l .some-open), few-open w (l .some-open))),
+              (looked-small w (l .some-open)),
         )
       where
         gone : Merges roots (s .roots) low (merge.Left left)

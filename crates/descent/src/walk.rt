@@ -7,7 +7,7 @@ ghost use Rattle.theory.specs.Rule.{Program, count, rule as ruleOf};
 ghost use Rattle.items.specs.Item.{narrow, maxFacts};
 ghost use Rattle.tables.specs.Layout.{programIn, WellFormed};
 ghost use Rattle.tables.specs.Ranking.{RanksSoFar};
-ghost use Rattle.components.specs.Open.{seenOf, unmet, factAt};
+ghost use Rattle.components.specs.Open.{seenOf, unmet};
 ghost use Rattle.descent.specs.declared.walk.Turn.the-variants.{Goes};
 ghost use Rattle.descent.specs.Standing.{Stands, Rests, TurnLeaves, WalkLeaves, Guides};
 use components::close::close_from;
@@ -15,8 +15,10 @@ use components::look::Look;
 use components::look::UNMET;
 use components::look::look_at_rule;
 use components::open::Merge;
+use components::open::fact_at;
 use components::open::merge_roots;
 use components::open::open_fact;
+use components::open::opener_at;
 use components::open::root_place;
 use items::item::FactId;
 use items::item::MAX_FACTS;
@@ -42,7 +44,9 @@ pub enum Turn {
     Cyclic,
 }
 
-// A fact has no rule left to look at: where it is the last root its component is closed, and else the fact before it is looked at again.
+// A fact has no rule left to look at: where it is the last root its component is closed. Then the fact that opened it is looked at again, as its cell of
+// the stack tells. The facts between the two have no rule left either: to pass them each time would take quadratic time. No fact opened the first one, but
+// when that is left none is open.
 fn leave(
     seen: &mut [u16; MAX_FACTS],
     stack: &[u16; MAX_FACTS],
@@ -51,31 +55,25 @@ fn leave(
     s: Standing,
 ) -> Standing
     requires { ⌜ (0 < s .height) × (s .height ≤ maxFacts narrow) × (0 < s .roots) × (s .roots ≤ maxFacts narrow) × (s .at < s .height) ⌝ }
-    requires { ⌜ (length (now seen) ≡ maxFacts narrow) × (length (now ranks) ≡ maxFacts narrow) × ((a : ℕ) → a < s .height → factAt (now stack) a < maxFacts narrow) ⌝ }
+    requires { ⌜ (length (now seen) ≡ maxFacts narrow) × (length (now ranks) ≡ maxFacts narrow) ⌝ }
     ensures { λ r. ⌜ ((P : Program) (todo next : List ℕ) → Stands P (now (seen .entry)) (now (stack .entry)) (now (roots .entry)) todo next (now (ranks .entry)) s → TurnLeaves P (now (seen .entry)) todo s next (Goes r) (now (seen .exit)) (now (stack .entry)) (now (roots .entry)) todo (now (ranks .exit))) ⌝ }
 {
     let height = s.height;
     let count = s.roots;
     let at = s.at;
+    let opener = opener_at(stack, at);
     if root_place(roots, count - 1) < at {
         return Standing {
             height,
             roots: count,
-            at: at - 1,
+            at: opener,
         };
     }
     close_from(seen, stack, ranks, at, height);
-    if at == 0 {
-        return Standing {
-            height: 0,
-            roots: 0,
-            at: 0,
-        };
-    }
     Standing {
         height: at,
         roots: count - 1,
-        at: at - 1,
+        at: opener,
     }
 }
 
@@ -98,14 +96,14 @@ fn take_turn(
     let height = s.height;
     let count = s.roots;
     let at = s.at;
-    let fact = wide(stack[at]);
+    let fact = fact_at(stack, at);
     let rule = todo[fact];
     if rule == END {
         return Turn::Goes(leave(seen, stack, roots, ranks, s));
     }
     match look_at_rule(tables, RuleId(rule), seen, ranks) {
         Look::Unmet(found, barring) => {
-            open_fact(seen, stack, roots, height, count, found, barring);
+            open_fact(seen, stack, roots, height, count, at, found, barring);
             Turn::Goes(Standing {
                 height: height + 1,
                 roots: count + 1,
@@ -145,7 +143,7 @@ fn walk_from(
     requires { ⌜ (fact .0 < programIn (now tables) .facts) × (seenOf (now seen) (fact .0) ≡ unmet) ⌝ }
     ensures { λ r. ⌜ WalkLeaves (programIn (now (tables .entry))) (now (next .entry)) r (now (seen .exit)) (now (stack .exit)) (now (roots .exit)) (now (todo .exit)) (now (ranks .exit)) ⌝ }
 {
-    open_fact(seen, stack, roots, 0, 0, fact, false);
+    open_fact(seen, stack, roots, 0, 0, 0, fact, false);
     let mut s = Standing {
         height: 1,
         roots: 1,

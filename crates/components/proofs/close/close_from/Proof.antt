@@ -1,9 +1,7 @@
 -- `close_from`: the facts passed are closed, and have the rank.
-use Prim.Native.Nat.{_-_, _<_, _≤_}
+use Prim.Native.Nat.{_-_, _≤_}
 use native.Mathlib.Omega.{arith}
-use denote.Ref.{now}
-use Rattle.items.specs.Item.{narrow, maxFacts}
-use Rattle.components.specs.Open.{closed, factAt}
+use Rattle.components.specs.Open.{closed}
 use Rattle.components.proofs.ComponentClosed.{Written, none-written, one-written, all-closed}
 use Rattle.components.proofs.close.close_from.Statement.{statement}
 use Rattle.components.proofs.close.close_from.Tie as tie
@@ -14,36 +12,26 @@ Inv-loop seen₀ stack ranks₀ from to high a₀ seen ranks a = (from ≤ a) ×
 abbrev μ-loop : tie.MeasureT-loop
 μ-loop seen₀ stack ranks₀ from to high a₀ seen ranks a = to - a
 
--- the fact at the place has its cell in each row
-small : (c : tie.After-fact Inv-loop μ-loop) → factAt (now (c .before .before .before .before .before .args .stack)) (c .before .before .loop .a) < maxFacts narrow
-small c = c .before .before .before .before .before .pre .1 .1 _ (c .before .loop-test .taken)
-
 highest-rank-requires : tie.Need-highest-rank-requires Inv-loop μ-loop
-highest-rank-requires c κs = (c .before .pre .0, c .before .pre .1 .1)
+highest-rank-requires c κs = c .before .pre .0
 
 loop-holds : tie.Need-loop-holds Inv-loop μ-loop
 loop-holds c = (omega arith, (omega (arith, c .before .before .pre .0 .0), (none-written _ _ _ _, none-written _ _ _ _)))
 
-mul-fact : tie.Need-mul-fact Inv-loop μ-loop
-mul-fact c = omega (arith, c .loop-test .taken, c .before .before .before .before .pre .0 .1)
-
-element-copy-out-fact : tie.Need-element-copy-out-fact Inv-loop μ-loop
-element-copy-out-fact c = omega (arith, c .loop-test .taken, c .before .before .before .before .pre .0 .1)
-
-cast-fact : tie.Need-cast-fact Inv-loop μ-loop
-cast-fact c = omega (arith, small c)
+fact-at-requires : tie.Need-fact-at-requires Inv-loop μ-loop
+fact-at-requires c κs = omega (arith, c .loop-test .taken, c .before .before .before .before .pre .0 .1)
 
 mul-seen : tie.Need-mul-seen Inv-loop μ-loop
-mul-seen c = omega (arith, small c)
+mul-seen c = omega (arith, c .fact-at .ensures .1)
 
 element-write-seen : tie.Need-element-write-seen Inv-loop μ-loop
-element-write-seen c = small c
+element-write-seen c = c .fact-at .ensures .1
 
 mul-ranks : tie.Need-mul-ranks Inv-loop μ-loop
-mul-ranks c = omega (arith, small c)
+mul-ranks c = omega (arith, c .fact-at .ensures .1)
 
 element-write-ranks : tie.Need-element-write-ranks Inv-loop μ-loop
-element-write-ranks c = small c
+element-write-ranks c = c .fact-at .ensures .1
 
 add-a : tie.Need-add-a Inv-loop μ-loop
 add-a c = omega (arith, c .before .loop-test .taken, c .before .before .before .before .before .pre .0 .1)
@@ -54,13 +42,14 @@ loop-less c = omega arith
 loop-again : tie.Need-loop-again Inv-loop μ-loop
 loop-again c =
     let inv = c .before .before .loop .inv in
-    let lengths = c .before .before .before .before .before .pre .1 .0 in (
+    let lengths = c .before .before .before .before .before .pre .1 in
+    let (is-fact, small) = c .fact-at .ensures in (
       omega (arith, inv .0),
       (
         omega (arith, c .before .loop-test .taken),
-        (
-          one-written (inv .1 .1 .0) (inv .0) (omega (arith, small c, lengths .0)),
-          one-written (inv .1 .1 .1) (inv .0) (omega (arith, small c, lengths .1)),
+        rw is-fact (
+          one-written (inv .1 .1 .0) (inv .0) (rw (lengths .0, ← is-fact) small),
+          one-written (inv .1 .1 .1) (inv .0) (rw (lengths .1, ← is-fact) small),
         ),
       ),
     )
@@ -76,9 +65,7 @@ close-from-spec =
     μ-loop
     highest-rank-requires
     loop-holds
-    mul-fact
-    element-copy-out-fact
-    cast-fact
+    fact-at-requires
     mul-seen
     element-write-seen
     mul-ranks

@@ -13,53 +13,42 @@ Inv-loop stack ranks from to high₀ a₀ high a = (from ≤ a) × RankThere sta
 abbrev μ-loop : tie.MeasureT-loop
 μ-loop stack ranks from to high₀ a₀ high a = to - a
 
+fact-at-requires : tie.Need-fact-at-requires Inv-loop μ-loop
+fact-at-requires c κs = omega (arith, c .pre .0, c .pre .1)
+
 mul-high : tie.Need-mul-high Inv-loop μ-loop
-mul-high c = omega (arith, c .pre .0 .0, c .pre .0 .1)
+mul-high c = omega (arith, c .fact-at .ensures .1)
 
 element-copy-out-high : tie.Need-element-copy-out-high Inv-loop μ-loop
-element-copy-out-high c = omega (arith, c .pre .0 .0, c .pre .0 .1)
-
-cast-high : tie.Need-cast-high Inv-loop μ-loop
-cast-high c = omega (arith, c .before .pre .1 _ (c .before .pre .0 .0))
-
-mul-high-2 : tie.Need-mul-high-2 Inv-loop μ-loop
-mul-high-2 c = omega (arith, c .before .pre .1 _ (c .before .pre .0 .0))
-
-element-copy-out-high-2 : tie.Need-element-copy-out-high-2 Inv-loop μ-loop
-element-copy-out-high-2 c = c .before .pre .1 _ (c .before .pre .0 .0)
+element-copy-out-high c = c .fact-at .ensures .1
 
 add-a : tie.Need-add-a Inv-loop μ-loop
-add-a c = omega (arith, c .before .before .pre .0 .0, c .before .before .pre .0 .1)
+add-a c = omega (arith, c .before .before .pre .0, c .before .before .pre .1)
 
 loop-holds : tie.Need-loop-holds Inv-loop μ-loop
-loop-holds c = (omega arith, (c .before .before .args .from, (omega arith, (c .before .before .pre .0 .0, refl))))
+loop-holds c = (omega arith, (c .before .before .args .from, (omega arith, (c .before .before .pre .0, rw (c .before .fact-at .ensures .0) refl))))
+
+fact-at-requires-2 : tie.Need-fact-at-requires-2 Inv-loop μ-loop
+fact-at-requires-2 c κs = omega (arith, c .loop-test .taken, c .before .before .before .before .pre .1)
 
 mul-rank : tie.Need-mul-rank Inv-loop μ-loop
-mul-rank c = omega (arith, c .loop-test .taken, c .before .before .before .before .pre .0 .1)
+mul-rank c = omega (arith, c .fact-at2 .ensures .1)
 
 element-copy-out-rank : tie.Need-element-copy-out-rank Inv-loop μ-loop
-element-copy-out-rank c = omega (arith, c .loop-test .taken, c .before .before .before .before .pre .0 .1)
-
-cast-rank : tie.Need-cast-rank Inv-loop μ-loop
-cast-rank c = omega (arith, c .before .before .before .before .before .pre .1 _ (c .before .loop-test .taken))
-
-mul-rank-2 : tie.Need-mul-rank-2 Inv-loop μ-loop
-mul-rank-2 c = omega (arith, c .before .before .before .before .before .pre .1 _ (c .before .loop-test .taken))
-
-element-copy-out-rank-2 : tie.Need-element-copy-out-rank-2 Inv-loop μ-loop
-element-copy-out-rank-2 c = c .before .before .before .before .before .pre .1 _ (c .before .loop-test .taken)
+element-copy-out-rank c = c .fact-at2 .ensures .1
 
 add-a-2 : tie.Need-add-a-2 Inv-loop μ-loop
-add-a-2 c = omega (arith, c .before .before .before .loop-test .taken, c .before .before .before .before .before .before .before .pre .0 .1)
+add-a-2 c = omega (arith, c .before .before .before .loop-test .taken, c .before .before .before .before .before .before .before .pre .1)
 
 loop-less : tie.Need-loop-less Inv-loop μ-loop
 loop-less c = omega arith
 
 loop-again : tie.Need-loop-again Inv-loop μ-loop
-loop-again c = (
-  omega (arith, c .before .before .before .before .loop .inv .0),
-  ⊎-elim (λ w. rw (w .1) (_, (c .before .before .before .before .loop .inv .0, (c .before .before .before .loop-test .taken, refl)))) (λ w. rw (w .1) (c .before .before .before .before .loop .inv .1)) (c .if1 .came),
-)
+loop-again c =
+    let (low, so-far) = c .before .before .before .before .loop .inv in (
+      omega (arith, low),
+      ⊎-elim (λ w. rw (w .1) (_, (low, (c .before .before .before .loop-test .taken, rw (c .before .before .fact-at2 .ensures .0) refl)))) (λ w. rw (w .1) so-far) (c .if1 .came),
+    )
 
 returns : tie.Need-returns Inv-loop μ-loop
 returns c = c .before .loop .inv .1
@@ -70,18 +59,14 @@ highest-rank-spec =
     (tie.spec
     Inv-loop
     μ-loop
+    fact-at-requires
     mul-high
     element-copy-out-high
-    cast-high
-    mul-high-2
-    element-copy-out-high-2
     add-a
     loop-holds
+    fact-at-requires-2
     mul-rank
     element-copy-out-rank
-    cast-rank
-    mul-rank-2
-    element-copy-out-rank-2
     add-a-2
     loop-less
     loop-again

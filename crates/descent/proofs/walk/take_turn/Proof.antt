@@ -7,24 +7,18 @@ use denote.Ref.{now}
 use lib.ListN.{getD}
 use Rattle.tables.specs.Layout.{programIn}
 use Rattle.tables.proofs.ProgramHeld.{rules-below}
-use Rattle.descent.proofs.WalkTurned.{few-open, few-roots, looked-inside, looked-small, may-leave, AtRule, fact-small, rule-known, rule-small, may-open-it, opened, barred-look, may-merge, merged-cycle, looked-on}
+use Rattle.descent.proofs.WalkTurned.{few-open, few-roots, looked-small, may-leave, AtRule, rule-known, rule-small, may-open-it, opened, barred-look, may-merge, merged-cycle, looked-on}
 use Rattle.descent.proofs.walk.take_turn.Statement.{statement}
 use Rattle.descent.proofs.walk.take_turn.Tie as tie
 
-mul-wide : tie.Need-mul-wide
-mul-wide c = omega (arith, looked-inside (c .pre .1) (c .pre .0 .1), few-open (c .pre .1) (c .pre .0 .1))
-
-element-copy-out-wide : tie.Need-element-copy-out-wide
-element-copy-out-wide c = omega (arith, looked-inside (c .pre .1) (c .pre .0 .1), few-open (c .pre .1) (c .pre .0 .1))
-
-wide-requires : tie.Need-wide-requires
-wide-requires c κs = search needs
+fact-at-requires : tie.Need-fact-at-requires
+fact-at-requires c κs = looked-small (c .before .pre .1) (c .before .pre .0 .1)
 
 mul-rule : tie.Need-mul-rule
-mul-rule c = omega (arith, c .wide .ensures, looked-small (c .before .before .pre .1) (c .before .before .pre .0 .1))
+mul-rule c = search needs
 
 element-copy-out-rule : tie.Need-element-copy-out-rule
-element-copy-out-rule c = omega (arith, c .wide .ensures, looked-small (c .before .before .pre .1) (c .before .before .pre .0 .1))
+element-copy-out-rule c = search needs
 
 leave-requires : tie.Need-leave-requires
 leave-requires c κs = let p = c .before .before .before .before .before .before .before .before .pre in may-leave (p .1) (p .0 .1)
@@ -33,10 +27,10 @@ returns : tie.Need-returns
 returns c = let p = c .before .before .before .before .before .before .before .before .before .pre in c .leave .ensures _ _ _ (p .1)
 
 -- once there is a rule to look at
-looking : (c : tie.Else1) → AtRule (programIn (now (c .before .before .before .before .args .tables))) (now (c .before .before .before .before .args .seen)) (now (c .before .before .before .before .args .stack)) (now (c .before .before .before .before .args .roots)) (now (c .before .before .before .before .args .todo)) (now (c .before .before .before .before .args .next)) (now (c .before .before .before .before .args .ranks)) (c .before .before .before .before .args .s) (c .before .before .wide .result) (getD (now (c .before .before .before .before .args .todo)) (c .before .before .wide .result) 0)
+looking : (c : tie.Else1) → AtRule (programIn (now (c .before .before .before .before .args .tables))) (now (c .before .before .before .before .args .seen)) (now (c .before .before .before .before .args .stack)) (now (c .before .before .before .before .args .roots)) (now (c .before .before .before .before .args .todo)) (now (c .before .before .before .before .args .next)) (now (c .before .before .before .before .args .ranks)) (c .before .before .before .before .args .s) (c .before .before .fact-at .result) (getD (now (c .before .before .before .before .args .todo)) (c .before .before .fact-at .result) 0)
 looking c =
     let p = c .before .before .before .before .pre in
-    record { stands = p .1; some-open = p .0 .1; is-fact = c .before .before .wide .ensures; is-rule = refl; not-end = c .if1 .left; few-rules = rules-below (p .0 .0) }
+    record { stands = p .1; some-open = p .0 .1; is-fact = c .before .before .fact-at .ensures .0; is-rule = refl; not-end = c .if1 .left; few-rules = rules-below (p .0 .0) }
 
 look-at-rule-requires : tie.Need-look-at-rule-requires
 look-at-rule-requires c κs = let p = c .before .before .before .before .before .before .pre in ((p .0 .0, rule-known (looking (c .before .before))), p .1 .so-far)
@@ -47,11 +41,11 @@ enum-known-found c = search needs
 open-fact-requires : tie.Need-open-fact-requires
 open-fact-requires c κs = may-open-it (looking (c .before .before .before .before .before .before .before .before .before)) (c .before .before .before .before .found .given .1) (c .before .before .before .before .before .before .look-at-rule .ensures)
 
-add-t40 : tie.Need-add-t40
-add-t40 c = search needs
+add-t39 : tie.Need-add-t39
+add-t39 c = search needs
 
-add-t41 : tie.Need-add-t41
-add-t41 c = let p = c .before .before .before .before .before .before .before .before .before .before .before .before .before .before .pre in omega (arith, few-roots (p .1) (p .0 .1), few-open (p .1) (p .0 .1))
+add-t40 : tie.Need-add-t40
+add-t40 c = let p = c .before .before .before .before .before .before .before .before .before .before .before .before .before .before .pre in omega (arith, few-roots (p .1) (p .0 .1), few-open (p .1) (p .0 .1))
 
 enum-told : tie.Need-enum-told
 enum-told c = search needs
@@ -60,31 +54,31 @@ enum-known-low : tie.Need-enum-known-low
 enum-known-low c = search needs
 
 mul-if2 : tie.Need-mul-if2
-mul-if2 c = omega (arith, fact-small (looking (c .before .before .before .before .before .before)))
+mul-if2 c = search needs
 
 element-copy-out-if2 : tie.Need-element-copy-out-if2
-element-copy-out-if2 c = omega (arith, fact-small (looking (c .before .before .before .before .before .before)))
+element-copy-out-if2 c = search needs
 
 mul-ranks : tie.Need-mul-ranks
-mul-ranks c = omega (arith, fact-small (looking (c .before .before .before .before .before .before .before .before)))
+mul-ranks c = search needs
 
 element-write-ranks : tie.Need-element-write-ranks
-element-write-ranks c = omega (arith, fact-small (looking (c .before .before .before .before .before .before .before .before)))
+element-write-ranks c = search needs
 
-wide-requires-2 : tie.Need-wide-requires-2
-wide-requires-2 c κs = search needs
+wide-requires : tie.Need-wide-requires
+wide-requires c κs = search needs
 
 mul-todo : tie.Need-mul-todo
-mul-todo c = omega (arith, c .wide2 .ensures, rule-small (looking (c .before .before .before .before .before .before .before .before .before)))
+mul-todo c = omega (arith, c .wide .ensures, rule-small (looking (c .before .before .before .before .before .before .before .before .before)))
 
 element-copy-out-todo : tie.Need-element-copy-out-todo
-element-copy-out-todo c = omega (arith, c .wide2 .ensures, rule-small (looking (c .before .before .before .before .before .before .before .before .before)))
+element-copy-out-todo c = omega (arith, c .wide .ensures, rule-small (looking (c .before .before .before .before .before .before .before .before .before)))
 
 mul-todo-2 : tie.Need-mul-todo-2
-mul-todo-2 c = omega (arith, fact-small (looking (c .before .before .before .before .before .before .before .before .before .before)))
+mul-todo-2 c = search needs
 
 element-write-todo : tie.Need-element-write-todo
-element-write-todo c = omega (arith, fact-small (looking (c .before .before .before .before .before .before .before .before .before .before)))
+element-write-todo c = search needs
 
 merge-roots-requires : tie.Need-merge-roots-requires
 merge-roots-requires c κs = let p = c .before .before .before .before .before .before .before .before .before .before .before .before .before .before .before .pre in may-merge (p .1) (p .0 .1)
@@ -105,15 +99,13 @@ returns-4 : tie.Need-returns-4
 returns-4 c = merged-cycle (looking (c .before .before .before .before .before .before .before .before .before .before .before .before .before .before)) (c .before .before .before .before .before .before .before .before .before .low .given .1) (c .before .before .before .before .before .before .before .before .before .before .before .look-at-rule .ensures) (c .enum-told2 .given .1) (c .before .before .merge-roots .ensures)
 
 returns-5 : tie.Need-returns-5
-returns-5 c = looked-on (looking (c .before .before .before .before .before .before .before .before .before .before .before .before .before .before .before)) (c .before .before .before .before .before .before .before .before .before .before .low .given .1) (c .before .before .before .before .before .before .before .before .before .before .before .before .look-at-rule .ensures) _ _ (c .before .left .given .1) (c .before .before .before .merge-roots .ensures) (c .before .before .before .before .before .before .wide2 .ensures) (⊎-elim (λ t. inl (t .1)) (λ t. inr (t .1)) (c .before .before .before .before .before .before .before .if2 .came))
+returns-5 c = looked-on (looking (c .before .before .before .before .before .before .before .before .before .before .before .before .before .before .before)) (c .before .before .before .before .before .before .before .before .before .before .low .given .1) (c .before .before .before .before .before .before .before .before .before .before .before .before .look-at-rule .ensures) _ _ (c .before .left .given .1) (c .before .before .before .merge-roots .ensures) (c .before .before .before .before .before .before .wide .ensures) (⊎-elim (λ t. inl (t .1)) (λ t. inr (t .1)) (c .before .before .before .before .before .before .before .if2 .came))
 
 pub take-turn-spec : {M : Type 1} → statement M
 take-turn-spec =
     tie.close
     (tie.spec
-    mul-wide
-    element-copy-out-wide
-    wide-requires
+    fact-at-requires
     mul-rule
     element-copy-out-rule
     leave-requires
@@ -121,15 +113,15 @@ take-turn-spec =
     look-at-rule-requires
     enum-known-found
     open-fact-requires
+    add-t39
     add-t40
-    add-t41
     enum-told
     enum-known-low
     mul-if2
     element-copy-out-if2
     mul-ranks
     element-write-ranks
-    wide-requires-2
+    wide-requires
     mul-todo
     element-copy-out-todo
     mul-todo-2
