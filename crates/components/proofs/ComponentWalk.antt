@@ -11,8 +11,8 @@ use Rattle.theory.specs.Rule.{mem, Program, inForce, count, rule}
 use Rattle.theory.specs.Layers.{Cycle}
 use Rattle.theory.proofs.Bools.{either}
 use Rattle.items.specs.Item.{narrow, maxFacts}
-use Rattle.components.specs.declared.«open».Merge.the-variants.{Left, Barred}
-use Rattle.components.specs.Open.{Reaches, ReachesBarred, nowhere, seenOf, factAt, openerAt, rootPlace, Walking, Current, MayOpen, Merges}
+use Rattle.components.specs.declared.«open».Merge.the-variants.{Barred}
+use Rattle.components.specs.Open.{Reaches, ReachesBarred, nowhere, seenOf, factAt, openerAt, rootPlace, Walking, Current, MayOpen, Gone, Merges}
 use Rattle.components.specs.Look.{bodyPart}
 use Rattle.components.proofs.Reaching.{one-link, barring-link, reaches-join, then-barred, round}
 
@@ -62,7 +62,7 @@ module _ {P : Program} {seen stack roots : List ℕ} {n m at : ℕ} (w : Walking
       back = subst (λ f. Reaches P (factAt stack at) f) (sym low-there) (from-current g false named)
 
       -- The roots behind that place go: the facts there depend on each other.
-      pub merged : (left : ℕ) → Merges roots m low (Left left) → Walking P seen stack roots n left
+      pub merged : (left : ℕ) → Gone roots m low left → Walking P seen stack roots n left
       merged left gone =
           record {
             seen-places = w .seen-places;
@@ -117,7 +117,7 @@ module _ {P : Program} {seen stack roots : List ℕ} {n m : ℕ} (w : Walking P 
   none-behind : (t : ℕ) → t < m → nowhere < rootPlace roots t → ⊥
   none-behind t l h = absurd (omega (arith, w .root-inside t l .1, w .room, w .few))
 
-  pub none-merged : (left : ℕ) → Merges roots m nowhere (Left left) → Walking P seen stack roots n left
+  pub none-merged : (left : ℕ) → Gone roots m nowhere left → Walking P seen stack roots n left
   none-merged left gone = subst (λ r. Walking P seen stack roots n r) all-left w
     where
       all-left : m ≡ left

@@ -13,7 +13,7 @@ use Rattle.theory.specs.Rule.{Program}
 use Rattle.theory.proofs.Bools.{either}
 use Rattle.theory.proofs.Counted.{counted-less}
 use Rattle.items.specs.Item.{narrow, maxFacts}
-use Rattle.components.specs.Open.{Reaches, ReachesBarred, unmet, seenOf, factAt, openerAt, rootPlace, rootBarred, unmetCount, Walking, Current, MayOpen}
+use Rattle.components.specs.Open.{Reaches, ReachesBarred, unmet, seenOf, factAt, openerAt, rootPlace, rootBarred, unmetCount, Walking, Current, MayOpen, Opened}
 use Rattle.components.proofs.StackCells.{stackCell, cell-fact, cell-opener, same-fact, same-opener}
 
 -- The cell of a root: its place, and so many more where it was met by a constraint.
@@ -259,5 +259,15 @@ module _ {P : Program} {seen stack roots : List ℕ} {n m opener : ℕ} (w : Wal
         barred-root = barred-now;
       }
 
-  pub fact-opened : Walking P seen′ stack′ roots′ (n + 1) (m + 1) × ((factAt stack′ n ≡ f) × (unmetCount P seen ≡ unmetCount P seen′ + 1))
-  fact-opened = (opened, (new-fact, one-less))
+  pub fact-opened : Opened P seen stack roots n m opener f seen′ stack′ roots′
+  fact-opened =
+      record {
+        walking = opened;
+        fewer = one-less;
+        place = new-seen;
+        others = other-seen;
+        own-opener = new-opener;
+        openers = old-opener;
+        own-root = new-place;
+        roots-kept = old-place;
+      }

@@ -8,16 +8,16 @@ use mathlib.Core.Logic.{⊎-elim}
 use borrow.Author.Tests.{eqb-true, eqb-false}
 use lib.Dec.{eqb}
 use Rattle.theory.proofs.Bools.{either}
-use Rattle.components.specs.declared.«open».Merge.the-variants.{Left, Barred}
-use Rattle.components.specs.Open.{rootPlace, rootBarred, Merges}
+use Rattle.components.specs.declared.«open».Merge.the-variants.{Barred}
+use Rattle.components.specs.Open.{rootPlace, rootBarred, Gone, Merges}
 
 -- At the start none has gone.
-pub none-gone : (roots : List ℕ) (m low : ℕ) → Merges roots m low (Left m)
+pub none-gone : (roots : List ℕ) (m low : ℕ) → Gone roots m low m
 none-gone roots m low = (omega arith, λ t h l. absurd (omega arith))
 
 -- The last one that is left is behind the place too: it goes, or it was met by a constraint.
-module _ (roots : List ℕ) (m low left : ℕ) (w : Merges roots m low (Left left)) (some-left : 0 < left) (behind : low < rootPlace roots (left - 1)) where
-  pub one-gone : rootBarred roots (left - 1) ≡ false → Merges roots m low (Left (left - 1))
+module _ (roots : List ℕ) (m low left : ℕ) (w : Gone roots m low left) (some-left : 0 < left) (behind : low < rootPlace roots (left - 1)) where
+  pub one-gone : rootBarred roots (left - 1) ≡ false → Gone roots m low (left - 1)
   one-gone free = (omega (arith, w .0), gone)
     where
       gone : (t : ℕ) → left - 1 ≤ t → t < m → (low < rootPlace roots t) × (rootBarred roots t ≡ false)

@@ -1,4 +1,4 @@
--- The last component is closed: what the walk knows then of the facts that stay open, and of the ranks. And ranks that are raised.
+-- The last component is closed: what the walk knows then of the facts that stay open, and of the ranks.
 use Prim.Native.Nat.{ℕ, _-_, _≤_, _<_}
 use native.Mathlib.Omega.{arith}
 use mathlib.Core.Path.{_≡_, refl, sym, ap, subst, _∙_}
@@ -31,21 +31,21 @@ module _ {P : Program} {seen stack roots : List ℕ} {n m at : ℕ} (w : Walking
   own-place f a l e = subst (λ g. seenOf seen g ≡ a) e (w .fact-there a l .1)
 
   -- A fact is closed, as it stood on the stack from the place on; or nothing has changed for it.
-  record Shut (f : ℕ) : Type 0 where
-    place : ℕ
-    low : at ≤ place
-    high : place < n
-    there : factAt stack place ≡ f
+  pub record Shut (f : ℕ) : Type 0 where
+    pub place : ℕ
+    pub low : at ≤ place
+    pub high : place < n
+    pub there : factAt stack place ≡ f
 
-  record Kept (f : ℕ) : Type 0 where
-    same-seen : seenOf seen′ f ≡ seenOf seen f
-    same-rank : rankIn ranks′ f ≡ rankIn ranks f
+  pub record Kept (f : ℕ) : Type 0 where
+    pub same-seen : seenOf seen′ f ≡ seenOf seen f
+    pub same-rank : rankIn ranks′ f ≡ rankIn ranks f
 
   -- is f one of those, standing at a?
   abbrev goes : ℕ → ℕ → Bool
   goes f a = leb at a && (ltb a n && eqb (factAt stack a) f)
 
-  shut-or-kept : (f : ℕ) → Shut f ⊎ Kept f
+  pub shut-or-kept : (f : ℕ) → Shut f ⊎ Kept f
   shut-or-kept f = ⊎-elim (λ e. inl (shut e)) (λ e. inr (kept e)) (either (goes f (seenOf seen f)))
     where
       shut : goes f (seenOf seen f) ≡ true → Shut f
@@ -63,13 +63,13 @@ module _ {P : Program} {seen stack roots : List ℕ} {n m at : ℕ} (w : Walking
           let same = c .keeps f (λ a low high is. never (subst (λ b. goes f b ≡ true) (sym (own-place f a high is)) (and-both (le-leb _ _ low) (and-both (lt-ltb _ _ high) (eq-eqb _ _ is)))) e) in
           record { same-seen = same .0; same-rank = same .1 }
 
-  shut-now : (f : ℕ) → Shut f → seenOf seen′ f ≡ closed
+  pub shut-now : (f : ℕ) → Shut f → seenOf seen′ f ≡ closed
   shut-now f s = subst (λ g. seenOf seen′ g ≡ closed) (s .there) (c .closes (s .place) (s .low) (s .high) .0)
 
-  shut-before : (f : ℕ) (s : Shut f) → seenOf seen f ≡ s .place
+  pub shut-before : (f : ℕ) (s : Shut f) → seenOf seen f ≡ s .place
   shut-before f s = own-place f (s .place) (s .high) (s .there)
 
-  shut-rank : (f : ℕ) → Shut f → rankIn ranks′ f ≡ rankIn ranks (factAt stack (c .top))
+  pub shut-rank : (f : ℕ) → Shut f → rankIn ranks′ f ≡ rankIn ranks (factAt stack (c .top))
   shut-rank f s = subst (λ g. rankIn ranks′ g ≡ rankIn ranks (factAt stack (c .top))) (s .there) (c .closes (s .place) (s .low) (s .high) .1)
 
   -- A fact that is closed depends on the one whose rank it gets: no root stands between them.

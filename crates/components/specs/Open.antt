@@ -83,16 +83,32 @@ pub record Current (roots : List ℕ) (n m at : ℕ) : Type 0 where
 abbrev pub MayOpen : Program → List ℕ → ℕ → ℕ → Bool → Type 0
 MayOpen P stack n f barring = (a : ℕ) → a < n → Reaches P (factAt stack a) f × (barring ≡ true → ReachesBarred P (factAt stack a) f)
 
+-- Fact f was opened by the fact that is looked at: it has the place n and is a root, and nothing else has changed.
+pub record Opened (P : Program) (seen stack roots : List ℕ) (n m opener f : ℕ) (seen′ stack′ roots′ : List ℕ) : Type 0 where
+  pub walking : Walking P seen′ stack′ roots′ (n + 1) (m + 1)
+  pub fewer : unmetCount P seen ≡ unmetCount P seen′ + 1
+  pub place : seenOf seen′ f ≡ n
+  pub others : (g : ℕ) → (g ≡ f → ⊥) → seenOf seen′ g ≡ seenOf seen g
+  pub own-opener : openerAt stack′ n ≡ opener
+  pub openers : (a : ℕ) → a < n → openerAt stack′ a ≡ openerAt stack a
+  pub own-root : rootPlace roots′ m ≡ n
+  pub roots-kept : (t : ℕ) → t < m → rootPlace roots′ t ≡ rootPlace roots t
+
+-- The roots from `left` on are behind a place, and none of them was met by a constraint.
+abbrev pub Gone : List ℕ → ℕ → ℕ → ℕ → Type 0
+Gone roots m low left = (left ≤ m) × ((t : ℕ) → left ≤ t → t < m → (low < rootPlace roots t) × (rootBarred roots t ≡ false))
+
 -- Of the roots those behind a place go, none of them met by a constraint; or one of them was.
 abbrev pub Merges : List ℕ → ℕ → ℕ → Merge → Type 0
-Merges roots m low (Left left) = (left ≤ m) × ((t : ℕ) → left ≤ t → t < m → (low < rootPlace roots t) × (rootBarred roots t ≡ false))
+Merges roots m low (Left left) = Gone roots m low left × (0 < left → rootPlace roots (left - 1) ≤ low)
 Merges roots m low Barred = (t : ℕ) × ((t < m) × ((low < rootPlace roots t) × (rootBarred roots t ≡ true)))
 
--- The facts from one place up to another are closed, with the rank of one of them; nothing else has changed.
+-- The facts from one place up to another are closed, with the highest rank of any of them; nothing else has changed.
 pub record ClosedFrom (stack : List ℕ) (from to : ℕ) (seen ranks seen′ ranks′ : List ℕ) : Type 0 where
   pub seen-places : length seen′ ≡ length seen
   pub rank-places : length ranks′ ≡ length ranks
   pub top : ℕ
   pub top-inside : (from ≤ top) × (top < to)
+  pub top-highest : (a : ℕ) → from ≤ a → a < to → rankIn ranks (factAt stack a) ≤ rankIn ranks (factAt stack top)
   pub closes : (a : ℕ) → from ≤ a → a < to → (seenOf seen′ (factAt stack a) ≡ closed) × (rankIn ranks′ (factAt stack a) ≡ rankIn ranks (factAt stack top))
   pub keeps : (f : ℕ) → ((a : ℕ) → from ≤ a → a < to → factAt stack a ≡ f → ⊥) → (seenOf seen′ f ≡ seenOf seen f) × (rankIn ranks′ f ≡ rankIn ranks f)

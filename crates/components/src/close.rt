@@ -13,6 +13,7 @@ use items::item::MAX_FACTS;
 fn highest_rank(stack: &[u16; MAX_FACTS], ranks: &[u16; MAX_FACTS], from: usize, to: usize) -> u16
     requires { ⌜ (from < to) × (to ≤ maxFacts narrow) ⌝ }
     ensures { λ r. ⌜ ((a : ℕ) × ((from ≤ a) × ((a < to) × (r ≡ rankIn (now (ranks .entry)) (factAt (now (stack .entry)) a))))) ⌝ }
+    ensures { λ r. ⌜ ((a : ℕ) → from ≤ a → a < to → rankIn (now (ranks .entry)) (factAt (now (stack .entry)) a) ≤ r) ⌝ }
 {
     let mut high = ranks[fact_at(stack, from)];
     let mut a = from + 1;

@@ -1,9 +1,10 @@
 // What a rule of an open fact says. Internal.
 ghost use Prim.Native.Nat.{_<_};
+ghost use mathlib.Core.Bool.{true, false};
 ghost use Rattle.theory.specs.Rule.{count};
 ghost use Rattle.tables.specs.Layout.{programIn, WellFormed};
 ghost use Rattle.tables.specs.Ranking.{RanksSoFar};
-ghost use Rattle.components.specs.Look.{LookFinds};
+ghost use Rattle.components.specs.Look.{PartFinds, LookFinds};
 use items::item::FactId;
 use items::item::MAX_FACTS;
 use items::item::RuleId;
@@ -24,9 +25,6 @@ pub const NOWHERE: u16 = 65535;
 // The places of open facts are below this.
 const PLACES: u16 = MAX_FACTS as u16;
 
-// The highest rank that a fact can get: there are at most so many facts.
-const TOP_RANK: u16 = 255;
-
 // What looking at a rule finds: a fact that was not met yet, as a premise or as a constraint; a constraint that is open; or, of facts that were all
 // met, the lowest place of an open premise and the rank that the closed ones ask.
 pub enum Look {
@@ -44,7 +42,7 @@ fn look_at_premises(
 ) -> Look
     requires { ⌜ WellFormed (now tables) × (rule .0 < count (programIn (now tables))) ⌝ }
     requires { ⌜ RanksSoFar (programIn (now tables)) (now ranks) ⌝ }
-    ensures { λ r. ⌜ LookFinds (programIn (now (tables .entry))) (rule .0) (now (seen .entry)) r ⌝ }
+    ensures { λ r. ⌜ PartFinds (programIn (now (tables .entry))) (rule .0) false (now (seen .entry)) (now (ranks .entry)) r ⌝ }
 {
     let own = premise_span(tables, rule);
     let end = own.end;
@@ -83,7 +81,7 @@ fn look_at_constraints(
 ) -> Look
     requires { ⌜ WellFormed (now tables) × (rule .0 < count (programIn (now tables))) ⌝ }
     requires { ⌜ RanksSoFar (programIn (now tables)) (now ranks) ⌝ }
-    ensures { λ r. ⌜ LookFinds (programIn (now (tables .entry))) (rule .0) (now (seen .entry)) r ⌝ }
+    ensures { λ r. ⌜ PartFinds (programIn (now (tables .entry))) (rule .0) true (now (seen .entry)) (now (ranks .entry)) r ⌝ }
 {
     let own = constraint_span(tables, rule);
     let end = own.end;
@@ -106,12 +104,6 @@ fn look_at_constraints(
         }
         place += 1;
     }
-    if TOP_RANK < high {
-        return Look::Seen {
-            low: NOWHERE,
-            high: TOP_RANK,
-        };
-    }
     Look::Seen { low: NOWHERE, high }
 }
 
@@ -124,7 +116,7 @@ pub fn look_at_rule(
 ) -> Look
     requires { ⌜ WellFormed (now tables) × (rule .0 < count (programIn (now tables))) ⌝ }
     requires { ⌜ RanksSoFar (programIn (now tables)) (now ranks) ⌝ }
-    ensures { λ r. ⌜ LookFinds (programIn (now (tables .entry))) (rule .0) (now (seen .entry)) r ⌝ }
+    ensures { λ r. ⌜ LookFinds (programIn (now (tables .entry))) (rule .0) (now (seen .entry)) (now (ranks .entry)) r ⌝ }
 {
     match look_at_premises(tables, rule, seen, ranks) {
         Look::Unmet(fact, barring) => Look::Unmet(fact, barring),

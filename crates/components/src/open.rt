@@ -1,10 +1,10 @@
 // Open facts and roots. Internal.
-ghost use Prim.Native.Nat.{_+_, _<_, _≤_};
+ghost use Prim.Native.Nat.{_<_, _≤_};
 ghost use mathlib.Core.Path.{_≡_};
 ghost use lib.ListN.{length};
 ghost use Rattle.items.specs.Item.{narrow, maxFacts};
 ghost use Rattle.theory.specs.Rule.{Program};
-ghost use Rattle.components.specs.Open.{unmet, seenOf, factAt, openerAt, rootPlace, rootBarred, unmetCount, Walking, Current, MayOpen, Merges};
+ghost use Rattle.components.specs.Open.{unmet, seenOf, factAt, openerAt, rootPlace, rootBarred, Walking, Current, MayOpen, Opened, Merges};
 use items::item::FactId;
 use items::item::MAX_FACTS;
 use tables::layout::wide;
@@ -26,7 +26,7 @@ pub fn open_fact(
 )
     requires { ⌜ (length (now seen) ≡ maxFacts narrow) × (length (now stack) ≡ maxFacts narrow) × (length (now roots) ≡ maxFacts narrow) ⌝ }
     requires { ⌜ (height < maxFacts narrow) × (count ≤ height) × (opener < maxFacts narrow) × (fact .0 < maxFacts narrow) ⌝ }
-    ensures { λ _. ⌜ ((P : Program) → Walking P (now (seen .entry)) (now (stack .entry)) (now (roots .entry)) height count → (0 < height → Current (now (roots .entry)) height count opener) → fact .0 < P .facts → seenOf (now (seen .entry)) (fact .0) ≡ unmet → MayOpen P (now (stack .entry)) height (fact .0) barring → Walking P (now (seen .exit)) (now (stack .exit)) (now (roots .exit)) (height + 1) (count + 1) × ((factAt (now (stack .exit)) height ≡ fact .0) × (unmetCount P (now (seen .entry)) ≡ unmetCount P (now (seen .exit)) + 1))) ⌝ }
+    ensures { λ _. ⌜ ((P : Program) → Walking P (now (seen .entry)) (now (stack .entry)) (now (roots .entry)) height count → (0 < height → Current (now (roots .entry)) height count opener) → fact .0 < P .facts → seenOf (now (seen .entry)) (fact .0) ≡ unmet → MayOpen P (now (stack .entry)) height (fact .0) barring → Opened P (now (seen .entry)) (now (stack .entry)) (now (roots .entry)) height count opener (fact .0) (now (seen .exit)) (now (stack .exit)) (now (roots .exit))) ⌝ }
 {
     seen[fact.0 as usize] = height as u16;
     stack[height] = (fact.0 as usize + MAX_FACTS * opener) as u16;

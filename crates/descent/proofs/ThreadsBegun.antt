@@ -1,5 +1,5 @@
 -- The conclusion of each rule is its key, and the rules of each fact stand in its thread: what is first there, and what follows a rule.
-use Prim.Native.Nat.{ℕ, zero, suc, _+_, _<_}
+use Prim.Native.Nat.{ℕ, zero, suc, _+_, _<_, _≤_}
 use native.Mathlib.Omega.{arith}
 use mathlib.Core.Path.{_≡_, refl, sym, _∙_}
 use mathlib.Core.Bool.{Bool, true, false}
@@ -50,34 +50,72 @@ module _ (p : ℕ → Bool) (next : List ℕ) where
           (mem-cases i a (keep p (range (suc a) n)) (rw e at m))
       go false e r = same-end i (r from i (rw e at s) (rw e at m))
 
--- Rules threaded by their conclusions: each fact's first rule concludes it, and so does the next after a rule, with a higher number.
-pub threads-begin : (P : Program) (keys first next : List ℕ) → Bounded P → P .facts < maxFacts narrow → ((i : ℕ) → i < count P → getD keys i 0 ≡ rule P i .conclusion) → Threaded keys (count P) first next → Threads P first next
-unfolding placesMarked
-threads-begin P keys first next b few told w =
-    record {
-      todo-places = w .first-places;
-      next-places = w .next-places;
-      todo-rule = starts;
-      next-rule = follows;
-    }
-  where
-    has-key : ℕ → ℕ → Bool
-    has-key key i = eqb (getD keys i 0) key
+  -- what is first in the thread is the least of it, and what follows one is the least of those that are higher
+  first-least : (a n from j : ℕ) → Strung next from (keep p (range a n)) → mem j (keep p (range a n)) ≡ true → from ≤ j
+  first-least a zero from j s m = never m refl
+  first-least a (suc n) from j s m = go (p a) refl (first-least (suc a) n)
+    where
+      go : (b : Bool) → p a ≡ b → ((from j : ℕ) → Strung next from (keep p (range (suc a) n)) → mem j (keep p (range (suc a) n)) ≡ true → from ≤ j) → from ≤ j
+      go true e r =
+          let here : Strung next from (a ∷ keep p (range (suc a) n)) = rw e at s in
+          omega (arith, here .0, mem-range a (suc n) j (kept a (suc n) j m .0) .0)
+      go false e r = r from j (rw e at s) (rw e at m)
 
-    starts : (f : ℕ) → f < P .facts → (getD first f 0 ≡ threadEnd) ⊎ ((getD first f 0 < count P) × (rule P (getD first f 0) .conclusion ≡ f))
-    starts f l = ⊎-elim (λ e. inl e) (λ m. inr (one-of m)) (first-of next (getD first f 0) (keep (has-key f) (upTo (count P))) (w .strung f (omega arith)))
-      where
-        one-of : mem (getD first f 0) (keep (has-key f) (upTo (count P))) ≡ true → (getD first f 0 < count P) × (rule P (getD first f 0) .conclusion ≡ f)
-        one-of m =
-            let (inside, passes) = kept (has-key f) next 0 (count P) (getD first f 0) m in
-            let low : getD first f 0 < count P = mem-upTo (count P) (getD first f 0) inside in
-            (low, sym (told (getD first f 0) low) ∙ eqb-true _ _ passes)
+  next-least : (a n from i j : ℕ) → Strung next from (keep p (range a n)) → mem i (keep p (range a n)) ≡ true → mem j (keep p (range a n)) ≡ true → i < j → getD next i 0 ≤ j
+  next-least a zero from i j s m k l = never m refl
+  next-least a (suc n) from i j s m k l = go (p a) refl (next-least (suc a) n)
+    where
+      go : (b : Bool) → p a ≡ b → ((from i j : ℕ) → Strung next from (keep p (range (suc a) n)) → mem i (keep p (range (suc a) n)) ≡ true → mem j (keep p (range (suc a) n)) ≡ true → i < j → getD next i 0 ≤ j) → getD next i 0 ≤ j
+      go true e r =
+          let here : Strung next from (a ∷ keep p (range (suc a) n)) = rw e at s in
+          let low : a ≤ i = mem-range a (suc n) i (kept a (suc n) i m .0) .0 in
+          ⊎-elim
+          (λ is-a. absurd (omega (arith, is-a)))
+          (λ later. ⊎-elim (λ is-a. rw is-a (first-least (suc a) n (getD next a 0) j (here .1) later)) (λ both. r (getD next a 0) i j (here .1) both later l) (mem-cases i a (keep p (range (suc a) n)) (rw e at m)))
+          (mem-cases j a (keep p (range (suc a) n)) (rw e at k))
+      go false e r = r from i j (rw e at s) (rw e at m) (rw e at k) l
 
-    follows : (i : ℕ) → i < count P → (getD next i 0 ≡ threadEnd) ⊎ ((i < getD next i 0) × ((getD next i 0 < count P) × (rule P (getD next i 0) .conclusion ≡ rule P i .conclusion)))
-    follows i l =
-        ⊎-elim (λ e. inl e)
-        (λ h. let low : getD next i 0 < count P = omega (arith, h .1 .0) in inr (h .0, (low, sym (told (getD next i 0) low) ∙ eqb-true _ _ (h .1 .1))))
-        (leads-on (has-key own) next 0 (count P) (getD first own 0) i (w .strung own (omega (arith, b .conclusion-below i l))) (mem-keep (has-key own) (upTo (count P)) i ∙ and-both (upTo-mem (count P) i l) (eq-eqb _ _ (told i l))))
-      where
-        own : ℕ
-        own = rule P i .conclusion
+-- Rules threaded by their conclusions: each fact's first rule concludes it, and so does the next after a rule, with a higher number, and none is passed over.
+module _ (P : Program) (keys first next : List ℕ) (b : Bounded P) (few : P .facts < maxFacts narrow) (told : (i : ℕ) → i < count P → getD keys i 0 ≡ rule P i .conclusion) (w : Threaded keys (count P) first next) where
+  abbrev has-key : ℕ → ℕ → Bool
+  has-key key i = eqb (getD keys i 0) key
+
+  -- the thread of a fact, and the rules that stand there
+  thread-of : (f : ℕ) → f < P .facts → Strung next (getD first f 0) (keep (has-key f) (upTo (count P)))
+  unfolding placesMarked
+  thread-of f l = w .strung f (omega arith)
+
+  stands-there : (f i : ℕ) → i < count P → rule P i .conclusion ≡ f → mem i (keep (has-key f) (upTo (count P))) ≡ true
+  stands-there f i l e = mem-keep (has-key f) (upTo (count P)) i ∙ and-both (upTo-mem (count P) i l) (eq-eqb _ _ (told i l ∙ e))
+
+  pub threads-begin : Threads P first next
+  threads-begin =
+      record {
+        todo-places = w .first-places;
+        next-places = w .next-places;
+        todo-rule = starts;
+        next-rule = follows;
+        next-least = λ i j l h e. next-least (has-key (rule P i .conclusion)) next 0 (count P) (getD first (rule P i .conclusion) 0) i j (thread-of (rule P i .conclusion) (b .conclusion-below i l)) (stands-there (rule P i .conclusion) i l refl) (stands-there (rule P i .conclusion) j h e);
+      }
+    where
+      starts : (f : ℕ) → f < P .facts → (getD first f 0 ≡ threadEnd) ⊎ ((getD first f 0 < count P) × (rule P (getD first f 0) .conclusion ≡ f))
+      starts f l = ⊎-elim (λ e. inl e) (λ m. inr (one-of m)) (first-of next (getD first f 0) (keep (has-key f) (upTo (count P))) (thread-of f l))
+        where
+          one-of : mem (getD first f 0) (keep (has-key f) (upTo (count P))) ≡ true → (getD first f 0 < count P) × (rule P (getD first f 0) .conclusion ≡ f)
+          one-of m =
+              let (inside, passes) = kept (has-key f) next 0 (count P) (getD first f 0) m in
+              let low : getD first f 0 < count P = mem-upTo (count P) (getD first f 0) inside in
+              (low, sym (told (getD first f 0) low) ∙ eqb-true _ _ passes)
+
+      follows : (i : ℕ) → i < count P → (getD next i 0 ≡ threadEnd) ⊎ ((i < getD next i 0) × ((getD next i 0 < count P) × (rule P (getD next i 0) .conclusion ≡ rule P i .conclusion)))
+      follows i l =
+          ⊎-elim (λ e. inl e)
+          (λ h. let low : getD next i 0 < count P = omega (arith, h .1 .0) in inr (h .0, (low, sym (told (getD next i 0) low) ∙ eqb-true _ _ (h .1 .1))))
+          (leads-on (has-key own) next 0 (count P) (getD first own 0) i (thread-of own (b .conclusion-below i l)) (stands-there own i l refl))
+        where
+          own : ℕ
+          own = rule P i .conclusion
+
+  -- no rule of a fact is before its first
+  pub none-before : (i : ℕ) → i < count P → getD first (rule P i .conclusion) 0 ≤ i
+  none-before i l = first-least (has-key (rule P i .conclusion)) next 0 (count P) (getD first (rule P i .conclusion) 0) i (thread-of (rule P i .conclusion) (b .conclusion-below i l)) (stands-there (rule P i .conclusion) i l refl)

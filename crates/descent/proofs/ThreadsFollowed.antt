@@ -28,6 +28,7 @@ module _ {P : Program} {todo next : List ℕ} (w : Threads P todo next) (few : P
         next-places = w .next-places;
         todo-rule = λ g l. go g l (eqb g f) refl;
         next-rule = w .next-rule;
+        next-least = w .next-least;
       }
     where
       go : (g : ℕ) → g < P .facts → (b : Bool) → eqb g f ≡ b → (getD (set todo f (getD next i 0)) g 0 ≡ threadEnd) ⊎ ((getD (set todo f (getD next i 0)) g 0 < count P) × (rule P (getD (set todo f (getD next i 0)) g 0) .conclusion ≡ g))

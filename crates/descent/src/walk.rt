@@ -2,14 +2,14 @@
 ghost use Prim.Native.Nat.{ℕ, _<_, _≤_};
 ghost use mathlib.Core.Path.{_≡_};
 ghost use mathlib.Core.List.{List};
-ghost use lib.ListN.{length, getD};
+ghost use lib.ListN.{length, getD, replicate};
 ghost use Rattle.theory.specs.Rule.{Program, count, rule as ruleOf};
 ghost use Rattle.items.specs.Item.{narrow, maxFacts};
 ghost use Rattle.tables.specs.Layout.{programIn, WellFormed};
-ghost use Rattle.tables.specs.Ranking.{RanksSoFar};
-ghost use Rattle.components.specs.Open.{seenOf, unmet};
+ghost use Rattle.threads.specs.Threads.{threadEnd};
+ghost use Rattle.components.specs.Open.{seenOf, factAt, unmet};
 ghost use Rattle.descent.specs.declared.walk.Turn.the-variants.{Goes};
-ghost use Rattle.descent.specs.Standing.{Stands, Rests, TurnLeaves, WalkLeaves, Guides};
+ghost use Rattle.descent.specs.Standing.{Stands, Rests, TurnLeaves, WalkLeaves, RanksFound};
 use components::close::close_from;
 use components::look::Look;
 use components::look::UNMET;
@@ -56,7 +56,7 @@ fn leave(
 ) -> Standing
     requires { ⌜ (0 < s .height) × (s .height ≤ maxFacts narrow) × (0 < s .roots) × (s .roots ≤ maxFacts narrow) × (s .at < s .height) ⌝ }
     requires { ⌜ (length (now seen) ≡ maxFacts narrow) × (length (now ranks) ≡ maxFacts narrow) ⌝ }
-    ensures { λ r. ⌜ ((P : Program) (todo next : List ℕ) → Stands P (now (seen .entry)) (now (stack .entry)) (now (roots .entry)) todo next (now (ranks .entry)) s → TurnLeaves P (now (seen .entry)) todo s next (Goes r) (now (seen .exit)) (now (stack .entry)) (now (roots .entry)) todo (now (ranks .exit))) ⌝ }
+    ensures { λ r. ⌜ ((P : Program) (todo next : List ℕ) → Stands P (now (seen .entry)) (now (stack .entry)) (now (roots .entry)) todo next (now (ranks .entry)) s → getD todo (factAt (now (stack .entry)) (s .at)) 0 ≡ threadEnd → TurnLeaves P (now (seen .entry)) todo s next (Goes r) (now (seen .exit)) (now (stack .entry)) (now (roots .entry)) todo (now (ranks .exit))) ⌝ }
 {
     let height = s.height;
     let count = s.roots;
@@ -141,7 +141,7 @@ fn walk_from(
 ) -> bool
     requires { ⌜ WellFormed (now tables) × Rests (programIn (now tables)) (now seen) (now stack) (now roots) (now todo) (now next) (now ranks) ⌝ }
     requires { ⌜ (fact .0 < programIn (now tables) .facts) × (seenOf (now seen) (fact .0) ≡ unmet) ⌝ }
-    ensures { λ r. ⌜ WalkLeaves (programIn (now (tables .entry))) (now (next .entry)) r (now (seen .exit)) (now (stack .exit)) (now (roots .exit)) (now (todo .exit)) (now (ranks .exit)) ⌝ }
+    ensures { λ r. ⌜ WalkLeaves (programIn (now (tables .entry))) (now (next .entry)) (now (seen .entry)) (fact .0) r (now (seen .exit)) (now (stack .exit)) (now (roots .exit)) (now (todo .exit)) (now (ranks .exit)) ⌝ }
 {
     open_fact(seen, stack, roots, 0, 0, 0, fact, false);
     let mut s = Standing {
@@ -178,10 +178,10 @@ fn conclusions_of(tables: &[u16; TABLE_CELLS]) -> [u16; MAX_RULES]
     keys
 }
 
-// Walks from every fact. Raises the ranks of all facts as far as the walk shows them, from ranks that are not too high; answers false where it met a cycle.
+// Walks from every fact. Gives each its least rank, from 0 on; answers false where it met a cycle: there are no ranks then.
 pub fn walk(tables: &[u16; TABLE_CELLS], ranks: &mut [u16; MAX_FACTS]) -> bool
-    requires { ⌜ WellFormed (now tables) × RanksSoFar (programIn (now tables)) (now ranks) ⌝ }
-    ensures { λ r. ⌜ Guides (programIn (now (tables .entry))) r (now (ranks .exit)) ⌝ }
+    requires { ⌜ WellFormed (now tables) × (_≡_ {A = List ℕ} (now ranks) (replicate (maxFacts narrow) 0)) ⌝ }
+    ensures { λ r. ⌜ RanksFound (programIn (now (tables .entry))) r (now (ranks .exit)) ⌝ }
 {
     let keys = conclusions_of(tables);
     let mut todo = [END; MAX_FACTS];

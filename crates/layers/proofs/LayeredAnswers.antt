@@ -8,7 +8,7 @@ use mathlib.Core.Option.{Option, none, some}
 use borrow.Author.Tests.{le-leb, lt-leb, leb-true}
 use lib.ListN.{length}
 use lib.Dec.{leb}
-use Rattle.theory.specs.Rule.{howMany, upTo, Program, Bounded, inForce, constraintFact}
+use Rattle.theory.specs.Rule.{Program, Bounded, inForce, constraintFact}
 use Rattle.theory.specs.Layers.{LeastRanks, isLayered, layeredOrder, ranksOf}
 use Rattle.theory.proofs.Counted.{counted-most}
 use Rattle.theory.proofs.Ranks.{layered-least, least-few, least-ranks-same}
@@ -20,7 +20,7 @@ use Rattle.items.specs.Write.{over}
 use Rattle.tables.specs.Layout.{programIn}
 use Rattle.reader.specs.declared.answer.Asked.the-variants as asked
 use Rattle.reader.specs.declared.answer.FileCounts.{FileCounts}
-use Rattle.reader.specs.Questions.{programOf, fileQuestions, fileNo, exceptions, constraintFacts}
+use Rattle.reader.specs.Questions.{programOf, fileQuestions, fileNo, exceptions}
 use Rattle.reader.specs.Asked.{countsOf, fileAsked}
 use Rattle.reader.proofs.Accepted.{all-asked}
 use Rattle.items.proofs.FirstNo.{both-yes}
@@ -73,11 +73,6 @@ module _ (file order : List ℕ) where
 module _ (P : Program) (order : List ℕ) (counts : FileCounts) (e : counts ≡ countsOf P) where
   named : counts .exceptions ≡ exceptions P
   named = ap (λ (c : FileCounts). c .exceptions) e
-
-  -- the limit of a rank
-  pub limited : counts .constraints ≡ howMany (constraintFact P (inForce P)) (upTo (P .facts))
-  unfolding constraintFacts
-  limited = ap (λ (c : FileCounts). c .constraints) e
 
   pub order-short : length order < nameWidth * counts .exceptions → refusedWith OrderShort order ≡ layeredOf P order
   unfolding layeredOf

@@ -1,3 +1,2 @@
-pub mod RanksFound
 pub mod LayeredAnswers
 pub mod LayersMeaning

@@ -8,7 +8,6 @@ ghost use Rattle.layers.specs.Outcome.{LayeredOutcome, layeredOutcome, L
 ghost use Rattle.layers.specs.Tabled.{layeredOf};
 
 pub mod answer;
-mod ranked;
 
 use answer::Layered;
 use items::item::MAX_FACTS;
@@ -40,7 +39,7 @@ fn layered_scanned(tables: &[u16; TABLE_CELLS], counts: FileCounts, order: &mut 
         return Layered::Refused(Refusal::OrderShort);
     }
     let mut ranks = [0u16; MAX_FACTS];
-    if !ranked::rank_facts(tables, counts.constraints, &mut ranks) {
+    if !descent::walk::walk(tables, &mut ranks) {
         return Layered::Refused(Refusal::NotLayered);
     }
     orders::ranks::write_by_rank(tables, &ranks, order);

@@ -1,9 +1,8 @@
 -- `layered_scanned`: a no changes no byte; else the ranks are the least, and the order goes by them.
 use mathlib.Core.Path.{refl, sym, _∙_}
-use mathlib.Core.List.{[]}
 use denote.Ref.{now}
 use borrow.Author.Tests.{not-true, not-false}
-use Rattle.layers.proofs.LayeredAnswers.{limited, order-short, fits, not-layered, few-ranks, ordered}
+use Rattle.layers.proofs.LayeredAnswers.{order-short, fits, not-layered, few-ranks, ordered}
 use borrow.Author.Needs.{needs}
 use Rattle.layers.proofs.layered_scanned.Statement.{statement}
 use Rattle.layers.proofs.layered_scanned.Tie as tie
@@ -17,20 +16,20 @@ mul-if1 c = search needs
 returns : tie.Need-returns
 returns c = order-short _ _ _ (c .before .before .before .pre .1) (c .if1 .taken)
 
-rank-facts-requires : tie.Need-rank-facts-requires
-rank-facts-requires c κs = ((c .before .before .before .before .pre .0, refl), limited _ [] _ (c .before .before .before .before .pre .1))
+walk-requires : tie.Need-walk-requires
+walk-requires c κs = (c .before .before .before .before .pre .0, refl)
 
 returns-2 : tie.Need-returns-2
-returns-2 c = not-layered _ _ _ (c .before .before .before .before .before .before .pre .1) (c .before .before .before .if1 .left) _ (c .before .rank-facts .ensures .layered) (not-true _ (c .if2 .taken))
+returns-2 c = not-layered _ _ _ (c .before .before .before .before .before .before .pre .1) (c .before .before .before .if1 .left) _ (c .before .walk .ensures .layered) (not-true _ (c .if2 .taken))
 
 write-by-rank-requires : tie.Need-write-by-rank-requires
-write-by-rank-requires c κs = ((c .before .before .before .before .before .before .before .before .pre .0, few-ranks _ (now (c .before .before .before .before .before .before .before .before .args .order)) _ (c .before .before .before .before .before .before .before .before .pre .1) (c .before .before .before .before .before .if1 .left) (c .before .before .before .before .before .before .before .before .pre .0 .in-bounds) (sym (c .before .before .before .rank-facts .ensures .layered) ∙ not-false _ (c .before .before .if2 .left)) _ (c .before .before .before .rank-facts .ensures .least (not-false _ (c .before .before .if2 .left)))), fits _ (now (c .before .before .before .before .before .before .before .before .args .order)) _ (c .before .before .before .before .before .before .before .before .pre .1) (c .before .before .before .before .before .if1 .left))
+write-by-rank-requires c κs = ((c .before .before .before .before .before .before .before .before .pre .0, few-ranks _ (now (c .before .before .before .before .before .before .before .before .args .order)) _ (c .before .before .before .before .before .before .before .before .pre .1) (c .before .before .before .before .before .if1 .left) (c .before .before .before .before .before .before .before .before .pre .0 .in-bounds) (sym (c .before .before .before .walk .ensures .layered) ∙ not-false _ (c .before .before .if2 .left)) _ (c .before .before .before .walk .ensures .least (not-false _ (c .before .before .if2 .left)))), fits _ (now (c .before .before .before .before .before .before .before .before .args .order)) _ (c .before .before .before .before .before .before .before .before .pre .1) (c .before .before .before .before .before .if1 .left))
 
 same-length : tie.Need-same-length
 same-length c = search needs
 
 returns-3 : tie.Need-returns-3
-returns-3 c = ordered _ _ _ (c .before .before .before .before .before .before .before .before .before .before .before .pre .1) (c .before .before .before .before .before .before .before .before .if1 .left) (c .before .before .before .before .before .before .before .before .before .before .before .pre .0 .in-bounds) (sym (c .before .before .before .before .before .before .rank-facts .ensures .layered) ∙ not-false _ (c .before .before .before .before .before .if2 .left)) _ (c .before .before .before .before .before .before .rank-facts .ensures .least (not-false _ (c .before .before .before .before .before .if2 .left))) _ (c .before .before .write-by-rank .ensures .0)
+returns-3 c = ordered _ _ _ (c .before .before .before .before .before .before .before .before .before .before .before .pre .1) (c .before .before .before .before .before .before .before .before .if1 .left) (c .before .before .before .before .before .before .before .before .before .before .before .pre .0 .in-bounds) (sym (c .before .before .before .before .before .before .walk .ensures .layered) ∙ not-false _ (c .before .before .before .before .before .if2 .left)) _ (c .before .before .before .before .before .before .walk .ensures .least (not-false _ (c .before .before .before .before .before .if2 .left))) _ (c .before .before .write-by-rank .ensures .0)
 
 pub layered-scanned-spec : {M : Type 1} → statement M
 layered-scanned-spec =
@@ -39,7 +38,7 @@ layered-scanned-spec =
     cast-if1
     mul-if1
     returns
-    rank-facts-requires
+    walk-requires
     returns-2
     write-by-rank-requires
     same-length

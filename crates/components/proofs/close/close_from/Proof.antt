@@ -55,7 +55,7 @@ loop-again c =
     )
 
 returns : tie.Need-returns Inv-loop μ-loop
-returns c = all-closed (c .before .before .highest-rank .ensures) (c .before .loop .inv .1 .1 .0) (c .before .loop .inv .1 .1 .1) (c .before .loop .inv .1 .0) (c .loop-test .left)
+returns c = all-closed (c .before .before .highest-rank .ensures .0) (c .before .before .highest-rank .ensures .1) (c .before .loop .inv .1 .1 .0) (c .before .loop .inv .1 .1 .1) (c .before .loop .inv .1 .0) (c .loop-test .left)
 
 pub close-from-spec : {M : Type 1} → statement M
 close-from-spec =

@@ -1,14 +1,13 @@
--- `highest_rank`: so far it is the rank of a fact there.
-use Prim.Native.Nat.{_-_, _≤_}
-use mathlib.Core.Path.{refl}
+-- `highest_rank`: so far it is the rank of a fact there, and none passed has a higher one.
+use Prim.Native.Nat.{_-_}
 use mathlib.Core.Logic.{⊎-elim}
 use native.Mathlib.Omega.{arith}
-use Rattle.components.proofs.ComponentClosed.{RankThere}
+use Rattle.components.proofs.ComponentClosed.{HighestYet, first-rank, one-higher, not-higher}
 use Rattle.components.proofs.close.highest_rank.Statement.{statement}
 use Rattle.components.proofs.close.highest_rank.Tie as tie
 
 abbrev Inv-loop : tie.InvT-loop
-Inv-loop stack ranks from to high₀ a₀ high a = (from ≤ a) × RankThere stack ranks from to high
+Inv-loop stack ranks from to high₀ a₀ high a = HighestYet stack ranks from to a high
 
 abbrev μ-loop : tie.MeasureT-loop
 μ-loop stack ranks from to high₀ a₀ high a = to - a
@@ -26,7 +25,7 @@ add-a : tie.Need-add-a Inv-loop μ-loop
 add-a c = omega (arith, c .before .before .pre .0, c .before .before .pre .1)
 
 loop-holds : tie.Need-loop-holds Inv-loop μ-loop
-loop-holds c = (omega arith, (c .before .before .args .from, (omega arith, (c .before .before .pre .0, rw (c .before .fact-at .ensures .0) refl))))
+loop-holds c = first-rank _ _ _ _ _ (c .before .before .pre .0) (c .before .fact-at .ensures .0)
 
 fact-at-requires-2 : tie.Need-fact-at-requires-2 Inv-loop μ-loop
 fact-at-requires-2 c κs = omega (arith, c .loop-test .taken, c .before .before .before .before .pre .1)
@@ -45,13 +44,13 @@ loop-less c = omega arith
 
 loop-again : tie.Need-loop-again Inv-loop μ-loop
 loop-again c =
-    let (low, so-far) = c .before .before .before .before .loop .inv in (
-      omega (arith, low),
-      ⊎-elim (λ w. rw (w .1) (_, (low, (c .before .before .before .loop-test .taken, rw (c .before .before .fact-at2 .ensures .0) refl)))) (λ w. rw (w .1) so-far) (c .if1 .came),
-    )
+    let inv = c .before .before .before .before .loop .inv in
+    let inside = c .before .before .before .loop-test .taken in
+    let is-fact = c .before .before .fact-at2 .ensures .0 in
+    ⊎-elim (λ w. rw (w .1) (one-higher inv inside _ is-fact (w .0 .taken))) (λ w. rw (w .1) (not-higher inv inside _ is-fact (w .0 .left))) (c .if1 .came)
 
 returns : tie.Need-returns Inv-loop μ-loop
-returns c = c .before .loop .inv .1
+returns c = let inv = c .before .loop .inv in (inv .there, λ a l h. inv .none-higher a l (omega (arith, c .loop-test .left)))
 
 pub highest-rank-spec : {M : Type 1} → statement M
 highest-rank-spec =

@@ -7,12 +7,14 @@ use denote.Ref.{now}
 use Rattle.items.specs.Item.{narrow, maxFacts}
 use Rattle.tables.specs.Layout.{constraintAt, programIn}
 use Rattle.tables.proofs.ProgramHeld.{facts-below}
-use Rattle.components.proofs.RuleLooked.{Element, element, AskedAbove, none-asked, no-more-asked, one-asked, asked-found}
+use Rattle.components.specs.Open.{nowhere}
+use Rattle.components.specs.Look.{Noted}
+use Rattle.components.proofs.RuleLooked.{Element, element, closed-noted, placeless-noted, Looking, nothing-found, no-more-found, all-found, above-found}
 use Rattle.components.proofs.look.look_at_constraints.Statement.{statement}
 use Rattle.components.proofs.look.look_at_constraints.Tie as tie
 
 abbrev Inv-loop : tie.InvT-loop
-Inv-loop tables seen ranks end place₀ high₀ place high = AskedAbove (programIn tables) (constraintAt tables) place₀ end place high
+Inv-loop tables seen ranks end place₀ high₀ place high = Looking (programIn tables) true (constraintAt tables) seen ranks place₀ end place nowhere high
 
 abbrev μ-loop : tie.MeasureT-loop
 μ-loop tables seen ranks end place₀ high₀ place high = end - place
@@ -24,11 +26,15 @@ constraint c = element _ _ true (c .before .before .before .constraint-span .ens
 small : (c : tie.After-constraint-at Inv-loop μ-loop) → c .constraint-at .result < maxFacts narrow
 small c = omega (arith, constraint c .known, facts-below (c .before .before .before .before .pre .0 .0))
 
+-- it was met and is not open
+noted : (c : tie.Joined1 Inv-loop μ-loop) → Noted true (now (c .before .before .before .before .before .before .args .seen)) nowhere (c .before .before .constraint-at .result)
+noted c = ⊎-elim (λ w. placeless-noted (w .1 .left) (w .2 .left)) (λ w. closed-noted (w .left)) (c .if1 .came)
+
 constraint-span-requires : tie.Need-constraint-span-requires Inv-loop μ-loop
 constraint-span-requires c κs = c .pre .0
 
 loop-holds : tie.Need-loop-holds Inv-loop μ-loop
-loop-holds c = none-asked _ _ _ _
+loop-holds c = nothing-found _ _ _ _ _ _ _
 
 constraint-at-requires : tie.Need-constraint-at-requires Inv-loop μ-loop
 constraint-at-requires c κs = omega (arith, c .before .before .constraint-span .ensures .high)
@@ -66,16 +72,14 @@ loop-less c = omega arith
 loop-again : tie.Need-loop-again Inv-loop μ-loop
 loop-again c =
     let inv = c .before .before .before .before .before .before .loop .inv in
+    let seen-so = noted (c .before .before) in
     ⊎-elim
-    (λ w. rw (w .1) (one-asked inv (c .before .before .before .before .before .loop-test .taken) _ (c .before .before .before .before .constraint-at .ensures) (c .before .before .before .before .before .before .before .before .pre .1)))
-    (λ w. rw (w .1) (no-more-asked inv))
+    (λ w. rw (w .1) (above-found inv (c .before .before .before .before .before .loop-test .taken) _ (c .before .before .before .before .constraint-at .ensures) (c .before .before .before .before .before .before .before .before .pre .1) seen-so (w .0 .taken)))
+    (λ w. rw (w .1) (no-more-found inv _ (c .before .before .before .before .constraint-at .ensures) seen-so (w .0 .left)))
     (c .if4 .came)
 
 returns-3 : tie.Need-returns-3 Inv-loop μ-loop
-returns-3 c = asked-found (c .before .before .loop .inv) (now (c .before .before .before .before .args .seen)) _ (c .before .before .before .before .pre .0 .1) (c .before .before .before .constraint-span .ensures) _ (omega arith) (omega (arith, c .if5 .taken))
-
-returns-4 : tie.Need-returns-4 Inv-loop μ-loop
-returns-4 c = asked-found (c .before .before .loop .inv) (now (c .before .before .before .before .args .seen)) _ (c .before .before .before .before .pre .0 .1) (c .before .before .before .constraint-span .ensures) _ (omega (arith, c .if5 .left)) (omega arith)
+returns-3 c = all-found (c .before .loop .inv) (c .loop-test .left) _ (c .before .before .before .pre .0 .1) (c .before .before .constraint-span .ensures)
 
 pub look-at-constraints-spec : {M : Type 1} → statement M
 look-at-constraints-spec =
@@ -97,5 +101,4 @@ look-at-constraints-spec =
     add-place
     loop-less
     loop-again
-    returns-3
-    returns-4)
+    returns-3)

@@ -3,14 +3,13 @@ use Prim.Native.Nat.{_-_, _<_}
 use native.Mathlib.Omega.{arith}
 use mathlib.Core.Path.{sym, _∙_}
 use denote.Ref.{now}
-use Rattle.components.specs.declared.«open».Merge.the-variants.{Left}
-use Rattle.components.specs.Open.{rootPlace, Merges}
+use Rattle.components.specs.Open.{rootPlace, Gone}
 use Rattle.components.proofs.RootsLeft.{none-gone, one-gone, one-barred}
 use Rattle.components.proofs.open.merge_roots.Statement.{statement}
 use Rattle.components.proofs.open.merge_roots.Tie as tie
 
 abbrev Inv-loop : tie.InvT-loop
-Inv-loop roots count low left₀ left = Merges roots count low (Left left)
+Inv-loop roots count low left₀ left = Gone roots count low left
 
 abbrev μ-loop : tie.MeasureT-loop
 μ-loop roots count low left₀ left = left
@@ -25,7 +24,7 @@ root-place-requires : tie.Need-root-place-requires Inv-loop μ-loop
 root-place-requires c κs = omega (arith, c .loop-test .taken, c .before .loop .inv .0, c .before .before .pre .0)
 
 returns : tie.Need-returns Inv-loop μ-loop
-returns c = c .before .before .before .loop .inv
+returns c = (c .before .before .before .loop .inv, λ _. rw (← c .before .root-place .ensures) (c .if1 .taken))
 
 is-barred-requires : tie.Need-is-barred-requires Inv-loop μ-loop
 is-barred-requires c κs = root-place-requires (c .before .before) κs
@@ -46,7 +45,7 @@ loop-again c =
     one-gone _ _ _ _ (c .before .before .before .before .before .loop .inv) (c .before .before .before .before .loop-test .taken) (behind (c .before .before)) (sym (c .before .is-barred .ensures) ∙ c .if2 .left)
 
 returns-3 : tie.Need-returns-3 Inv-loop μ-loop
-returns-3 c = c .before .loop .inv
+returns-3 c = (c .before .loop .inv, λ some-left. absurd (omega (arith, c .loop-test .left)))
 
 pub merge-roots-spec : {M : Type 1} → statement M
 merge-roots-spec =

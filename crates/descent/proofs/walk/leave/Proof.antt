@@ -14,9 +14,9 @@ root-place-requires : tie.Need-root-place-requires
 root-place-requires c κs = search needs
 
 returns : tie.Need-returns
-returns c P todo next w =
+returns c P todo next w done =
     let o = c .before .before in
-    rw (o .opener-at .ensures) (stepped-back w (o .before .pre .0 .0) (rw (← c .before .root-place .ensures) (c .if1 .taken)))
+    rw (o .opener-at .ensures) (stepped-back w (o .before .pre .0 .0) (rw (← c .before .root-place .ensures) (c .if1 .taken)) done)
 
 close-from-requires : tie.Need-close-from-requires
 close-from-requires c κs = search needs
@@ -25,10 +25,10 @@ sub-t10 : tie.Need-sub-t10
 sub-t10 c = search needs
 
 returns-2 : tie.Need-returns-2
-returns-2 c P todo next w =
+returns-2 c P todo next w done =
     let e = c .before .before .before in
     let o = e .before .before in
-    rw (o .opener-at .ensures) (closed-last w (o .before .pre .0 .0) (rw (← e .before .root-place .ensures) (e .if1 .left)) _ _ (c .close-from .ensures))
+    rw (o .opener-at .ensures) (closed-last w (o .before .pre .0 .0) (rw (← e .before .root-place .ensures) (e .if1 .left)) _ _ (c .close-from .ensures) done)
 
 pub leave-spec : {M : Type 1} → statement M
 leave-spec =

@@ -6,7 +6,6 @@ use borrow.Author.Needs.{needs}
 use denote.Ref.{now}
 use lib.ListN.{getD}
 use Rattle.tables.specs.Layout.{programIn}
-use Rattle.tables.proofs.ProgramHeld.{rules-below}
 use Rattle.descent.proofs.WalkTurned.{few-open, few-roots, looked-small, may-leave, AtRule, rule-known, rule-small, may-open-it, opened, barred-look, may-merge, merged-cycle, looked-on}
 use Rattle.descent.proofs.walk.take_turn.Statement.{statement}
 use Rattle.descent.proofs.walk.take_turn.Tie as tie
@@ -24,13 +23,13 @@ leave-requires : tie.Need-leave-requires
 leave-requires c κs = let p = c .before .before .before .before .before .before .before .before .pre in may-leave (p .1) (p .0 .1)
 
 returns : tie.Need-returns
-returns c = let p = c .before .before .before .before .before .before .before .before .before .pre in c .leave .ensures _ _ _ (p .1)
+returns c = let p = c .before .before .before .before .before .before .before .before .before .pre in c .leave .ensures _ _ _ (p .1) (rw (← c .before .before .before .before .before .before .before .fact-at .ensures .0) (c .before .before .before .before .before .if1 .taken))
 
 -- once there is a rule to look at
 looking : (c : tie.Else1) → AtRule (programIn (now (c .before .before .before .before .args .tables))) (now (c .before .before .before .before .args .seen)) (now (c .before .before .before .before .args .stack)) (now (c .before .before .before .before .args .roots)) (now (c .before .before .before .before .args .todo)) (now (c .before .before .before .before .args .next)) (now (c .before .before .before .before .args .ranks)) (c .before .before .before .before .args .s) (c .before .before .fact-at .result) (getD (now (c .before .before .before .before .args .todo)) (c .before .before .fact-at .result) 0)
 looking c =
     let p = c .before .before .before .before .pre in
-    record { stands = p .1; some-open = p .0 .1; is-fact = c .before .before .fact-at .ensures .0; is-rule = refl; not-end = c .if1 .left; few-rules = rules-below (p .0 .0) }
+    record { stands = p .1; some-open = p .0 .1; is-fact = c .before .before .fact-at .ensures .0; is-rule = refl; not-end = c .if1 .left }
 
 look-at-rule-requires : tie.Need-look-at-rule-requires
 look-at-rule-requires c κs = let p = c .before .before .before .before .before .before .pre in ((p .0 .0, rule-known (looking (c .before .before))), p .1 .so-far)
@@ -99,7 +98,7 @@ returns-4 : tie.Need-returns-4
 returns-4 c = merged-cycle (looking (c .before .before .before .before .before .before .before .before .before .before .before .before .before .before)) (c .before .before .before .before .before .before .before .before .before .low .given .1) (c .before .before .before .before .before .before .before .before .before .before .before .look-at-rule .ensures) (c .enum-told2 .given .1) (c .before .before .merge-roots .ensures)
 
 returns-5 : tie.Need-returns-5
-returns-5 c = looked-on (looking (c .before .before .before .before .before .before .before .before .before .before .before .before .before .before .before)) (c .before .before .before .before .before .before .before .before .before .before .low .given .1) (c .before .before .before .before .before .before .before .before .before .before .before .before .look-at-rule .ensures) _ _ (c .before .left .given .1) (c .before .before .before .merge-roots .ensures) (c .before .before .before .before .before .before .wide .ensures) (⊎-elim (λ t. inl (t .1)) (λ t. inr (t .1)) (c .before .before .before .before .before .before .before .if2 .came))
+returns-5 c = looked-on (looking (c .before .before .before .before .before .before .before .before .before .before .before .before .before .before .before)) (c .before .before .before .before .before .before .before .before .before .before .low .given .1) (c .before .before .before .before .before .before .before .before .before .before .before .before .look-at-rule .ensures) _ _ (c .before .left .given .1) (c .before .before .before .merge-roots .ensures) (c .before .before .before .before .before .before .wide .ensures) (⊎-elim (λ t. inl (t .1, t .0 .taken)) (λ t. inr (t .1, t .0 .left)) (c .before .before .before .before .before .before .before .if2 .came))
 
 pub take-turn-spec : {M : Type 1} → statement M
 take-turn-spec =

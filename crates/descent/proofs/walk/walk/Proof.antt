@@ -1,5 +1,5 @@
--- `walk`: between two walks no fact is open.
-use Prim.Native.Nat.{_-_, _<_}
+-- `walk`: between two walks no fact is open, and all facts passed were met.
+use Prim.Native.Nat.{ℕ, _-_, _<_}
 use mathlib.Core.Path.{_≡_, refl}
 use native.Mathlib.Omega.{arith}
 use borrow.Author.Needs.{needs}
@@ -8,13 +8,14 @@ use denote.Ref.{now}
 use Rattle.items.specs.Item.{narrow, maxFacts}
 use Rattle.tables.specs.Layout.{programIn}
 use Rattle.tables.proofs.ProgramHeld.{facts-below, rules-below}
+use Rattle.components.specs.Open.{unmet, seenOf}
 use Rattle.descent.specs.Standing.{Rests}
-use Rattle.descent.proofs.WalkRested.{rests-first}
+use Rattle.descent.proofs.WalkRested.{rests-first, met-further, all-walked, cycle-met}
 use Rattle.descent.proofs.walk.walk.Statement.{statement}
 use Rattle.descent.proofs.walk.walk.Tie as tie
 
 abbrev Inv-loop : tie.InvT-loop
-Inv-loop tables ranks₀ todo₀ next seen₀ stack₀ roots₀ facts f₀ ranks todo seen stack roots f = (facts ≡ programIn tables .facts) × Rests (programIn tables) seen stack roots todo next ranks
+Inv-loop tables ranks₀ todo₀ next seen₀ stack₀ roots₀ facts f₀ ranks todo seen stack roots f = (facts ≡ programIn tables .facts) × (Rests (programIn tables) seen stack roots todo next ranks × ((g : ℕ) → g < f → seenOf seen g ≡ unmet → ⊥))
 
 abbrev μ-loop : tie.MeasureT-loop
 μ-loop tables ranks₀ todo₀ next seen₀ stack₀ roots₀ facts f₀ ranks todo seen stack roots f = facts - f
@@ -34,7 +35,7 @@ facts-of-requires c κs = search needs
 loop-holds : tie.Need-loop-holds Inv-loop μ-loop
 loop-holds c =
     let k = c .before .before .before .before .before .before in
-    (c .facts-of .ensures, rests-first _ (k .before .pre .0 .in-bounds) (facts-below (k .before .pre .0)) (k .conclusions-of .ensures) (c .before .before .before .before .rules-of .ensures) (c .before .thread .ensures) refl refl refl (k .before .pre .1))
+    (c .facts-of .ensures, (rests-first _ (k .before .pre .0 .in-bounds) (facts-below (k .before .pre .0)) (rules-below (k .before .pre .0)) (k .conclusions-of .ensures) (c .before .before .before .before .rules-of .ensures) (c .before .thread .ensures) refl refl refl (k .before .pre .1), λ g l. absurd (omega arith)))
 
 below : (c : tie.In-loop Inv-loop μ-loop) → c .before .loop .f < programIn (now (c .before .before .before .before .before .before .before .before .before .args .tables)) .facts
 below c = omega (arith, c .before .loop .inv .0, c .loop-test .taken)
@@ -55,7 +56,7 @@ loop-less : tie.Need-loop-less Inv-loop μ-loop
 loop-less c = omega arith
 
 loop-again : tie.Need-loop-again Inv-loop μ-loop
-loop-again c = c .before .before .loop .inv
+loop-again c = let (all, (rests, met)) = c .before .before .loop .inv in (all, (rests, met-further (c .before .before .loop .seen) (c .before .before .loop .seen) _ met (λ g e. e) (c .if1 .taken)))
 
 cast-t21 : tie.Need-cast-t21 Inv-loop μ-loop
 cast-t21 c = omega (arith, small (c .before .before .before .before .before .before .before))
@@ -63,10 +64,10 @@ cast-t21 c = omega (arith, small (c .before .before .before .before .before .bef
 walk-from-requires : tie.Need-walk-from-requires Inv-loop μ-loop
 walk-from-requires c κs =
     let e = c .before .before .before .before .before .before in
-    ((e .before .before .before .before .before .before .before .before .before .before .pre .0, e .before .before .loop .inv .1), (below (e .before), e .if1 .left))
+    ((e .before .before .before .before .before .before .before .before .before .before .pre .0, e .before .before .loop .inv .1 .0), (below (e .before), e .if1 .left))
 
 returns : tie.Need-returns Inv-loop μ-loop
-returns c = rw (not-true (c .before .walk-from .result) (c .if2 .taken)) at (c .before .walk-from .ensures)
+returns c = cycle-met _ _ (rw (not-true (c .before .walk-from .result) (c .if2 .taken)) at (c .before .walk-from .ensures))
 
 add-f-2 : tie.Need-add-f-2 Inv-loop μ-loop
 add-f-2 c = omega (arith, small (c .before .before .before .before .before .before .before .before .before))
@@ -75,10 +76,13 @@ loop-less-2 : tie.Need-loop-less-2 Inv-loop μ-loop
 loop-less-2 c = omega arith
 
 loop-again-2 : tie.Need-loop-again-2 Inv-loop μ-loop
-loop-again-2 c = (c .before .before .before .before .before .before .before .before .before .before .loop .inv .0, rw (not-false (c .before .walk-from .result) (c .if2 .left)) at (c .before .walk-from .ensures))
+loop-again-2 c =
+    let (all, (rests, met)) = c .before .before .before .before .before .before .before .before .before .before .loop .inv in
+    let (now, (stays, here)) = rw (not-false (c .before .walk-from .result) (c .if2 .left)) at (c .before .walk-from .ensures) in
+    (all, (now, met-further (c .before .before .before .before .before .before .before .before .before .before .loop .seen) (c .before .walk-from .last .1 .1 .1 .0) _ met stays here))
 
 returns-2 : tie.Need-returns-2 Inv-loop μ-loop
-returns-2 c = c .before .loop .inv .1 .so-far
+returns-2 c = let (all, (rests, met)) = c .before .loop .inv in all-walked rests (λ f l. met f (omega (arith, c .loop-test .left)))
 
 pub walk-spec : {M : Type 1} → statement M
 walk-spec =

@@ -1,2 +1,0 @@
-pub mod RuleAsks
-pub mod RanksRaised

@@ -1,2 +1,0 @@
--- What only code and proofs use.
-pub mod Raising
