@@ -37,10 +37,10 @@
  *     no byte of a lent buffer has changed.
  *   - In a lent buffer the bytes past those written keep their contents.
  *   - Nothing is kept between calls, and nothing is allocated for the caller.
- *   - The stack that a call needs on x86-64, as measured: retention_accept and
- *     retention_check 29 KB, retention_layered 34 KB, retention_grounds 68 KB,
- *     retention_judge 69 KB, retention_run 70 KB, retention_panel 105 KB,
- *     retention_search 135 KB.
+ *   - The stack that a call needs on x86-64, as measured: retention_load less
+ *     than 1 KB, retention_accept and retention_check 29 KB, retention_layered
+ *     34 KB, retention_grounds 68 KB, retention_judge 69 KB, retention_run
+ *     70 KB, retention_panel 105 KB, retention_search 135 KB.
  *
  * Refusals
  *
@@ -91,6 +91,11 @@
  *   the order by rank
  *   52  Does no cycle of dependencies go through a constraint? (A fact depends
  *       on each premise and each constraint of each rule that concludes it.)
+ *
+ *   the test load
+ *   53  Is the count of facts 1 to 255?
+ *   54  Is the count of rules at most 512?
+ *   55  File: at least 5 + 6 x rules bytes?
  */
 #ifndef RETENTION_H
 #define RETENTION_H
@@ -107,7 +112,8 @@ typedef struct {
     uint32_t refusal, stages, steps;
 } retention_counts;
 
-/* A count: of the steps that were kept, or of the rules named. */
+/* A count: of the steps that were kept, of the rules named, or of the bytes of
+ * a file. */
 typedef struct {
     uint32_t refusal, count;
 } retention_count;
@@ -203,6 +209,19 @@ retention_count retention_grounds(const uint8_t *file, size_t file_len,
  */
 retention_count retention_layered(const uint8_t *file, size_t file_len,
                                   uint8_t *order, size_t order_len);
+
+/*
+ * A test load: writes a rule file with so many facts and rules, drawn from the
+ * start, and returns its length. The same three numbers give the same bytes
+ * everywhere. Each draw adds 2654435769 to the state, which is the start before
+ * the first one, modulo 2 to the 32, and takes state / 65536, whole part, modulo
+ * the count of facts. A rule draws three facts: its conclusion, a 01 item, and
+ * then two items that are by turns 03 03 (rule 0), 02 02, and 02 03. The file is
+ * accepted. It has 5 + 6 x rules bytes, at most 3,077.
+ * Questions: 53 to 55.
+ */
+retention_count retention_load(uint32_t start, uint32_t facts, uint32_t rules,
+                               uint8_t *out, size_t out_len);
 
 /*
  * Writes what the panel program prints for the file, and returns the length of

@@ -9,7 +9,13 @@
 /* With length 0 a pointer is not read, so any address that is not null will do. */
 #define NOTHING (const uint8_t[]){0}, 0
 
-enum { UNTOUCHED = 0xA5, MOST_FACTS = 255, MOST_RULES = 512 };
+enum {
+    UNTOUCHED = 0xA5,
+    MOST_FACTS = 255,
+    MOST_RULES = 512,
+    /* of a test load */
+    MOST_LOADED = 5 + 6 * MOST_RULES
+};
 
 static int failures;
 
@@ -83,6 +89,20 @@ static layers layered(const uint8_t *file, size_t file_len, size_t order_len)
     return result;
 }
 
+/* A test load, in a buffer with room for one rule too many, of which so many bytes are lent. */
+typedef struct {
+    uint8_t file[MOST_LOADED + 6];
+    retention_count reply;
+} loads;
+
+static loads load(uint32_t start, uint32_t facts, uint32_t rules, size_t out_len)
+{
+    loads result;
+    memset(&result, UNTOUCHED, sizeof result);
+    result.reply = retention_load(start, facts, rules, result.file, out_len);
+    return result;
+}
+
 /* The buffer holds the bytes, and past them what it held before the call. */
 static int holds(const uint8_t *buffer, size_t buffer_len, const uint8_t *bytes, size_t len)
 {
@@ -120,6 +140,18 @@ static int ordered(const layers *result, const uint8_t *order, size_t len)
 {
     return result->reply.refusal == 0 && 3 * (size_t)result->reply.count == len
         && HOLDS(result->order, order, len);
+}
+
+static int unloaded(const loads *result, uint32_t refusal)
+{
+    return result->reply.refusal == refusal && result->reply.count == 0
+        && HOLDS(result->file, NOTHING);
+}
+
+static int loaded(const loads *result, const uint8_t *file, size_t len)
+{
+    return result->reply.refusal == 0 && result->reply.count == len
+        && HOLDS(result->file, file, len);
 }
 
 /* 4 facts; 0<; 1<0,!2; 2<0,!1; 3<2 */
@@ -503,6 +535,61 @@ static void callers_by_layers(void)
     by_layers(WAITING, sizeof WAITING, "facts that wait for each other");
 }
 
+static void test_loads(void)
+{
+    loads made = load(0, 4, 1, sizeof made.file);
+    expect(loaded(&made, BYTES(0x10, 4, 1, 3, 3, 2, 3, 2, 0x1F, 0, 1)), "load 0 4 1: 11 bytes");
+    made = load(0, 4, 1, 11);
+    expect(loaded(&made, BYTES(0x10, 4, 1, 3, 3, 2, 3, 2, 0x1F, 0, 1)), "load 0 4 1 in 11 bytes");
+    outcome end = run(made.file, made.reply.count, BYTES(5, 0, 0));
+    expect(counted(&end, 1, 1) && HOLDS(end.fact_marks, BYTES(0, 0, 2, 1))
+               && HOLDS(end.rule_marks, BYTES(1)) && HOLDS(end.steps, BYTES(6, 3, 0, 0)),
+           "load 0 4 1 runs one stage");
+    /* 10 facts; 3<!0,!4; 1<9,2; 0<3,!1; 8<!2,!9 */
+    made = load(0, 10, 4, sizeof made.file);
+    expect(loaded(&made, BYTES(0x10, 10, 1, 3, 3, 0, 3, 4, 1, 1, 2, 9, 2, 2, 1, 0, 2, 3, 3, 1,
+                               1, 8, 3, 2, 3, 9, 0x1F, 0, 4)),
+           "load 0 10 4: all turns, and the first again");
+    made = load(UINT32_MAX, 255, 0, 5);
+    expect(loaded(&made, BYTES(0x10, 255, 0x1F, 0, 0)), "load without rules in 5 bytes");
+
+    made = load(0, 0, 513, 0);
+    expect(unloaded(&made, 53), "load of no facts: 53");
+    made = load(0, 256, 1, sizeof made.file);
+    expect(unloaded(&made, 53), "load of 256 facts: 53");
+    made = load(0, UINT32_MAX, 1, sizeof made.file);
+    expect(unloaded(&made, 53), "load of 4,294,967,295 facts: 53");
+    made = load(0, 4, 513, sizeof made.file);
+    expect(unloaded(&made, 54), "load of 513 rules: 54");
+    made = load(0, 4, UINT32_MAX, 0);
+    expect(unloaded(&made, 54), "load of 4,294,967,295 rules: 54");
+    made = load(0, 4, 1, 10);
+    expect(unloaded(&made, 55), "load 0 4 1 in 10 bytes: 55");
+    made = load(0, 255, 512, MOST_LOADED - 1);
+    expect(unloaded(&made, 55), "load 0 255 512 in 3,076 bytes: 55");
+    made = load(0, 4, 0, 0);
+    expect(unloaded(&made, 55), "load without rules in no bytes: 55");
+}
+
+/* A load of the largest counts is accepted, and a second one has the same bytes. Of its
+   rules 171, the numbers 1, 4 and so on up to 511, have no constraint. */
+static void largest_loads(void)
+{
+    static const uint32_t starts[] = {0, 1, 2000000000, UINT32_MAX};
+    int accepted = 1, equal = 1;
+    for (size_t n = 0; n < COUNT(starts); n++) {
+        loads made = load(starts[n], MOST_FACTS, MOST_RULES, MOST_LOADED);
+        loads again = load(starts[n], MOST_FACTS, MOST_RULES, sizeof again.file);
+        retention_file found = retention_accept(made.file, made.reply.count);
+        accepted &= made.reply.refusal == 0 && made.reply.count == MOST_LOADED
+            && found.refusal == 0 && found.facts == MOST_FACTS && found.rules == MOST_RULES
+            && found.exceptions == MOST_RULES - 171;
+        equal &= loaded(&again, made.file, made.reply.count);
+    }
+    expect(accepted, "loads of 255 facts and 512 rules are accepted");
+    expect(equal, "loads with the same numbers are equal");
+}
+
 static int prints(const uint8_t *file, size_t len, const char *text)
 {
     uint8_t out[64];
@@ -519,6 +606,9 @@ static void panel(void)
     expect(prints(C, sizeof C, "F 3 R 2 S 1\nD 0 0\nX 1\nA 1\nN\n"), "panel for C");
     expect(prints(E, sizeof E, "F 0 R 0 S 0\nY\n"), "panel for E");
     expect(prints(NOTHING, "E 2\n"), "panel for empty input");
+    loads made = load(0, 4, 1, 11);
+    expect(prints(made.file, made.reply.count, "F 4 R 1 S 1\nD 3 0\nX 2\nY\n"),
+           "panel for load 0 4 1");
 }
 
 /* A file of 3 facts begins; its length so far. */
@@ -636,6 +726,8 @@ int main(void)
     shorter_grounds();
     orders_by_rank();
     callers_by_layers();
+    test_loads();
+    largest_loads();
     panel();
     rules_too_long();
     kinds();

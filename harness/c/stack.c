@@ -1,7 +1,7 @@
 /* Measures how much stack each function of the interface needs: the call is made on a
    thread whose stack was painted before, and what is no longer painted was used. What a
-   thread needs for itself is measured by an empty call and left out. Each function is
-   called on every file, and the most that it used is printed. */
+   thread needs for itself is measured by an empty call and left out. Each function that
+   takes a file is called on every file, and the most that it used is printed. */
 #include <retention.h>
 
 #include <pthread.h>
@@ -24,7 +24,7 @@ enum {
 
 static uint8_t file[MOST_BYTES], order[3 * MOST_RULES], found[3 * MOST_RULES];
 static uint8_t fact_marks[MOST_FACTS], rule_marks[MOST_RULES], steps[4 * MOST_FACTS];
-static uint8_t set[MOST_FACTS], text[8192];
+static uint8_t set[MOST_FACTS], text[8192], loaded[5 + 6 * MOST_RULES];
 static size_t file_len, order_len, proof_len;
 static uint32_t asked;
 static int cyclic;
@@ -231,6 +231,13 @@ static void *layered(void *unused)
     return unused;
 }
 
+/* It takes no file: as many facts and rules as may be. */
+static void *load(void *unused)
+{
+    reply = retention_load(0, MOST_FACTS, MOST_RULES, loaded, sizeof loaded).refusal;
+    return unused;
+}
+
 static size_t used(void *(*call)(void *))
 {
     pthread_t thread;
@@ -268,6 +275,11 @@ static void measure(function *measured, size_t own)
         measured->needed = more;
 }
 
+static void show(const function *measured)
+{
+    printf("stack %-18s %4zu KB\n", measured->name, (measured->needed + 1023) / 1024);
+}
+
 int main(void)
 {
     static void (*const files[])(void) = {make_pairs, make_exceptions, make_stairs};
@@ -280,6 +292,7 @@ int main(void)
                             {"retention_search", search, 0}, {"retention_panel", panel, 0},
                             {"retention_grounds", grounds, 0}};
     function layers = {"retention_layered", layered, 0};
+    function loads = {"retention_load", load, 0};
     size_t own = used(nothing);
     for (size_t f = 0; f < COUNT(files); f++) {
         files[f]();
@@ -291,8 +304,10 @@ int main(void)
         layered_files[f]();
         measure(&layers, own);
     }
+    measure(&loads, own);
     for (size_t n = 0; n < COUNT(functions); n++)
-        printf("stack %-18s %4zu KB\n", functions[n].name, (functions[n].needed + 1023) / 1024);
-    printf("stack %-18s %4zu KB\n", layers.name, (layers.needed + 1023) / 1024);
+        show(&functions[n]);
+    show(&layers);
+    show(&loads);
     return EXIT_SUCCESS;
 }

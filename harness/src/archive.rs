@@ -93,6 +93,13 @@ unsafe extern "C" {
         order: *mut u8,
         order_len: usize,
     ) -> CountReply;
+    fn retention_load(
+        start: u32,
+        facts: u32,
+        rules: u32,
+        out: *mut u8,
+        out_len: usize,
+    ) -> CountReply;
 }
 
 // Each call below hands over slices with their own lengths. They are valid for
@@ -213,5 +220,10 @@ pub fn grounds(
 pub fn layered(file: &[u8], order: &mut [u8]) -> [u32; 2] {
     let reply =
         unsafe { retention_layered(file.as_ptr(), file.len(), order.as_mut_ptr(), order.len()) };
+    [reply.refusal, reply.count]
+}
+
+pub fn load(start: u32, facts: u32, rules: u32, out: &mut [u8]) -> [u32; 2] {
+    let reply = unsafe { retention_load(start, facts, rules, out.as_mut_ptr(), out.len()) };
     [reply.refusal, reply.count]
 }

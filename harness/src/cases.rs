@@ -4,7 +4,7 @@
 use crate::draft::{Draft, DraftRule};
 use crate::files::{lengthen_rule, random_draft, random_layers, spoil_file};
 use crate::random::Random;
-use reference::{Counts, Lent, RULE_NUMBER_BYTES, Refusal, STEP_BYTES, kind};
+use reference::{Counts, Lent, RULE_NUMBER_BYTES, Refusal, STEP_BYTES, kind, load_bytes};
 
 #[derive(Clone, Copy, PartialEq, Eq, Debug)]
 pub enum Operation {
@@ -20,10 +20,11 @@ pub enum Operation {
     AskRow,
     Grounds,
     Layered,
+    Load,
 }
 
 impl Operation {
-    pub const ALL: [Operation; 12] = [
+    pub const ALL: [Operation; 13] = [
         Operation::Accept,
         Operation::Run,
         Operation::Judge,
@@ -36,6 +37,7 @@ impl Operation {
         Operation::AskRow,
         Operation::Grounds,
         Operation::Layered,
+        Operation::Load,
     ];
 
     pub fn name(self) -> &'static str {
@@ -52,7 +54,13 @@ impl Operation {
             Operation::AskRow => "ask_row",
             Operation::Grounds => "grounds",
             Operation::Layered => "layered",
+            Operation::Load => "load",
         }
+    }
+
+    /// All but the load, which takes three numbers and writes a file.
+    pub fn reads_a_file(self) -> bool {
+        self != Operation::Load
     }
 
     /// A question by itself. The C interface has no function for these.
@@ -91,6 +99,7 @@ impl Operation {
             Operation::AskRow => &[24, 23],
             Operation::Grounds => &[11, 12, 13, 14, 31, 32, 33, 50],
             Operation::Layered => &[34, 52],
+            Operation::Load => return vec![53, 54, 55],
         };
         (1..=10).chain([51]).chain(beyond_file.iter().copied()).collect()
     }
@@ -105,14 +114,24 @@ impl Operation {
             Operation::Panel => &["buffer short", "text"],
             Operation::Grounds => &["steps left out", "all steps kept"],
             Operation::Layered => &["no rule named", "ascending order", "another order"],
+            Operation::Load => &["without rules", "with rules"],
             _ => &["yes"],
         }
     }
 }
 
+/// The numbers that a load takes.
+#[derive(Clone, Copy, Default, Debug, PartialEq, Eq)]
+pub struct Load {
+    pub start: u32,
+    pub facts: u32,
+    pub rules: u32,
+}
+
 #[derive(Clone, Debug)]
 pub struct Case {
     pub operation: Operation,
+    pub load: Load,
     pub file: Vec<u8>,
     /// The order or the list of rules.
     pub rules: Vec<u8>,
@@ -143,6 +162,7 @@ impl Case {
     pub fn new(operation: Operation, file: &[u8]) -> Case {
         Case {
             operation,
+            load: Load::default(),
             file: file.to_vec(),
             rules: Vec::new(),
             set: Vec::new(),
@@ -150,6 +170,12 @@ impl Case {
             proof: Vec::new(),
             lent: Vec::new(),
         }
+    }
+
+    /// A load in a buffer of this length.
+    pub fn load(start: u32, facts: u32, rules: u32, lent: usize) -> Case {
+        let load = Load { start, facts, rules };
+        Case { load, lent: vec![lent], ..Case::new(Operation::Load, &[]) }
     }
 
     /// The reply of the reference, from buffers that hold `pattern(place)`.
@@ -206,6 +232,10 @@ impl Case {
                 ))
             }
             (Operation::Layered, [order]) => count_reply(reference::layered(file, order)),
+            (Operation::Load, [out]) => {
+                let Load { start, facts, rules } = self.load;
+                count_reply(reference::load(start, facts, rules, out))
+            }
             _ => unreachable!("a case lends what its operation takes"),
         }
     }
@@ -233,6 +263,7 @@ impl Case {
                 let ascending = reply.buffers[0][..named].chunks(RULE_NUMBER_BYTES).is_sorted();
                 Met::Answer(if named == 0 { 0 } else { 1 + usize::from(!ascending) })
             }
+            Operation::Load => Met::Answer(usize::from(self.load.rules > 0)),
             _ => Met::Answer(usize::from(numbers[1] > 0)),
         }
     }
@@ -264,7 +295,7 @@ fn answer_reply(result: Result<(), Refusal>) -> Vec<u32> {
 }
 
 /// The highest refusal number.
-const MOST_REFUSAL: usize = 52;
+const MOST_REFUSAL: usize = 55;
 /// The most answers that an operation has.
 const MOST_ANSWERS: usize = 3;
 const OPERATIONS: usize = Operation::ALL.len();
@@ -384,6 +415,9 @@ struct Subject {
 /// of files that are made in layers.
 pub fn random_case(random: &mut Random) -> Case {
     let chosen = random.below(28);
+    if chosen == 1 {
+        return random_load(random);
+    }
     let layers = (23..27).contains(&chosen) && !random.one_in(3);
     let mut draft = if layers { random_layers(random) } else { random_draft(random) };
     if random.one_in(20) {
@@ -395,7 +429,7 @@ pub fn random_case(random: &mut Random) -> Case {
     }
     let subject = Subject { draft, file };
     match chosen {
-        0..2 => Case::new(Operation::Accept, &subject.file),
+        0 => Case::new(Operation::Accept, &subject.file),
         2..7 => subject.random_run(random),
         7..11 => subject.random_judge(random),
         11..15 => subject.random_check(random),
@@ -404,6 +438,37 @@ pub fn random_case(random: &mut Random) -> Case {
         23..27 => subject.random_layered(random),
         _ => subject.random_panel(random),
     }
+}
+
+/// With so many rules the length of a load's file is 1 at 32 bits.
+pub const LENGTH_WRAPS: u32 = 715_827_882;
+
+/// A load, mostly of few rules; at times with a count that is refused. Of these some have
+/// low bytes that would not be, and with some the length wraps.
+fn random_load(random: &mut Random) -> Case {
+    let start = match random.below(4) {
+        0 => random.below(8) as u32,
+        1 => u32::MAX - random.below(8) as u32,
+        _ => random.below(1 << 32) as u32,
+    };
+    let facts = match random.below(16) {
+        0 => 256 * random.below(3) as u32,
+        1 => u32::MAX - random.below(256) as u32,
+        2 => 256 + random.below(66_000) as u32,
+        3..6 => random.within(1, 255) as u32,
+        _ => random.within(1, 12) as u32,
+    };
+    let rules = match random.below(64) {
+        0..3 => random.within(513, 600) as u32,
+        3..5 => 65_536 + random.below(513) as u32,
+        5..7 => LENGTH_WRAPS + random.below(513) as u32,
+        7 => u32::MAX - random.below(513) as u32,
+        8 => random.within(0, 512) as u32,
+        _ => random.below(10) as u32,
+    };
+    let mut lent = [load_bytes(rules.min(513) as usize)];
+    spoil_lengths(random, &mut lent);
+    Case::load(start, facts, rules, lent[0])
 }
 
 impl Subject {

@@ -3,7 +3,7 @@
 
 use crate::cases::{Case, Operation, rule_numbers};
 use crate::draft::{Draft, MOST_OWN_ITEMS};
-use reference::{RuleFile, STEP_BYTES, kind};
+use reference::{LOAD_STEP, RuleFile, STEP_BYTES, kind, load_bytes};
 
 type PlainRule<'a> = (usize, &'a [usize], &'a [usize]);
 
@@ -138,7 +138,7 @@ fn refused_files() -> Vec<Vec<u8>> {
     ]
 }
 
-/// One call of each operation, answered where the file is accepted: the run in
+/// One call of each operation on a file, answered where the file is accepted: the run in
 /// ascending order, its last set with the rules set aside judged and its whole
 /// row of steps checked, which both say yes, the grounds of its last fact, and the order
 /// by ranks, which is refused where a cycle goes through a constraint.
@@ -179,13 +179,9 @@ fn ascending_run(file: &[u8]) -> Case {
         Err(_) => (0, 0, vec![]),
     };
     Case {
-        operation: Operation::Run,
-        file: file.to_vec(),
         rules: rule_numbers(&exceptions),
-        set: vec![],
-        asked: 0,
-        proof: vec![],
         lent: vec![facts, rules, STEP_BYTES * facts],
+        ..Case::new(Operation::Run, file)
     }
 }
 
@@ -320,6 +316,25 @@ fn layered_cases(file: &[u8]) -> Vec<Case> {
     lengths.map(|length| Case { lent: vec![length], ..right.clone() }).to_vec()
 }
 
+/// Loads at the limits of their counts, in buffers that just suffice and one byte short;
+/// and from starts where the first state is 0, a power of two or the highest.
+fn load_cases() -> Vec<Case> {
+    let mut cases = Vec::new();
+    for facts in [0, 1, 255, 256, u32::MAX] {
+        for rules in [0, 2, 513] {
+            let needed = load_bytes(rules);
+            for length in [needed - 1, needed] {
+                cases.push(Case::load(7, facts, rules as u32, length));
+            }
+        }
+    }
+    for state in [0, 1, 1 << 16, 1 << 31, u32::MAX] {
+        let start = state.wrapping_sub(LOAD_STEP);
+        cases.push(Case::load(start, 7, 4, load_bytes(4)));
+    }
+    cases
+}
+
 /// Every choice of buffers one byte too short, each buffer one byte longer, and
 /// all buffers empty.
 fn buffer_cases(file: &[u8]) -> Vec<Case> {
@@ -372,6 +387,7 @@ pub fn directed_cases() -> Vec<Case> {
     for file in files_around_the_cap() {
         cases.extend(all_operations(&file));
     }
+    cases.extend(load_cases());
     cases.extend(all_operations(&rules_at_the_cap().bytes()));
     cases.extend(all_operations(&late_rules().bytes()));
     cases.extend(rule_number_cases(a));

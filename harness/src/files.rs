@@ -1,13 +1,15 @@
 //! Random rule files of many shapes, valid and spoilt.
 
 use crate::draft::{Draft, MOST_OWN_ITEMS, chain};
+use crate::loads;
 use crate::random::Random;
 use reference::kind;
 
 /// A valid draft of a random shape, within the cap. Most are small; few are large.
 pub fn random_draft(random: &mut Random) -> Draft {
     match random.below(1000) {
-        0..380 => scattered(random, 10, 14),
+        0..370 => scattered(random, 10, 14),
+        370..380 => load(random),
         380..400 => wide(random),
         400..700 => choices(random),
         700..850 => guarded_chain(random),
@@ -21,6 +23,15 @@ pub fn random_draft(random: &mut Random) -> Draft {
 
 fn some_facts(random: &mut Random, facts: usize, most: usize) -> Vec<usize> {
     (0..random.below(most + 1)).map(|_| random.below(facts)).collect()
+}
+
+/// What a test load writes: few facts and rules mostly, and any start.
+fn load(random: &mut Random) -> Draft {
+    let start = random.below(1 << 32) as u32;
+    if random.one_in(20) {
+        return loads::draft(start, random.within(1, 255), random.below(513));
+    }
+    loads::draft(start, random.within(1, 16), random.below(25))
 }
 
 /// Rules with random premises and constraints.

@@ -8,8 +8,8 @@
 //! - `lend <operation> <lengths> of <byte>` says which buffers the cases of an
 //!   operation after it lend, and what every byte of them holds before;
 //! - `<operation> <name> | <field> | ..` is a case;
-//! - `all <name> | file <file> | refused <number>` is a case of every operation: the
-//!   file gets that number although everything else that is handed over would get
+//! - `all <name> | file <file> | refused <number>` is a case of every operation on a
+//!   file: the file gets that number although everything else that is handed over would get
 //!   a no too;
 //! - `sets <name> | file <file> | stable <set> | ..` is a case of the judge for every
 //!   set of facts: these are stable, with no rule listed, and no other is;
@@ -19,11 +19,12 @@
 //!   with `refused <number>` only the search that refuses; with `order <order>` it is
 //!   those of grounds, and with `layered` those of an order by ranks.
 //!
-//! Inputs are the fields `file`, `order`, `list`, `set`, `asked`, `row` and, for
-//! other buffers than before, `lent`. What is expected is `refused <number>`, with
-//! every count 0 and every buffer as it was; or the counts, as `1 stages, 2 steps`,
-//! `2 kept` or `2 named`, or a verdict; and the buffers that are written: `facts`,
-//! `rules`, `steps`, `order`, `text`, each from its start, and past that as it was.
+//! Inputs are the fields `file`, `order`, `list`, `set`, `asked`, `row`, of a load
+//! `start`, `facts`, `rules`, and, for other buffers than before, `lent`. What is expected
+//! is `refused <number>`, with every count 0 and every buffer as it was; or the counts, as
+//! `1 stages, 2 steps`, `2 kept`, `2 named` or `11 bytes`, or a verdict; and the buffers
+//! that are written: `facts`, `rules`, `steps`, `order`, `text`, of a load `file`, each
+//! from its start, and past that as it was.
 //!
 //! The reference must agree with everything that is expected.
 
@@ -195,6 +196,7 @@ impl List {
                 Operation::AskRow => "| asked 4294967295 | row hex 06",
                 Operation::Grounds => "| order hex 05 | asked 4294967295 | lent 1 1 1 of 9",
                 Operation::Layered => "| lent 1 of 9",
+                Operation::Load => unreachable!("a load reads no file"),
             };
             let expected = match operation {
                 Operation::Panel => refused.replace("refused", "text E"),
@@ -202,7 +204,7 @@ impl List {
             };
             self.case(operation, &format!("{name} | {file} {others} | {expected}"))
         };
-        Operation::ALL.into_iter().map(case).collect()
+        Operation::ALL.into_iter().filter(|operation| operation.reads_a_file()).map(case).collect()
     }
 
     fn case(&self, operation: Operation, text: &str) -> Result<Named, String> {
@@ -210,7 +212,7 @@ impl List {
         let name = fields.next().unwrap_or_default().to_string();
         let mut draft = CaseDraft::new(operation, self.lent_to(operation.name()));
         for field in fields {
-            if !draft.input(field, &self.files)? && !draft.output(field)? {
+            if !draft.input(field, &self.files)? && !draft.output(field, &self.files)? {
                 return Err(format!("not a field of {}: {field:?}", operation.name()));
             }
         }
@@ -286,6 +288,7 @@ impl CaseDraft {
             Operation::AskSet => &["file", "set"],
             Operation::AskRow => &["file", "asked", "row"],
             Operation::Grounds => &["file", "order", "asked"],
+            Operation::Load => &["start", "facts", "rules"],
         };
         let mut draft = CaseDraft {
             case: Case::new(operation, &[]),
@@ -320,13 +323,16 @@ impl CaseDraft {
             "order" | "list" => self.case.rules = rule_numbers(text)?,
             "set" => self.case.set = bytes(text)?,
             "asked" => self.case.asked = number(text)?,
+            "start" => self.case.load.start = number(text)?,
+            "facts" => self.case.load.facts = number(text)?,
+            "rules" => self.case.load.rules = number(text)?,
             _ => self.case.proof = steps(text)?,
         }
         Ok(true)
     }
 
     /// Takes a field that is expected of the operation.
-    fn output(&mut self, field: &str) -> Result<bool, String> {
+    fn output(&mut self, field: &str, files: &BTreeMap<String, Vec<u8>>) -> Result<bool, String> {
         let (word, text) = field.split_once(' ').unwrap_or((field, ""));
         if let Some(refusal) = field.strip_prefix("refused ") {
             let mut numbers = vec![0; self.numbers_of_a_reply()];
@@ -340,6 +346,7 @@ impl CaseDraft {
             (writes, "steps") if writes.writes_a_run() => self.wrote(2, steps(text)?),
             (Operation::Search, "order") => self.wrote(3, rule_numbers(text)?),
             (Operation::Layered, "order") => self.wrote(0, rule_numbers(text)?),
+            (Operation::Load, "file") => self.wrote(0, file(text, files)?),
             (Operation::Panel, "text") => {
                 let text = lines(text);
                 self.reply(vec![text.len() as u32])?;
@@ -364,6 +371,7 @@ impl CaseDraft {
             }
             (Operation::Grounds, _) => self.reply([vec![0], counted(field, &["kept"])?].concat()),
             (Operation::Layered, _) => self.reply([vec![0], counted(field, &["named"])?].concat()),
+            (Operation::Load, _) => self.reply([vec![0], counted(field, &["bytes"])?].concat()),
             _ => Ok(false),
         }
     }
@@ -372,7 +380,8 @@ impl CaseDraft {
         match self.case.operation {
             Operation::Accept => 6,
             Operation::Run | Operation::Search => 3,
-            Operation::Judge | Operation::Check | Operation::Grounds | Operation::Layered => 2,
+            Operation::Judge | Operation::Check => 2,
+            Operation::Grounds | Operation::Layered | Operation::Load => 2,
             _ => 1,
         }
     }

@@ -365,17 +365,36 @@ fn the_text_of_the_grounds() {
 
 #[test]
 fn words_that_name_a_fact_and_words_that_do_not() {
-    let fact = |word: &str| fact_in_words(&[word.as_bytes()]);
-    assert_eq!(fact("0"), Some(0));
-    assert_eq!(fact("01"), Some(1));
-    assert_eq!(fact("0000000012"), Some(12));
-    assert_eq!(fact("4294967295"), Some(u32::MAX));
+    let fact = |word: &str| numbers_in_words(&[word.as_bytes()]);
+    assert_eq!(fact("0"), Some([0]));
+    assert_eq!(fact("01"), Some([1]));
+    assert_eq!(fact("0000000012"), Some([12]));
+    assert_eq!(fact("4294967295"), Some([u32::MAX]));
     for word in ["", "00000000001", "4294967296", "9999999999", "+1", "-1", " 1", "1 ", "1a", "x"] {
         assert_eq!(fact(word), None, "{word:?}");
     }
-    assert_eq!(fact_in_words(&[]), None);
-    assert_eq!(fact_in_words(&[b"1", b"1"]), None);
-    assert_eq!(fact_in_words(&[b"1", b""]), None);
+    assert_eq!(numbers_in_words::<1>(&[]), None);
+    assert_eq!(numbers_in_words::<1>(&[b"1", b"1"]), None);
+    assert_eq!(numbers_in_words::<1>(&[b"1", b""]), None);
+}
+
+#[test]
+fn words_that_name_a_load_and_words_that_do_not() {
+    let numbers = |words: &[&str]| {
+        numbers_in_words::<3>(&words.iter().map(|word| word.as_bytes()).collect::<Vec<_>>())
+    };
+    assert_eq!(numbers(&["0", "4", "1"]), Some([0, 4, 1]));
+    assert_eq!(numbers(&["4294967295", "0000000255", "512"]), Some([u32::MAX, 255, 512]));
+    for words in [&[][..], &["0"], &["0", "4"], &["0", "4", "1", "1"], &["0", "4", "1", ""]] {
+        assert_eq!(numbers(words), None, "{words:?}");
+    }
+    for word in ["", "00000000001", "4294967296", "+1", "-1", "1 ", "x"] {
+        for place in 0..3 {
+            let mut words = ["1"; 3];
+            words[place] = word;
+            assert_eq!(numbers(&words), None, "{words:?}");
+        }
+    }
 }
 
 #[test]
@@ -444,6 +463,85 @@ fn as_many_ranks_as_facts() {
     assert_eq!(layered_of(&file_of(255, &down)), Ok(order_of(&descending)));
     let ring = [&up[..], &[(0, &[254], &[])]].concat();
     assert_eq!(layered_of(&file_of(255, &ring)), Err(Refusal::NotLayered));
+}
+
+/// The reply, and the buffer after the call.
+fn load_in(start: u32, facts: u32, rules: u32, lent: usize) -> (Result<usize, Refusal>, Vec<u8>) {
+    let mut out = vec![9; lent];
+    (load(start, facts, rules, &mut out), out)
+}
+
+#[test]
+fn the_load_of_the_example() {
+    // The states are 2,654,435,769, 1,013,904,242 and 3,668,339,987; over 65,536 these
+    // are 40,503, 15,470 and 55,974, and modulo 4 they are 3, 2 and 2.
+    let file = vec![0x10, 4, 1, 3, 3, 2, 3, 2, 0x1F, 0, 1];
+    assert_eq!(load_in(0, 4, 1, 11), (Ok(11), file.clone()));
+    assert_eq!(load_output(0, 4, 1), Ok(file.clone()));
+    assert_eq!(load_in(0, 4, 1, 13), (Ok(11), [&file[..], &[9; 2]].concat()));
+    let end = run_of(&file, &[0]).unwrap();
+    assert_eq!((end.stages, end.steps), (1, vec![step(3, 0)]));
+}
+
+#[test]
+fn a_load_without_rules_and_loads_of_one_fact() {
+    assert_eq!(load_in(7, 255, 0, 5), (Ok(5), vec![0x10, 255, 0x1F, 0, 0]));
+    let rules: [PlainRule; 4] =
+        [(0, &[], &[0, 0]), (0, &[0, 0], &[]), (0, &[0], &[0]), (0, &[], &[0, 0])];
+    assert_eq!(load_in(7, 1, 4, 29), (Ok(29), file_of(1, &rules)));
+}
+
+/// The state after so many draws, and what it gives: all at once, not one by one.
+fn drawn(start: u32, draws: u64, facts: u32) -> usize {
+    let state = (u64::from(start) + draws * 2_654_435_769) % (1 << 32);
+    ((state >> 16) % u64::from(facts)) as usize
+}
+
+#[test]
+fn a_load_is_accepted_and_has_the_rules_that_are_drawn() {
+    let starts = [0, 1, 1_640_531_527, 1 << 31, u32::MAX];
+    for (facts, rules) in [(1, 3), (2, 7), (4, 1), (64, 512), (254, 100), (255, 512)] {
+        for start in starts {
+            let file = load_output(start, facts, rules).unwrap();
+            assert_eq!(file.len(), 5 + 6 * rules as usize);
+            let read = RuleFile::parse(&file).unwrap();
+            assert_eq!((read.facts, read.rules.len()), (facts as usize, rules as usize));
+            for (number, rule) in read.rules.iter().enumerate() {
+                let [conclusion, second, third] =
+                    [1, 2, 3].map(|place| drawn(start, 3 * number as u64 + place, facts));
+                let (premises, constraints) = match number % 3 {
+                    0 => (vec![], vec![second, third]),
+                    1 => (vec![second, third], vec![]),
+                    _ => (vec![second], vec![third]),
+                };
+                assert_eq!(rule.conclusion, conclusion);
+                assert_eq!(rule.premises, premises.into_iter().collect());
+                assert_eq!(rule.constraints, constraints.into_iter().collect());
+            }
+        }
+    }
+}
+
+#[test]
+fn loads_that_are_refused_leave_all_bytes() {
+    for (facts, rules, lent, refusal) in [
+        (0, 513, 0, Refusal::LoadFacts),
+        (0, 1, 11, Refusal::LoadFacts),
+        (256, 0, 5, Refusal::LoadFacts),
+        (u32::MAX, u32::MAX, 0, Refusal::LoadFacts),
+        (1, 513, 4_000, Refusal::LoadRules),
+        (255, 513, 0, Refusal::LoadRules),
+        (255, u32::MAX, 4_000, Refusal::LoadRules),
+        (255, 512, 3_076, Refusal::LoadShort),
+        (4, 1, 10, Refusal::LoadShort),
+        (4, 0, 4, Refusal::LoadShort),
+        (4, 0, 0, Refusal::LoadShort),
+    ] {
+        assert_eq!(load_in(0, facts, rules, lent), (Err(refusal), vec![9; lent]));
+    }
+    assert_eq!(load_in(0, 255, 512, 3_077).0, Ok(3_077));
+    assert_eq!(load_output(0, 0, 513), Err("E 53\n".to_string()));
+    assert_eq!(load_output(0, 1, 513), Err("E 54\n".to_string()));
 }
 
 /// The definitions, without any care for time.

@@ -1,7 +1,7 @@
 //! Makes a failing case smaller as long as it still fails.
 
-use crate::cases::Case;
-use reference::{RULE_NUMBER_BYTES, STEP_BYTES, kind};
+use crate::cases::{Case, Load};
+use reference::{RULE_NUMBER_BYTES, STEP_BYTES, kind, load_bytes};
 use std::ops::Range;
 use std::time::{Duration, Instant};
 
@@ -40,6 +40,7 @@ fn smaller_cases(case: &Case) -> impl Iterator<Item = Case> {
     without_rules
         .chain(without_items)
         .chain(without_fact)
+        .chain(smaller_loads(case))
         .chain(shorter_rows)
         .chain(shorter_buffers(case))
 }
@@ -76,6 +77,24 @@ fn shorter_buffers(case: &Case) -> impl Iterator<Item = Case> {
             smaller.lent[buffer] = shorter;
             smaller
         })
+    })
+}
+
+/// One of the numbers of a load lowered; with fewer rules the buffer is as much shorter as
+/// the file.
+fn smaller_loads(case: &Case) -> impl Iterator<Item = Case> {
+    let lowered = |number: u32| [0, number / 2, number.saturating_sub(1)];
+    let load = case.load;
+    // A start is lowered by whole bits, of which there are few.
+    let starts = [0, load.start >> 1, load.start & load.start.saturating_sub(1)];
+    let starts = starts.map(|start| Load { start, ..load }).into_iter();
+    let facts = lowered(load.facts).map(|facts| Load { facts, ..load });
+    let rules = lowered(load.rules).map(|rules| Load { rules, ..load });
+    let others = starts.chain(facts).chain(rules).filter(move |other| *other != load);
+    others.map(move |smaller| {
+        let less = load_bytes(load.rules as usize) - load_bytes(smaller.rules as usize);
+        let lent = case.lent.iter().map(|length| length.saturating_sub(less)).collect();
+        Case { load: smaller, lent, ..case.clone() }
     })
 }
 

@@ -22,15 +22,16 @@ use Rattle.proofcheck.specs.Checked.{checked}
 use Rattle.proofcheck.specs.Checked as checking
 use Rattle.search.specs.Outcome.{searchOutcome, searchWritten}
 use Rattle.layers.specs.Outcome.{layeredOutcome, orderedBy}
+use Rattle.generator.specs.Outcome.{loadOutcome, loadWritten}
 use Rattle.panel_lines.specs.Text.{panelText}
 use Rattle.panel_text.proofs.RefusalText.{panel-refusal}
 use Rattle.grounds_text.specs.Text.{groundsText}
 use Rattle.grounds_text.proofs.RefusalTold.{grounds-refusal}
-use Rattle.retention.specs.Reply.{fileOf, countsOfRan, countsOfSearched, verdictOfJudged, verdictOfChecked, runReply, searchReply, countOfGrounds, groundsReply, countOfLayered, layeredReply}
+use Rattle.replies.specs.Reply.{fileOf, countsOfRan, countsOfSearched, verdictOfJudged, verdictOfChecked, runReply, searchReply, countOfGrounds, groundsReply, countOfLayered, layeredReply, countOfLoaded, loadReply}
 use Rattle.demands.specs.Demands.{Demand1}
-use Rattle.demands.specs.Calls.{RefusesExactly, listNumbers, orderNumbers, setNumbers, rowNumbers, acceptCall, askCall, askListCall, askOrderCall, askSetCall, askRowCall, runCall, groundsCall, judgeCall, checkCall, searchCall, layeredCall, textCall, retentionAcceptCall, retentionRunCall, retentionGroundsCall, retentionJudgeCall, retentionCheckCall, retentionSearchCall, retentionLayeredCall}
+use Rattle.demands.specs.Calls.{RefusesExactly, listNumbers, orderNumbers, setNumbers, rowNumbers, acceptCall, askCall, askListCall, askOrderCall, askSetCall, askRowCall, runCall, groundsCall, judgeCall, checkCall, searchCall, layeredCall, loadCall, textCall, retentionAcceptCall, retentionRunCall, retentionGroundsCall, retentionJudgeCall, retentionCheckCall, retentionSearchCall, retentionLayeredCall, retentionLoadCall}
 use Rattle.demands.proofs.RefusesExactly.{Own, refuses-exactly}
-use Rattle.demands.proofs.OwnNumbers.{file-own, after-file, list-own, order-own, set-own, row-own, run-own, grounds-own, judge-own, check-own, search-own, layered-own}
+use Rattle.demands.proofs.OwnNumbers.{file-own, after-file, list-own, order-own, set-own, row-own, run-own, grounds-own, judge-own, check-own, search-own, layered-own, load-own}
 use Rattle.demands.proofs.CursorNext.{next-exactly, next-stays}
 
 pub accept-exactly : (file : List ℕ) → RefusesExactly (acceptCall file)
@@ -137,6 +138,16 @@ layered-exactly file order =
       first-no = λ r h. rw (h, layeredOutcome);
     })
 
+pub load-exactly : (start facts rules : ℕ) (out : List ℕ) → RefusesExactly (loadCall start facts rules out)
+unfolding loadOutcome loadWritten
+load-exactly start facts rules out =
+    refuses-exactly 1 (loadCall start facts rules out)
+    (record {
+      own-numbers = load-own facts rules (length out);
+      all-yes = λ h. rw (h, loadOutcome);
+      first-no = λ r h. rw (h, loadOutcome);
+    })
+
 -- nothing is asked
 pub text-exactly : (text out : List ℕ) → RefusesExactly (textCall text out)
 text-exactly text out =
@@ -174,6 +185,10 @@ pub retention-layered-exactly : (file order : List ℕ) → RefusesExactly (rete
 unfolding layeredReply countOfLayered
 retention-layered-exactly = layered-exactly
 
+pub retention-load-exactly : (start facts rules : ℕ) (out : List ℕ) → RefusesExactly (retentionLoadCall start facts rules out)
+unfolding loadReply countOfLoaded
+retention-load-exactly = load-exactly
+
 -- Demand 1.
 pub every-call : Demand1
 every-call =
@@ -191,6 +206,7 @@ every-call =
       check = check-exactly;
       search = search-exactly;
       layered = layered-exactly;
+      load = load-exactly;
       render = λ file. text-exactly (panelText file);
       render-grounds = λ file fact. text-exactly (groundsText file fact);
       retention-accept = retention-accept-exactly;
@@ -200,6 +216,7 @@ every-call =
       retention-check = retention-check-exactly;
       retention-search = retention-search-exactly;
       retention-layered = retention-layered-exactly;
+      retention-load = retention-load-exactly;
       retention-panel = λ file. text-exactly (panelText file);
       panel-text = panel-refusal;
       grounds-text = grounds-refusal;

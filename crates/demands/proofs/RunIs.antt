@@ -30,7 +30,8 @@ use Rattle.run.specs.Outcome.{RunOutcome, runWritten, runOutcome}
 use Rattle.run.specs.Outcome as run
 use Rattle.demands.specs.Results.{derivedSet, rejectedSet, plainSet, appliedSet, asideSet, stepRow, RunIs, takenSteps, rowUpTo}
 use Rattle.results.proofs.StepsWritten.{step-bytes-length}
-use Rattle.run.proofs.ReadMarks.{length-marks, mark-at, marks-front, read-derived, read-rejected, read-plain, read-applied, read-aside, over-kept}
+use Rattle.theory.proofs.Lists.{mapped-length}
+use Rattle.run.proofs.ReadMarks.{mark-at, marks-front, read-derived, read-rejected, read-plain, read-applied, read-aside, over-kept}
 use Rattle.run.proofs.ReadSteps.{steps-front, row-front, steps-read}
 use Rattle.demands.proofs.Outcomes.{run-written, run-answered}
 
@@ -140,13 +141,13 @@ module _ (file order facts rules steps : List ℕ) (passed : _≡_ {A = Option R
   unfolding runWritten
   facts-stay =
       ap (λ (x : RunOutcome). drop (P .facts) (x .fact-marks)) o-is
-      ∙ over-kept (factMarks P s) facts (P .facts) (length-marks (factMark P s) (P .facts))
+      ∙ over-kept (factMarks P s) facts (P .facts) (mapped-length (factMark P s) (P .facts))
 
   rules-stay : drop (count P) (o .rule-marks) ≡ drop (count P) rules
   unfolding runWritten
   rules-stay =
       ap (λ (x : RunOutcome). drop (count P) (x .rule-marks)) o-is
-      ∙ over-kept (ruleMarks P (inForce P) s) rules (count P) (length-marks (ruleMark P (inForce P) s) (count P))
+      ∙ over-kept (ruleMarks P (inForce P) s) rules (count P) (mapped-length (ruleMark P (inForce P) s) (count P))
 
   pub run-passed : RunIs file order facts rules steps o
   run-passed =

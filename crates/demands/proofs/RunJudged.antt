@@ -7,7 +7,6 @@ use mathlib.Core.Option.{Option, none}
 use lib.ListN.{length}
 use Rattle.theory.specs.Rule.{Program, inForce, count, exception}
 use Rattle.theory.specs.Check.{isStable}
-use Rattle.theory.specs.Stable.{Stable}
 use Rattle.theory.proofs.Stable.{test-of-stable}
 use Rattle.theory.proofs.Run.{run-sound, exception-known}
 use Rattle.theory.proofs.Marks.{aside-supported, aside-exception}

@@ -42,7 +42,7 @@ use Rattle.panel_lines.specs.Text.{headLine, stepLine, line, lastLine, rejected
 use Rattle.layers.specs.declared.answer.Layered.the-variants as layers
 use Rattle.layers.specs.Outcome.{LayeredOutcome, orderedBy, layeredOutcome}
 use Rattle.grounds_text.specs.Text.{textQuestions, textNo, groundsText}
-use Rattle.retention.specs.Reply.{fileOf, verdictOfJudged, verdictOfChecked, runReply, searchReply, groundsReply, layeredReply}
+use Rattle.replies.specs.Reply.{fileOf, verdictOfJudged, verdictOfChecked, runReply, searchReply, groundsReply, layeredReply}
 use Rattle.demands.specs.Results.{SameReplies}
 
 module _ (s t : List ℕ) (yes-s : _≡_ {A = Option Refusal} (fileNo s) none) (yes-t : _≡_ {A = Option Refusal} (fileNo t) none) (a : Alike (programOf s) (programOf t)) where

@@ -28,7 +28,8 @@ use Rattle.run.specs.Outcome.{RunOutcome, runWritten, runOutcome}
 use Rattle.run.specs.Outcome as running
 use Rattle.demands.specs.Results.{stepRow, foundSet, writtenOrder, writtenSteps, writtenProof, SameResult, SearchIs}
 use Rattle.results.proofs.StepsWritten.{step-bytes-length}
-use Rattle.run.proofs.ReadMarks.{length-marks, marks-front, read-derived, read-aside, over-kept}
+use Rattle.theory.proofs.Lists.{mapped-length}
+use Rattle.run.proofs.ReadMarks.{marks-front, read-derived, read-aside, over-kept}
 use Rattle.run.proofs.ReadSteps.{steps-front, row-front, steps-read}
 use Rattle.search.specs.Outcome.{SearchOutcome, searchWritten, foundAt, takenSet, searchOutcome}
 use Rattle.search.specs.Outcome as searching
@@ -138,8 +139,8 @@ module _ (file facts rules steps order : List ℕ) (passed : _≡_ {A = Option R
         stages = rw o-is (sym (run-stages P (inForce P) row) ∙ ap (howMany (λ m. eqb m 1)) (sym (marks-front (ruleMark P (inForce P) s) (count P) rules)));
         rows-are = λ f. rows-read file (yeses .0) M (earliest .stable) (λ g. writtenProof g o) row-is f ∙ ap (rowTo f) (sym trace-is);
         rows-prove = rw set-is (rows-prove file (yeses .0) M (earliest .stable) (λ g. writtenProof g o) row-is);
-        fact-marks-kept = ap (λ (x : SearchOutcome). drop (P .facts) (x .fact-marks)) o-is ∙ over-kept (factMarks P s) facts (P .facts) (length-marks (factMark P s) (P .facts));
-        rule-marks-kept = ap (λ (x : SearchOutcome). drop (count P) (x .rule-marks)) o-is ∙ over-kept (ruleMarks P (inForce P) s) rules (count P) (length-marks (ruleMark P (inForce P) s) (count P));
+        fact-marks-kept = ap (λ (x : SearchOutcome). drop (P .facts) (x .fact-marks)) o-is ∙ over-kept (factMarks P s) facts (P .facts) (mapped-length (factMark P s) (P .facts));
+        rule-marks-kept = ap (λ (x : SearchOutcome). drop (count P) (x .rule-marks)) o-is ∙ over-kept (ruleMarks P (inForce P) s) rules (count P) (mapped-length (ruleMark P (inForce P) s) (count P));
         steps-kept = rw o-is (over-kept (stepBytes narrow (s .trace)) steps (stepWidth narrow * length (s .trace)) (step-bytes-length (s .trace)));
         order-kept = ap (λ (x : SearchOutcome). drop (nameWidth * exceptions P) (x .order)) o-is ∙ over-kept (naming row) order (nameWidth * exceptions P) (order-width P M);
       }

@@ -2,7 +2,6 @@
 use Prim.Native.Nat.{ℕ, _≤_, _<_}
 use native.Mathlib.Omega.{arith}
 use native.Mathlib.Decide.{decLt}
-use native.Mathlib.Nat.{zero-add}
 use mathlib.Core.Path.{_≡_, refl, sym, _∙_, ap, fun-ext}
 use mathlib.Core.Bool.{Bool, true, false, cond, _&&_}
 use mathlib.Core.List.{List, [], _∷_, map}
@@ -12,17 +11,16 @@ use lib.ListN.{length, getD, List·getD-eq-default}
 use lib.Dec.{eqb, leb}
 use Rattle.theory.specs.Rule.{mem, keep, upTo}
 use Rattle.theory.proofs.Bools.{and-right}
-use Rattle.theory.proofs.Lists.{all-of, mem-keep, upTo-mem}
+use Rattle.theory.proofs.Lists.{all-of, mem-keep, upTo-mem, mapped-length, mapped-at}
 use Rattle.items.specs.declared.refusal.Refusal.{Refusal}
 use Rattle.items.specs.Item.{has}
 use Rattle.questions.specs.Questions.{namedIn, zeroOrOne, setQuestions, setNo, listNo}
 use Rattle.questions.proofs.Orders.{naming-names, list-yes, keep-once}
-use Rattle.run.proofs.ReadMarks.{getD-range, length-marks}
 use Rattle.demands.specs.Results.{listed, setOf}
 
 -- a set of n facts as bytes: its length, its bytes, and the set that they give back
 pub set-length : (n : ℕ) (S : ℕ → Bool) → length (setOf n S) ≡ n
-set-length n S = length-marks (λ f. cond (S f) 1 0) n
+set-length n S = mapped-length (λ f. cond (S f) 1 0) n
 
 pub set-bits : (n : ℕ) (S : ℕ → Bool) → zeroOrOne (setOf n S) ≡ true
 set-bits n S = go (upTo n)
@@ -48,7 +46,7 @@ set-back n S outside = fun-ext (λ f. go f (decLt f n))
     bit false = refl
 
     go : (f : ℕ) → Dec (f < n) → eqb (getD (setOf n S) f 0) 1 ≡ S f
-    go f (yes l) = rw (getD-range (λ g. cond (S g) 1 0) n 0 f l, zero-add f) (bit (S f))
+    go f (yes l) = rw (mapped-at {A = ℕ} (λ g. cond (S g) 1 0) 0 n f l) (bit (S f))
     go f (no h) =
         let l : n ≤ f = omega arith in
         let k : length (setOf n S) ≤ f = rw (set-length n S) l in

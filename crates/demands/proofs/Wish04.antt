@@ -24,7 +24,7 @@ use Rattle.questions.specs.Questions.{buffersNo, naming, layeredNo}
 use Rattle.questions.proofs.Orders.{naming-length}
 use Rattle.run.specs.Outcome.{runOutcome}
 use Rattle.run.proofs.ReadMarks.{over-kept}
-use Rattle.layers.specs.Outcome.{LayeredOutcome, orderedBy, layeredOutcome, number, count}
+use Rattle.layers.specs.Outcome.{LayeredOutcome, orderedBy, layeredOutcome, count}
 use Rattle.layers.proofs.LayeredAnswers.{AllYesses, all-yes}
 use Rattle.layers.proofs.LayersMeaning.{no-refusal, fifty-two, last-fifty-two, last-room, passed-all, o-is, named-are, least, sorted, ordered-front}
 use Rattle.demands.specs.Results.{LeadsTo}

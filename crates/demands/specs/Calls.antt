@@ -26,11 +26,12 @@ use Rattle.judge.specs.Judged.{judged}
 use Rattle.proofcheck.specs.Checked.{checked}
 use Rattle.search.specs.Outcome.{searchOutcome}
 use Rattle.layers.specs.Outcome.{layeredOutcome}
+use Rattle.generator.specs.Outcome.{loadQuestions, loadOutcome}
 use Rattle.panel_lines.specs.Text.{panelText, shown}
 use Rattle.grounds_text.specs.Text.{groundsText}
-use Rattle.retention.specs.declared.reply.FileReply.{FileReply}
-use Rattle.retention.specs.declared.reply.Verdict.{Verdict}
-use Rattle.retention.specs.Reply.{fileOf, verdictOfJudged, verdictOfChecked, RunReply, runReply, SearchReply, searchReply, GroundsReply, groundsReply, LayeredReply, layeredReply}
+use Rattle.replies.specs.declared.FileReply.{FileReply}
+use Rattle.replies.specs.declared.Verdict.{Verdict}
+use Rattle.replies.specs.Reply.{fileOf, verdictOfJudged, verdictOfChecked, RunReply, runReply, SearchReply, searchReply, GroundsReply, groundsReply, LayeredReply, layeredReply, LoadReply, loadReply}
 use Rattle.items.specs.Question as refusal
 use Rattle.cursors.specs.Cursor as read
 use Rattle.reader.specs.Accept as accepted
@@ -41,6 +42,7 @@ use Rattle.judge.specs.Judged as judgement
 use Rattle.proofcheck.specs.Checked as checking
 use Rattle.search.specs.Outcome as searched
 use Rattle.layers.specs.Outcome as layers
+use Rattle.generator.specs.Outcome as loads
 
 -- The number of the first no; none where every question gets yes.
 abbrev pub firstNumber : List Question → Option ℕ
@@ -110,6 +112,10 @@ searchNumbers = fileNumbers ++ (bufferNumbers ++ limitNumbers) ++ (41 ∷ [])
 
 abbrev pub layeredNumbers : List ℕ
 layeredNumbers = fileNumbers ++ (34 ∷ 52 ∷ [])
+
+-- Of the one that asks no file's.
+abbrev pub loadNumbers : List ℕ
+loadNumbers = 53 ∷ 54 ∷ 55 ∷ []
 
 -- A call of an operation that is lent no buffer.
 abbrev pub lentNothing : List Question → List ℕ → ℕ → List ℕ → Call
@@ -236,6 +242,19 @@ layeredCall file order =
       reply = layeredReplied (layeredOutcome file order);
     }
 
+-- `load`
+abbrev pub loadReplied : loads.LoadOutcome → Reply
+loadReplied o = record { number = loads.number (o .answer); counts = loads.count (o .answer) ∷ []; left = o .out ∷ [] }
+
+abbrev pub loadCall : ℕ → ℕ → ℕ → List ℕ → Call
+loadCall start facts rules out =
+    record {
+      questions = loadQuestions facts rules (length out);
+      own = loadNumbers;
+      lent = out ∷ [];
+      reply = loadReplied (loadOutcome start facts rules out);
+    }
+
 -- A text: it asks nothing and refuses nothing. The first no stands in it.
 abbrev pub textCall : List ℕ → List ℕ → Call
 textCall text out =
@@ -325,6 +344,13 @@ retentionLayeredCall file order = replying (layeredCall file order) (counted (la
   where
     counted : LayeredReply → Reply
     counted o = record { number = o .reply .refusal; counts = o .reply .count ∷ []; left = o .order ∷ [] }
+
+-- `retention_load`
+abbrev pub retentionLoadCall : ℕ → ℕ → ℕ → List ℕ → Call
+retentionLoadCall start facts rules out = replying (loadCall start facts rules out) (counted (loadReply (loadOutcome start facts rules out)))
+  where
+    counted : LoadReply → Reply
+    counted o = record { number = o .reply .refusal; counts = o .reply .count ∷ []; left = o .out ∷ [] }
 
 -- `retention_panel`
 abbrev pub retentionPanelCall : List ℕ → List ℕ → Call

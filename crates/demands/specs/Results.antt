@@ -26,7 +26,7 @@ use Rattle.reader.specs.Accept.{acceptOf}
 use Rattle.questions.specs.Answer.{answerOf}
 use Rattle.panel_lines.specs.Text.{panelText, shown}
 use Rattle.grounds_text.specs.Text.{groundsText}
-use Rattle.retention.specs.Reply.{fileOf, verdictOfJudged, verdictOfChecked, runReply, searchReply, groundsReply, layeredReply}
+use Rattle.replies.specs.Reply.{fileOf, verdictOfJudged, verdictOfChecked, runReply, searchReply, groundsReply, layeredReply}
 use Rattle.run.specs.Outcome as run
 use Rattle.judge.specs.declared.answer.Judged.the-variants as judgement
 use Rattle.proofcheck.specs.Checked as check

@@ -1,7 +1,7 @@
 -- The loops that list the facts to guess, ask of those decided, and keep the facts marked.
 use Prim.Native.Nat.{ℕ, zero, suc, _+_, _-_, _<_, _≤_}
 use native.Mathlib.Omega.{arith}
-use native.Mathlib.Nat.{add-zero, zero-add}
+use native.Mathlib.Nat.{zero-add}
 use native.Mathlib.Numerals.{add-one}
 use mathlib.Core.Path.{_≡_, refl, sym, ap, subst, _∙_}
 use mathlib.Core.Bool.{Bool, true, false, cond, not, _&&_}
@@ -14,7 +14,7 @@ use lib.Seq.{take-suc-set, getD-set-same, getD-set-other, drop-cons, getD-take, 
 use Rattle.items.specs.Item.{narrow, maxFacts, maxGuessed, has}
 use Rattle.theory.specs.Rule.{all, keep, howMany, range, downFrom, upTo}
 use Rattle.theory.proofs.Bools.{either}
-use Rattle.theory.proofs.Lists.{howMany-append, less-one, all-elem, getD-mem}
+use Rattle.theory.proofs.Lists.{howMany-append, less-one, all-elem, getD-mem, range-more}
 use Rattle.index.specs.Literal.{outside}
 use Rattle.earliest.specs.Branch.{Kept}
 
@@ -33,10 +33,6 @@ pub record Down (marks : List ℕ) (facts : ℕ) (row : List ℕ) (n f : ℕ) : 
   pub below : f ≤ facts
   pub room : n + howMany (has marks) (downFrom f) ≤ maxGuessed
   pub listed : take n row ++ keep (has marks) (downFrom f) ≡ keep (has marks) (downFrom facts)
-
-range-more : (a n : ℕ) → range a (suc n) ≡ range a n ++ ((a + n) ∷ [])
-range-more a zero = ap (λ (x : ℕ). x ∷ []) (sym (add-zero a))
-range-more a (suc n) = ap (λ (xs : List ℕ). a ∷ xs) (range-more (suc a) n ∙ ap (λ (x : ℕ). range (suc a) n ++ (x ∷ [])) (omega arith))
 
 -- counted up or down
 pub howMany-down : (p : ℕ → Bool) (n : ℕ) → howMany p (downFrom n) ≡ howMany p (upTo n)

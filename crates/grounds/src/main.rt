@@ -4,21 +4,14 @@ use input::INPUT_ROOM;
 use input::Input;
 use libc::STDERR_FILENO;
 use libc::STDOUT_FILENO;
-use words::LONGEST_NUMBER;
 use words::Word;
 
-// One byte more than a number may have, so that a longer word is told apart.
-const WORD_ROOM: usize = LONGEST_NUMBER + 1;
-
-// The number that the program was given as its one word. Of a word that is missing or longer than the room no byte counts, and no bytes are no
-// number.
+// The number that the program was given as its one word.
 fn asked() -> Word {
-    if os::arg_count() != 2 {
+    if arguments::count() != 1 {
         return Word::NotANumber;
     }
-    let mut word = [0u8; WORD_ROOM];
-    let n = os::arg(1, &mut word);
-    words::number_of(&word[..n])
+    arguments::number_at(1)
 }
 
 // Writes the text for a fact by the file on standard input.

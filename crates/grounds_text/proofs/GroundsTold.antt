@@ -16,7 +16,8 @@ use Rattle.items.specs.Write.{over}
 use Rattle.tables.specs.Layout.{programIn, WellFormed}
 use Rattle.tables.proofs.ProgramHeld.{facts-below, rules-below}
 use Rattle.closure.specs.Steps.{stepBytes}
-use Rattle.results.proofs.StepsWritten.{over-length, step-bytes-length}
+use Rattle.items.proofs.PlacedBytes.{over-length}
+use Rattle.results.proofs.StepsWritten.{step-bytes-length}
 use Rattle.questions.specs.Questions.{each, rowOf, naming, namedIn}
 use Rattle.questions.specs.Answer.{answerOf}
 use Rattle.questions.proofs.Orders.{naming-names}

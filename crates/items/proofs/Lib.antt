@@ -3,4 +3,5 @@ pub mod FirstNo
 pub mod Bodies
 pub mod LengthTable
 pub mod ItemSays
+pub mod ItemBytes
 pub mod PlacedBytes

@@ -6,8 +6,8 @@ use native.Mathlib.Numerals.{add-one}
 use mathlib.Core.Path.{_≡_, sym, ap, _∙_}
 use mathlib.Core.List.{List, [], _∷_, _++_, append-assoc}
 use lib.ListN.{length, take, drop, set, length-append, length-drop, take-append-drop}
-use lib.Seq.{sets, sets-eq, set-split, take-at, drop-at, drop-drop, length-take-le}
-use Rattle.items.specs.Write.{placed}
+use lib.Seq.{sets, sets-eq, set-split, take-at, drop-at, drop-drop, length-take-le, take-append-seam, drop-append-add}
+use Rattle.items.specs.Write.{placed, over}
 
 -- Nothing placed leaves the bytes as they are.
 pub placed-none : (at : ℕ) (s : List ℕ) → placed [] at s ≡ s
@@ -59,3 +59,11 @@ module _ (a s : List ℕ) (at : ℕ) (fits : at + length a ≤ length s) where
 -- One store for each byte.
 pub stored : (vs l : List ℕ) (at : ℕ) → at + length vs ≤ length l → sets l at vs ≡ placed vs at l
 stored vs l at h = sets-eq vs l at h ∙ append-assoc (take at l) vs (drop (at + length vs) l)
+
+-- What is placed behind the front goes on from there.
+pub over-more : (xs bs room : List ℕ) → placed bs (length xs) (over xs room) ≡ over (xs ++ bs) room
+over-more xs bs room =
+    rw (take-append-seam xs (drop (length xs) room), drop-append-add xs (drop (length xs) room) (length bs), drop-drop (length bs) (length xs) room, length-append xs bs, append-assoc xs bs (drop (length xs + length bs) room))
+
+pub over-length : (xs room : List ℕ) → length xs ≤ length room → length (over xs room) ≡ length room
+over-length xs room h = omega (arith, length-append xs (drop (length xs) room), length-drop (length xs) room)

@@ -4,6 +4,7 @@ ghost use Rattle.items.specs.Item.{narrow, bodyLength};
 use crate::item::KIND_BYTES;
 use crate::item::NAMES_KIND;
 use crate::item::PREMISE_KIND;
+use crate::item::RULES_KIND;
 use crate::item::STEP_KIND;
 
 // How many bytes of body follow a kind: the entry of kind 1F, say, stands in the second row, in its last column. FF is the mark of a kind that there is not.
@@ -25,8 +26,10 @@ const BODY_LENGTHS: [u8; 256] = *b"\
     \xFF\xFF\xFF\xFF\xFF\xFF\xFF\xFF\xFF\xFF\xFF\xFF\xFF\xFF\xFF\xFF\
     \xFF\xFF\xFF\xFF\xFF\xFF\xFF\xFF\xFF\xFF\xFF\xFF\xFF\xFF\xFF\xFF";
 
-// The bytes of an item: its kind, then the body. Of a premise or a constraint, of a name in an order, and of a step.
+// The bytes of an item: its kind, then the body. Of a premise or a constraint, of a file's last item, of a name in an order, and of a step.
 pub const ITEM_WIDTH: usize = KIND_BYTES + BODY_LENGTHS[PREMISE_KIND as usize] as usize;
+
+pub const LAST_WIDTH: usize = KIND_BYTES + BODY_LENGTHS[RULES_KIND as usize] as usize;
 
 pub const NAME_WIDTH: usize = KIND_BYTES + BODY_LENGTHS[NAMES_KIND as usize] as usize;
 

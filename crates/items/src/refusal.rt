@@ -30,6 +30,9 @@ pub enum Refusal {
     NotDerived,
     RuleTooLong,
     NotLayered,
+    FactsOutOfRange,
+    RulesOutOfRange,
+    LoadShort,
 }
 
 impl Refusal {
@@ -65,6 +68,9 @@ impl Refusal {
             Refusal::NotDerived => 50,
             Refusal::RuleTooLong => 51,
             Refusal::NotLayered => 52,
+            Refusal::FactsOutOfRange => 53,
+            Refusal::RulesOutOfRange => 54,
+            Refusal::LoadShort => 55,
         }
     }
 }

@@ -10,7 +10,7 @@ use lib.ListN.{length, take, drop, replicate, length-append, length-replicate}
 use lib.Dec.{eqb}
 use Rattle.theory.specs.Rule.{keep, upTo, Program, Bounded, inForce, count, Step as Taken}
 use Rattle.theory.specs.Run.{Stand, run, factMark, factMarks, ruleMark, ruleMarks, stageCount, stepCount}
-use Rattle.theory.proofs.Lists.{mem-upTo, keep-same}
+use Rattle.theory.proofs.Lists.{mem-upTo, keep-same, mapped-length}
 use Rattle.items.specs.declared.refusal.Refusal.{Refusal}
 use Rattle.reader.specs.declared.answer.FileCounts.{FileCounts}
 use Rattle.items.specs.Question.{number}
@@ -26,8 +26,9 @@ use Rattle.run.specs.Outcome.{RunOutcome, runWritten, runOutcome}
 use Rattle.items.specs.Write.{over}
 use Rattle.run.proofs.Outcomes.{outcome-written}
 use Rattle.run.proofs.FewSteps.{Paced, run-paced}
-use Rattle.results.proofs.StepsWritten.{over-length, step-bytes-length}
-use Rattle.run.proofs.ReadMarks.{length-marks, mark-at, read-aside}
+use Rattle.items.proofs.PlacedBytes.{over-length}
+use Rattle.results.proofs.StepsWritten.{step-bytes-length}
+use Rattle.run.proofs.ReadMarks.{mark-at, read-aside}
 use Rattle.run.proofs.ReadSteps.{steps-front, steps-read}
 use Rattle.panel_lines.specs.Text.{line, asideRules, runText, ascending, panelText}
 use Rattle.theory.specs.Places.{placesMarked}
@@ -72,7 +73,7 @@ not-refused P s answer fm rm st w r e =
 -- The marks that it leaves have a place for each fact and each rule, the steps have room for those taken, and all of them give the lines.
 front-places : (f : ℕ → ℕ) (n : ℕ) (room : List ℕ) → n ≤ length (over (map f (upTo n)) room)
 front-places f n room =
-    omega (arith, length-append (map f (upTo n)) (drop (length (map f (upTo n))) room), length-marks f n)
+    omega (arith, length-append (map f (upTo n)) (drop (length (map f (upTo n))) room), mapped-length f n)
 
 module _ {s : List ℕ} {counts : FileCounts} (a : Accepted s counts) (few : programOf s .facts < maxFacts narrow) (order : List ℕ) (answer : Ran) (fact-marks rule-marks steps : List ℕ) (w : RunEnded (programOf s) (run (programOf s) (inForce (programOf s)) order) answer fact-marks rule-marks steps) where
   abbrev P : Program

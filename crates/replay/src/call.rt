@@ -2,6 +2,7 @@
 use crate::read::PLACES;
 use crate::read::number;
 use crate::read::row;
+use crate::read::wide;
 use questions::answer::Answer;
 
 // No buffer that a case lends is longer.
@@ -57,7 +58,8 @@ fn answer(operation: u32, file: &[u8], second: &[u8], third: &[u8], fact: u32) -
     }
 }
 
-// What any operation replies, in the buffers that it is lent. The rows of the case stand at these places, and its file may stand before them.
+// What any operation replies, in the buffers that it is lent. The rows of the case stand at these places, and its file may stand before them. A test load has its
+// three numbers in the place of a file.
 fn reply(
     bytes: &[u8],
     places: [usize; PLACES],
@@ -70,7 +72,7 @@ fn reply(
     let head = row(bytes, places[0]);
     let file = row(bytes, file);
     let second = row(bytes, places[3]);
-    let fact = (number(head, 6) << 16) | number(head, 8);
+    let fact = wide(head, 6);
     let operation = number(head, 0);
     match operation {
         2 => {
@@ -88,6 +90,10 @@ fn reply(
         }
         12 => {
             let a = retention::retention_layered(file, o);
+            [a.refusal, a.count, 0, 0, 0, 0]
+        }
+        13 => {
+            let a = retention::retention_load(wide(file, 0), wide(file, 4), wide(file, 8), f);
             [a.refusal, a.count, 0, 0, 0, 0]
         }
         _ => answer(operation, file, second, row(bytes, places[4]), fact),

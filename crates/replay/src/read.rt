@@ -17,6 +17,14 @@ pub fn number(bytes: &[u8], at: usize) -> u32 {
     0
 }
 
+// A number of four bytes.
+pub fn wide(bytes: &[u8], at: usize) -> u32 {
+    if at < bytes.len() {
+        return (number(bytes, at) << 16) | number(bytes, at + 2);
+    }
+    0
+}
+
 // The place past a row.
 pub fn past(bytes: &[u8], at: usize) -> usize
     ensures { λ r. ⌜ r ≤ length (now (bytes .entry)) ⌝ }

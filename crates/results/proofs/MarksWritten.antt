@@ -1,17 +1,17 @@
 -- Marks written one after another, and the mark of each rule.
-use Prim.Native.Nat.{ℕ, zero, suc, _+_, _≤_, _<_}
+use Prim.Native.Nat.{ℕ, _+_, _≤_, _<_}
 use mathlib.Core.Path.{_≡_, refl, sym, ap, ap₂, _∙_}
 use mathlib.Core.Bool.{Bool, true, false, cond, not, _&&_}
 use mathlib.Core.List.{List, map}
 use native.Mathlib.Omega.{arith}
-use native.Mathlib.Nat.{zero-add, add-zero}
+use native.Mathlib.Nat.{zero-add}
 use native.Mathlib.Numerals.{add-one}
 use borrow.Author.Tests.{lt-ltb, eq-eqb, ne-eqb}
-use lib.ListN.{length, getD, set, length-set, length-map}
+use lib.ListN.{length, getD, set, length-set}
 use lib.Seq.{paste, paste-zero, paste-suc, take-all}
-use Rattle.theory.specs.Rule.{all, clear, mem, range, upTo, Program, FactSet, inForce, null, count, rule, plain, exception}
+use Rattle.theory.specs.Rule.{all, clear, mem, upTo, Program, FactSet, inForce, null, count, rule, plain, exception}
 use Rattle.theory.specs.Run.{Stand, rejected, setAside, factMark, ruleMark, factMarks}
-use Rattle.theory.proofs.Lists.{length-range}
+use Rattle.theory.proofs.Lists.{mapped-length, mapped-at}
 use Rattle.items.specs.Item.{has}
 use Rattle.items.specs.Write.{over}
 use Rattle.marking.specs.Marks.{barred, barredIn}
@@ -21,16 +21,6 @@ pub record Marking (f : ℕ → ℕ) (n : ℕ) (before now : List ℕ) (i : ℕ)
   pub inside : i ≤ n
   pub length-kept : length now ≡ length before
   pub front-is : now ≡ paste before 0 (map f (upTo n)) i
-
-mark-at : (f : ℕ → ℕ) (a n i : ℕ) → i < n → getD (map f (range a n)) i 0 ≡ f (a + i)
-mark-at f a zero i h = absurd (omega arith)
-mark-at f a (suc n) zero h = ap f (sym (add-zero a))
-mark-at f a (suc n) (suc i) h =
-    let next : suc a + i ≡ a + suc i = omega arith in
-    mark-at f (suc a) n i (omega arith) ∙ ap f next
-
-marks-length : (f : ℕ → ℕ) (n : ℕ) → length (map f (upTo n)) ≡ n
-marks-length f n = length-map (upTo n) f ∙ length-range 0 n
 
 pub none-written : (f : ℕ → ℕ) (n : ℕ) (before : List ℕ) → Marking f n before before 0
 none-written f n before =
@@ -43,9 +33,9 @@ module _ (f : ℕ → ℕ) (n : ℕ) (before now : List ℕ) (i : ℕ) (w : Mark
         inside = omega arith;
         length-kept = length-set now i v ∙ w .length-kept;
         front-is =
-            ap₂ (λ (l : List ℕ) (x : ℕ). set l i x) (w .front-is) (e ∙ sym (mark-at f 0 n i h ∙ ap f (zero-add i)))
+            ap₂ (λ (l : List ℕ) (x : ℕ). set l i x) (w .front-is) (e ∙ sym (mapped-at f 0 n i h))
             ∙ ap (λ (k : ℕ). set (paste before 0 (map f (upTo n)) i) k (getD (map f (upTo n)) i 0)) (sym (zero-add i))
-            ∙ paste-suc before 0 (map f (upTo n)) i 0 (omega arith) (omega (arith, marks-length f n))
+            ∙ paste-suc before 0 (map f (upTo n)) i 0 (omega arith) (omega (arith, mapped-length f n))
             ∙ ap (paste before 0 (map f (upTo n))) (sym (add-one i));
       }
 
@@ -53,7 +43,7 @@ module _ (f : ℕ → ℕ) (n : ℕ) (before now : List ℕ) (i : ℕ) (w : Mark
   all-written h =
       let last : i ≡ n = omega (arith, w .inside) in
       w .front-is
-      ∙ rw (last, take-all n (map f (upTo n)) (omega (arith, marks-length f n)), zero-add n, marks-length f n)
+      ∙ rw (last, take-all n (map f (upTo n)) (omega (arith, mapped-length f n)), zero-add n, mapped-length f n)
 
 -- Fact marks by the sets that the memory shows.
 abbrev pub factMarkBy : FactSet → FactSet → ℕ → ℕ

@@ -1,24 +1,17 @@
 -- Bytes written one after another at the front of a buffer.
 use Prim.Native.Nat.{ℕ, _+_, _*_, _≤_, _<_}
 use mathlib.Core.Path.{_≡_, refl, sym, ap, _∙_}
-use mathlib.Core.List.{List, [], _∷_, _++_, map, append-assoc, map-append}
+use mathlib.Core.List.{List, [], _∷_, _++_, map, map-append}
 use native.Mathlib.Omega.{arith}
 use native.Mathlib.Numerals.{add-one}
-use lib.ListN.{length, getD, take, drop, length-append, length-drop, length-map}
-use lib.Seq.{take-append-seam, drop-append-add, drop-drop, take-suc, length-take-le}
+use lib.ListN.{length, getD, take, length-map}
+use lib.Seq.{take-suc, length-take-le}
 use Rattle.theory.specs.Rule.{Program, Step, rule}
 use Rattle.theory.specs.Derive.{stepBy}
 use Rattle.items.specs.Item.{narrow, stepWidth}
 use Rattle.items.specs.Write.{stepItem, placed, over}
+use Rattle.items.proofs.PlacedBytes.{over-more}
 use Rattle.closure.specs.Steps.{stepBytes}
-
--- What is placed behind the front goes on from there.
-pub over-more : (xs bs room : List ℕ) → placed bs (length xs) (over xs room) ≡ over (xs ++ bs) room
-over-more xs bs room =
-    rw (take-append-seam xs (drop (length xs) room), drop-append-add xs (drop (length xs) room) (length bs), drop-drop (length bs) (length xs) room, length-append xs bs, append-assoc xs bs (drop (length xs + length bs) room))
-
-pub over-length : (xs room : List ℕ) → length xs ≤ length room → length (over xs room) ≡ length room
-over-length xs room h = omega (arith, length-append xs (drop (length xs) room), length-drop (length xs) room)
 
 pub step-bytes-append : (xs ys : List Step) → stepBytes narrow (xs ++ ys) ≡ stepBytes narrow xs ++ stepBytes narrow ys
 step-bytes-append [] ys = refl

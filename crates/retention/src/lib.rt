@@ -9,22 +9,20 @@ ghost use Rattle.proofcheck.specs.Checked.{checked};
 ghost use Rattle.search.specs.Outcome.{searchOutcome};
 ghost use Rattle.keeping.specs.Outcome.{groundsOutcome};
 ghost use Rattle.layers.specs.Outcome.{layeredOutcome};
+ghost use Rattle.generator.specs.Outcome.{loadOutcome};
 ghost use Rattle.panel_lines.specs.Text.{panelText, shown};
-ghost use Rattle.retention.specs.Reply.{fileOf, verdictOfJudged, verdictOfChecked, RunReply, runReply, SearchReply, searchReply, GroundsReply, groundsReply, LayeredReply, layeredReply};
-
-pub mod reply;
-
-use reply::Count;
-use reply::FileReply;
-use reply::RunCounts;
-use reply::Verdict;
+ghost use Rattle.replies.specs.Reply.{fileOf, verdictOfJudged, verdictOfChecked, RunReply, runReply, SearchReply, searchReply, GroundsReply, groundsReply, LayeredReply, layeredReply, LoadReply, loadReply};
+use replies::Count;
+use replies::FileReply;
+use replies::RunCounts;
+use replies::Verdict;
 
 // Is the file accepted, and what does it count?
 #[no_mangle]
 pub extern "C" fn retention_accept(file: &[u8]) -> FileReply
     ensures { λ r. ⌜ r ≡ fileOf (acceptOf (now (file .entry))) ⌝ }
 {
-    reply::of_accept(reader::accept(file))
+    replies::of_accept(reader::accept(file))
 }
 
 // Runs a file under an order.
@@ -38,7 +36,7 @@ pub extern "C" fn retention_run(
 ) -> RunCounts
     ensures { λ r. ⌜ _≡_ {A = RunReply} (record { reply = r; fact-marks = now («fact_marks» .exit); rule-marks = now («rule_marks» .exit); steps = now (steps .exit) }) (runReply (runOutcome (now (file .entry)) (now (order .entry)) (now («fact_marks» .entry)) (now («rule_marks» .entry)) (now (steps .entry)))) ⌝ }
 {
-    reply::of_ran(run::run(file, order, fact_marks, rule_marks, steps))
+    replies::of_ran(run::run(file, order, fact_marks, rule_marks, steps))
 }
 
 // Runs a file under an order, and keeps of its steps those that matter for a fact.
@@ -53,7 +51,7 @@ pub extern "C" fn retention_grounds(
 ) -> Count
     ensures { λ r. ⌜ _≡_ {A = GroundsReply} (record { reply = r; fact-marks = now («fact_marks» .exit); rule-marks = now («rule_marks» .exit); steps = now (steps .exit) }) (groundsReply (groundsOutcome (now (file .entry)) (now (order .entry)) fact (now («fact_marks» .entry)) (now («rule_marks» .entry)) (now (steps .entry)))) ⌝ }
 {
-    reply::of_grounds(keeping::grounds(file, order, fact, fact_marks, rule_marks, steps))
+    replies::of_grounds(keeping::grounds(file, order, fact, fact_marks, rule_marks, steps))
 }
 
 // Is a set stable for a file less some listed exception rules?
@@ -61,7 +59,7 @@ pub extern "C" fn retention_grounds(
 pub extern "C" fn retention_judge(file: &[u8], list: &[u8], set: &[u8]) -> Verdict
     ensures { λ r. ⌜ r ≡ verdictOfJudged (judged (now (file .entry)) (now (list .entry)) (now (set .entry))) ⌝ }
 {
-    reply::of_judged(judge::judge(file, list, set))
+    replies::of_judged(judge::judge(file, list, set))
 }
 
 // Is a row of steps a proof of a fact that a set admits?
@@ -69,7 +67,7 @@ pub extern "C" fn retention_judge(file: &[u8], list: &[u8], set: &[u8]) -> Verdi
 pub extern "C" fn retention_check(file: &[u8], set: &[u8], fact: u32, proof: &[u8]) -> Verdict
     ensures { λ r. ⌜ r ≡ verdictOfChecked (checked (now (file .entry)) (now (set .entry)) fact (now (proof .entry))) ⌝ }
 {
-    reply::of_checked(proofcheck::check(file, set, fact, proof))
+    replies::of_checked(proofcheck::check(file, set, fact, proof))
 }
 
 // Searches a file for its earliest stable set.
@@ -83,7 +81,7 @@ pub extern "C" fn retention_search(
 ) -> RunCounts
     ensures { λ r. ⌜ _≡_ {A = SearchReply} (record { reply = r; fact-marks = now («fact_marks» .exit); rule-marks = now («rule_marks» .exit); steps = now (steps .exit); order = now (order .exit) }) (searchReply (searchOutcome (now (file .entry)) (now («fact_marks» .entry)) (now («rule_marks» .entry)) (now (steps .entry)) (now (order .entry)))) ⌝ }
 {
-    reply::of_searched(search::search(file, fact_marks, rule_marks, steps, order))
+    replies::of_searched(search::search(file, fact_marks, rule_marks, steps, order))
 }
 
 // The order by rank of a layered file.
@@ -91,7 +89,15 @@ pub extern "C" fn retention_search(
 pub extern "C" fn retention_layered(file: &[u8], order: &mut [u8]) -> Count
     ensures { λ r. ⌜ _≡_ {A = LayeredReply} (record { reply = r; order = now (order .exit) }) (layeredReply (layeredOutcome (now (file .entry)) (now (order .entry)))) ⌝ }
 {
-    reply::of_layered(layers::layered(file, order))
+    replies::of_layered(layers::layered(file, order))
+}
+
+// A test load: a file of so many rules over so many facts, drawn from a start.
+#[no_mangle]
+pub extern "C" fn retention_load(start: u32, facts: u32, rules: u32, out: &mut [u8]) -> Count
+    ensures { λ r. ⌜ _≡_ {A = LoadReply} (record { reply = r; out = now (out .exit) }) (loadReply (loadOutcome start facts rules (now (out .entry)))) ⌝ }
+{
+    replies::of_loaded(generator::load(start, facts, rules, out))
 }
 
 // The panel's text for a file, written where it fits. Answers its length.

@@ -1,19 +1,18 @@
 -- The marks that a run writes, read back: D, R, the plain rules, the rules applied and those set aside.
-use Prim.Native.Nat.{ℕ, zero, suc, _+_, _≤_, _<_}
+use Prim.Native.Nat.{ℕ, _≤_, _<_}
 use native.Mathlib.Omega.{arith}
 use native.Mathlib.Decide.{decLt}
-use native.Mathlib.Nat.{add-zero, zero-add, suc-add, add-suc}
 use mathlib.Core.Path.{_≡_, refl, sym, _∙_, ap, fun-ext}
 use mathlib.Core.Bool.{Bool, true, false, cond, _&&_}
 use mathlib.Core.List.{List, map}
 use borrow.Author.Tests.{lt-ltb, le-ltb, ltb-true}
-use lib.ListN.{length, getD, take, drop, length-map, List·getD-append}
+use lib.ListN.{length, getD, take, drop, List·getD-append}
 use lib.Seq.{take-at, drop-at}
 use lib.Dec.{eqb, ltb}
-use Rattle.theory.specs.Rule.{mem, range, upTo, Program, Bounded, inForce, count, rule, plain}
+use Rattle.theory.specs.Rule.{mem, upTo, Program, Bounded, inForce, count, rule, plain}
 use Rattle.theory.specs.Run.{rejected, run, setAside, factMark, ruleMark, factMarks, ruleMarks}
 use Rattle.theory.proofs.Bools.{never, and-left, false-of}
-use Rattle.theory.proofs.Lists.{length-range, all-elem, any-witness}
+use Rattle.theory.proofs.Lists.{mapped-length, mapped-at, all-elem, any-witness}
 use Rattle.theory.proofs.Run.{run-sound, run-disjoint, not-both, exception-known}
 use Rattle.theory.proofs.Absent.{run-absent}
 use Rattle.theory.proofs.RunStable.{concluded-kept}
@@ -21,22 +20,14 @@ use Rattle.theory.proofs.Marks.{aside-supported, aside-exception}
 use Rattle.items.specs.Write.{over}
 use Rattle.items.specs.Item.{marked}
 
-pub getD-range : (f : ℕ → ℕ) (n a i : ℕ) → i < n → getD (map f (range a n)) i 0 ≡ f (a + i)
-getD-range f zero a i l = absurd (omega arith)
-getD-range f (suc n) a zero l = ap f (sym (add-zero a))
-getD-range f (suc n) a (suc i) l = getD-range f n (suc a) i (omega arith) ∙ ap f (suc-add a i ∙ sym (add-suc a i))
-
-pub length-marks : (f : ℕ → ℕ) (n : ℕ) → length (map f (upTo n)) ≡ n
-length-marks f n = length-map (upTo n) f ∙ length-range 0 n
-
 -- a mark in front is the mark of its number
 pub mark-at : (f : ℕ → ℕ) (n : ℕ) (room : List ℕ) (i : ℕ) → i < n → getD (over (map f (upTo n)) room) i 0 ≡ f i
 mark-at f n room i l =
-    List·getD-append (map f (upTo n)) (drop (length (map f (upTo n))) room) 0 i (rw (length-marks f n) l)
-    ∙ (getD-range f n 0 i l ∙ ap f (zero-add i))
+    List·getD-append (map f (upTo n)) (drop (length (map f (upTo n))) room) 0 i (rw (mapped-length f n) l)
+    ∙ mapped-at f 0 n i l
 
 pub marks-front : (f : ℕ → ℕ) (n : ℕ) (room : List ℕ) → take n (over (map f (upTo n)) room) ≡ map f (upTo n)
-marks-front f n room = take-at (map f (upTo n)) (drop (length (map f (upTo n))) room) n (length-marks f n)
+marks-front f n room = take-at (map f (upTo n)) (drop (length (map f (upTo n))) room) n (mapped-length f n)
 
 pub marked-past : (n mark : ℕ) (bytes : List ℕ) (i : ℕ) → n ≤ i → marked n mark bytes i ≡ false
 unfolding marked

@@ -1,14 +1,15 @@
 -- Laws of the tests over lists.
 use Prim.Native.Nat.{ℕ, zero, suc, _+_, _-_, _≤_, _<_}
 use native.Mathlib.Omega.{arith}
+use native.Mathlib.Nat.{add-zero, zero-add}
 use native.Mathlib.Numerals.{add-one}
 use mathlib.Core.Path.{_≡_, refl, sym, _∙_, ap, ap₂}
 use mathlib.Core.Bool.{Bool, true, false, not, cond, _&&_, _||_}
-use mathlib.Core.List.{List, [], _∷_, _++_}
+use mathlib.Core.List.{List, [], _∷_, _++_, map}
 use mathlib.Core.Logic.{_⊎_, inl, inr, ⊎-elim, _≢_}
 use mathlib.Core.Option.{Option, none, some}
 use borrow.Author.Tests.{eqb-true, eqb-false, eq-eqb, lt-ltb, le-ltb, ltb-true}
-use lib.ListN.{length, getD, replicate}
+use lib.ListN.{length, getD, replicate, length-map}
 use lib.Dec.{eqb, ltb}
 use Rattle.theory.specs.Rule.{all, clear, any, mem, keep, seek, range, upTo, downFrom, howMany}
 use Rattle.theory.proofs.Bools.{either, never, and-left, and-right, and-both, or-left, or-right, or-cases, or-false-left, or-false-right, not-of-false, false-of-not, false-of, both-ways}
@@ -367,6 +368,25 @@ pub range-end : (n i : ℕ) → n ≤ i → range i (n - i) ≡ []
 range-end n i h =
     let none : n - i ≡ 0 = omega arith in
     rw none
+
+-- One number more.
+pub range-more : (a n : ℕ) → range a (suc n) ≡ range a n ++ ((a + n) ∷ [])
+range-more a zero = ap (λ (x : ℕ). x ∷ []) (sym (add-zero a))
+range-more a (suc n) = ap (λ (xs : List ℕ). a ∷ xs) (range-more (suc a) n ∙ ap (λ (x : ℕ). range (suc a) n ++ (x ∷ [])) (omega arith))
+
+-- What a function gives for the numbers below n, one after another.
+pub mapped-length : {A : Type 0} (f : ℕ → A) (n : ℕ) → length (map f (upTo n)) ≡ n
+mapped-length f n = length-map (upTo n) f ∙ length-range 0 n
+
+pub mapped-at : {A : Type 0} (f : ℕ → A) (d : A) (n i : ℕ) → i < n → getD (map f (upTo n)) i d ≡ f i
+mapped-at f d n i h = from f d 0 n i h ∙ ap f (zero-add i)
+  where
+    from : {A : Type 0} (f : ℕ → A) (d : A) (a n i : ℕ) → i < n → getD (map f (range a n)) i d ≡ f (a + i)
+    from f d a zero i h = absurd (omega arith)
+    from f d a (suc n) zero h = ap f (sym (add-zero a))
+    from f d a (suc n) (suc i) h =
+        let next : suc a + i ≡ a + suc i = omega arith in
+        from f d (suc a) n i (omega arith) ∙ ap f next
 
 -- The first element that passes, by its place; and where none passes.
 pub seek-at : (q : ℕ → Bool) (xs : List ℕ) (k : ℕ) → k < length xs → ((j : ℕ) → j < k → q (getD xs j 0) ≡ false) → q (getD xs k 0) ≡ true → seek q xs ≡ some (getD xs k 0)

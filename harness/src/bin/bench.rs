@@ -2,8 +2,10 @@
 //!
 //! bench [--out path]
 //!
-//! Every row is one operation on one file. The growth is the time over the time
-//! at the size before, with half the rules. Nothing is written unless asked for.
+//! Every row is one operation on one file, or a load with as many facts and rules. The
+//! growth is the time over the time at the size before, with half the rules. Nothing is
+//! written unless asked for. The load files are the reference's, which the differential
+//! holds equal to the archive's.
 
 #[path = "../archive.rs"]
 mod archive;
@@ -11,12 +13,14 @@ mod archive;
 mod draft;
 #[path = "../layers.rs"]
 mod layers;
+#[path = "../loads.rs"]
+mod loads;
 #[path = "../random.rs"]
 mod random;
 
 use draft::{Draft, MOST_OWN_ITEMS, chain, stairs};
 use random::Random;
-use reference::{Lent, RuleFile, STEP_BYTES};
+use reference::{Lent, RuleFile, STEP_BYTES, load_bytes};
 use std::hint::black_box;
 use std::process::ExitCode;
 use std::slice;
@@ -33,6 +37,8 @@ std::arch::global_asm!(
 
 /// Rules and facts of the growing files.
 const SIZES: [(usize, usize); 4] = [(64, 32), (128, 64), (256, 128), (512, 255)];
+/// The start of the test loads.
+const START: u32 = 0;
 /// One round repeats its call for about this long.
 const ROUND: Duration = Duration::from_millis(2);
 const ROUNDS: usize = 9;
@@ -166,44 +172,19 @@ fn mixed(seed: u64) -> Draft {
     draft
 }
 
-/// What the test load of document 02, wish 5, draws from state 0.
-fn draws(facts: usize) -> impl FnMut() -> usize {
-    let mut state: u32 = 0;
-    move || {
-        state = state.wrapping_add(2_654_435_769);
-        (state >> 16) as usize % facts
-    }
-}
-
-/// Adds a rule of these three facts, with items as the test load has them by turns.
-fn add_load_rule(draft: &mut Draft, [conclusion, second, third]: [usize; 3]) {
-    match draft.rules.len() % 3 {
-        0 => draft.rule(conclusion, &[], &[second, third]),
-        1 => draft.rule(conclusion, &[second, third], &[]),
-        _ => draft.rule(conclusion, &[second], &[third]),
-    }
-}
-
-fn test_load(facts: usize, rules: usize) -> Draft {
-    let mut draft = Draft::new(facts);
-    let mut drawn = draws(facts);
-    for _ in 0..rules {
-        add_load_rule(&mut draft, [drawn(), drawn(), drawn()]);
-    }
-    draft
-}
-
 /// The test load in layers: the lowest fact that a rule draws is its conclusion, and
 /// where it was drawn twice the other is one higher.
 fn load_in_layers((rules, facts): (usize, usize)) -> Draft {
-    let mut draft = Draft::new(facts);
-    let mut drawn = draws(facts - 1);
-    for _ in 0..rules {
-        let mut three = [drawn(), drawn(), drawn()];
-        three.sort_unstable();
-        let [conclusion, second, third] = three;
+    let mut draft = loads::draft(START, facts - 1, rules);
+    draft.facts += 1;
+    for rule in &mut draft.rules {
+        let mut drawn = [rule.conclusion, rule.items[0].1, rule.items[1].1];
+        drawn.sort_unstable();
+        let [conclusion, second, third] = drawn;
         let above = conclusion + 1;
-        add_load_rule(&mut draft, [conclusion, second.max(above), third.max(above)]);
+        rule.conclusion = conclusion;
+        rule.items[0].1 = second.max(above);
+        rule.items[1].1 = third.max(above);
     }
     draft
 }
@@ -275,11 +256,13 @@ struct Buffers {
     rule_marks: Vec<u8>,
     steps: Vec<u8>,
     order: Vec<u8>,
+    /// Of a load with as many facts and rules.
+    load: Vec<u8>,
 }
 
 impl Buffers {
     fn lent(&mut self) -> (Lent<'_>, &mut [u8]) {
-        let Buffers { fact_marks, rule_marks, steps, order } = self;
+        let Buffers { fact_marks, rule_marks, steps, order, .. } = self;
         (Lent { fact_marks, rule_marks, steps }, order)
     }
 }
@@ -301,6 +284,7 @@ impl Subject {
             rule_marks: vec![0; draft.rules.len()],
             steps: vec![0; STEP_BYTES * usize::from(draft.facts)],
             order: vec![0; order.len()],
+            load: vec![0; load_bytes(draft.rules.len())],
         };
         let counts = reference::run(&file, &order, buffers.lent().0).expect("the run is answered");
         let set = buffers.fact_marks.iter().map(|&mark| u8::from(mark == 1)).collect();
@@ -338,6 +322,7 @@ impl Subject {
             && proved
             && self.agrees_on_grounds()
             && self.agrees_on_layers()
+            && self.agrees_on_load()
     }
 
     fn agrees_on_grounds(&self) -> bool {
@@ -361,8 +346,21 @@ impl Subject {
         archive::layered(&self.file, &mut theirs) == expected && ours == theirs
     }
 
+    /// How many facts and rules the file has, and so the load.
+    fn counts(&self) -> [u32; 2] {
+        [self.buffers.fact_marks.len() as u32, self.buffers.rule_marks.len() as u32]
+    }
+
+    fn agrees_on_load(&self) -> bool {
+        let [facts, rules] = self.counts();
+        let mut ours = self.buffers.load.clone();
+        let mut theirs = self.buffers.load.clone();
+        let Ok(length) = reference::load(START, facts, rules, &mut ours) else { return false };
+        archive::load(START, facts, rules, &mut theirs) == [0, length as u32] && ours == theirs
+    }
+
     fn archive_search(&self, buffers: &mut Buffers) -> [u32; 3] {
-        let Buffers { fact_marks, rule_marks, steps, order } = buffers;
+        let Buffers { fact_marks, rule_marks, steps, order, .. } = buffers;
         archive::search(&self.file, fact_marks, rule_marks, steps, order)
     }
 
@@ -386,12 +384,17 @@ impl Subject {
             Operation::Search => self.archive_search(buffers)[0],
             Operation::Grounds => self.archive_grounds(buffers)[0],
             Operation::Layered => archive::layered(file, &mut buffers.order)[0],
+            Operation::Load => {
+                let [facts, rules] = black_box(self.counts());
+                archive::load(black_box(START), facts, rules, &mut buffers.load)[1]
+            }
         }
     }
 
     fn reference_call(&self, operation: Operation, buffers: &mut Buffers) -> bool {
         let (file, set) = (black_box(&self.file), &self.set);
-        let (lent, order) = buffers.lent();
+        let Buffers { fact_marks, rule_marks, steps, order, load } = buffers;
+        let lent = Lent { fact_marks, rule_marks, steps };
         match operation {
             Operation::Accept => reference::accept(file).is_ok(),
             Operation::Run => reference::run(file, &self.order, lent).is_ok(),
@@ -400,6 +403,10 @@ impl Subject {
             Operation::Search => reference::search(file, lent, order).is_ok(),
             Operation::Grounds => reference::grounds(file, &self.order, self.asked, lent).is_ok(),
             Operation::Layered => reference::layered(file, order).is_ok(),
+            Operation::Load => {
+                let [facts, rules] = black_box(self.counts());
+                reference::load(black_box(START), facts, rules, load).is_ok()
+            }
         }
     }
 }
@@ -433,9 +440,11 @@ enum Operation {
     Search,
     Grounds,
     Layered,
+    Load,
 }
 
-const OPERATIONS: [Operation; 7] = [
+/// The operations on a file. The time of a load depends on its counts alone.
+const ON_FILES: [Operation; 7] = [
     Operation::Accept,
     Operation::Run,
     Operation::Judge,
@@ -444,7 +453,7 @@ const OPERATIONS: [Operation; 7] = [
     Operation::Grounds,
     Operation::Layered,
 ];
-const COUNT: usize = OPERATIONS.len();
+const COUNT: usize = ON_FILES.len() + 1;
 
 /// Median seconds of one call.
 #[derive(Clone, Copy)]
@@ -562,7 +571,7 @@ impl Table {
 
     /// The rows of files of one size; the search is not timed where it refuses them.
     fn rows(&mut self, file: &str, subjects: &[Subject]) {
-        for operation in OPERATIONS {
+        for operation in ON_FILES {
             let searches = matches!(operation, Operation::Search);
             if !searches || subjects[0].constraint_facts <= MOST_GUESSED {
                 self.single(file, subjects, operation);
@@ -598,7 +607,8 @@ impl Table {
     }
 
     fn summary(&mut self) {
-        for operation in OPERATIONS {
+        let all = ON_FILES.into_iter().chain([Operation::Load]);
+        for operation in all.clone() {
             let logs = &self.ratios[operation as usize];
             let mean = (logs.iter().sum::<f64>() / logs.len() as f64).exp();
             let worst = logs.iter().copied().fold(f64::MIN, f64::max).exp();
@@ -607,7 +617,7 @@ impl Table {
                 "{name:<8} archive/reference: geometric mean {mean:>8.2}, worst {worst:>8.2}"
             ));
         }
-        for operation in OPERATIONS {
+        for operation in all {
             let exponents = &self.exponents[operation as usize];
             let worst = exponents.iter().copied().fold(f64::MIN, f64::max);
             let name = format!("{operation:?}").to_lowercase();
@@ -641,14 +651,20 @@ const FAMILIES: [Family; 8] = [
 /// Layered files that grow; of those above only the chains are.
 const LAYERED_FAMILIES: [Family; 2] = [("load in layers", load_in_layers), ("ranks", ranks)];
 
+/// Test loads that grow.
+const LOADS: Family = ("load", |(rules, facts)| loads::draft(START, facts, rules));
+
 type Single = (&'static str, fn() -> Draft);
 
 /// Files of one size. On those with too many constraint facts the search is not timed.
-const SINGLES: [Single; 3] = [
-    ("dense, 24 items", dense),
-    ("load, 64 facts", || test_load(64, 512)),
-    ("decoys, 24 premises", decoys),
-];
+const SINGLES: [Single; 3] =
+    [("dense, 24 items", dense), LOAD_OF_64_FACTS, ("decoys, 24 premises", decoys)];
+
+const LOAD_OF_64_FACTS: Single = ("load, 64 facts", || loads::draft(START, 64, 512));
+
+/// Test loads of one size: the least that has a rule, and one of large files.
+const SINGLE_LOADS: [Single; 2] =
+    [("load, 4 facts", || loads::draft(START, 4, 1)), LOAD_OF_64_FACTS];
 
 const WORST_SEARCHES: [Single; 3] = [
     ("pairs above odd loop", pairs_above_odd_loop),
@@ -680,11 +696,12 @@ fn measure() -> Result<Table, String> {
         Table { text: String::new(), ratios: Default::default(), exponents: Default::default() };
     table.head();
     for family in FAMILIES {
-        table.family(family, &OPERATIONS)?;
+        table.family(family, &ON_FILES)?;
     }
     for family in LAYERED_FAMILIES {
         table.family(family, &[Operation::Layered])?;
     }
+    table.family(LOADS, &[Operation::Load])?;
     for (name, file) in SINGLES {
         table.rows(name, &[agreeing(name, &file())?]);
     }
@@ -692,7 +709,8 @@ fn measure() -> Result<Table, String> {
     table.rows("mixed, files in turn", &mixed.collect::<Result<Vec<_>, String>>()?);
     let worst = WORST_SEARCHES.map(|single| (single, Operation::Search));
     let deepest = DEEPEST_GROUNDS.map(|single| (single, Operation::Grounds));
-    for ((name, file), operation) in worst.into_iter().chain(deepest) {
+    let loads = SINGLE_LOADS.map(|single| (single, Operation::Load));
+    for ((name, file), operation) in worst.into_iter().chain(deepest).chain(loads) {
         table.single(name, &[agreeing(name, &file())?], operation);
     }
     for (name, file) in layers::FILES {

@@ -23,16 +23,18 @@ mod files;
 mod large;
 #[path = "../layers.rs"]
 mod layers;
+#[path = "../loads.rs"]
+mod loads;
 #[path = "../random.rs"]
 mod random;
 #[path = "../shrink.rs"]
 mod shrink;
 
-use cases::{Case, Met, Operation, Reply, Tally, random_case};
+use cases::{Case, LENGTH_WRAPS, Load, Met, Operation, Reply, Tally, random_case};
 use directed::{all_operations, directed_cases, examples, layered_examples};
 use draft::{Draft, MOST_OWN_ITEMS, stairs};
 use random::Random;
-use reference::{RULE_NUMBER_BYTES, accept, kind};
+use reference::{LOAD_STEP, RULE_NUMBER_BYTES, accept, kind, load_bytes};
 use std::process::ExitCode;
 use std::sync::Mutex;
 use std::thread;
@@ -121,6 +123,10 @@ fn call_archive(case: &Case) -> Result<Reply, String> {
             archive::grounds(file, rules, case.asked, fact_marks, rule_marks, steps).to_vec()
         }
         (Operation::Layered, [order]) => archive::layered(file, order).to_vec(),
+        (Operation::Load, [out]) => {
+            let Load { start, facts, rules } = case.load;
+            archive::load(start, facts, rules, out).to_vec()
+        }
         _ => unreachable!("a case lends what its operation takes"),
     };
     if lent.iter().chain(&inputs).any(|fenced| !fenced.is_intact()) {
@@ -228,6 +234,53 @@ fn all_dependencies() -> Vec<Case> {
     (0..3usize.pow((FACTS * FACTS) as u32)).map(case).collect()
 }
 
+/// Loads of every count of facts and every count of rules up to two more than may be, in
+/// every length of a small buffer, and from starts of every single bit; and of counts
+/// that are too high, but not in their low bytes or not at the length of their file.
+fn all_loads() -> Vec<Case> {
+    let mut cases = Vec::new();
+    let start = |number: u32| number.wrapping_mul(LOAD_STEP) >> 1;
+    for facts in 0..=257 {
+        cases.push(Case::load(start(facts), facts, 4, load_bytes(4)));
+    }
+    for rules in 0..=514 {
+        let needed = load_bytes(rules as usize);
+        for length in [needed - 1, needed, needed + 9] {
+            cases.push(Case::load(start(rules), 1 + rules % 255, rules, length));
+        }
+    }
+    for length in 0..=load_bytes(6) {
+        cases.push(Case::load(1, 9, 5, length));
+    }
+    for bit in (0..32).map(|place| 1 << place) {
+        cases.extend([bit, !bit].map(|start| Case::load(start, 251, 7, load_bytes(7))));
+    }
+    let high = [256, 260, 65_536, 65_540, LENGTH_WRAPS, LENGTH_WRAPS + 1, 1 << 31, u32::MAX];
+    for count in high {
+        for length in [0, 1, load_bytes(1), load_bytes(512), load_bytes(513)] {
+            cases.push(Case::load(0, count, 1, length));
+            cases.push(Case::load(0, 4, count, length));
+            cases.push(Case::load(0, count, count, length));
+        }
+    }
+    cases
+}
+
+/// Loads, and all operations on the file that each writes: where the load agrees, the
+/// archive has written that file too.
+fn loads_in_use() -> Vec<Case> {
+    let sizes =
+        [(4, 1), (1, 3), (2, 6), (3, 10), (8, 16), (16, 48), (17, 64), (64, 512), (255, 512)];
+    let mut cases = Vec::new();
+    for (facts, rules) in sizes {
+        for start in [0, 1, u32::MAX] {
+            cases.push(Case::load(start, facts as u32, rules as u32, load_bytes(rules)));
+            cases.extend(all_operations(&loads::draft(start, facts, rules).bytes()));
+        }
+    }
+    cases
+}
+
 /// Every prefix and every change of one byte of the order, the list or the proof that
 /// fits a file.
 fn neighbours_beside(file: &[u8]) -> Vec<Case> {
@@ -316,6 +369,8 @@ fn purposeful_cases() -> Vec<Case> {
     let changed = layered_examples().into_iter().flat_map(|draft| with_another_item(&draft));
     cases.extend(changed.map(|draft| layered_of(&draft)));
     cases.extend(all_dependencies());
+    cases.extend(all_loads());
+    cases.extend(loads_in_use());
     for file in large_files() {
         cases.extend(all_operations(&file));
     }
@@ -403,7 +458,9 @@ fn report_difference(number: usize, case: Case) {
     println!("DIFFERENCE in case {number}, {:?}; shrinking", case.operation);
     let case = shrink::shrink(case, |case| compare(case).is_err());
     println!("{:?}", case.operation);
-    println!("file     {}", hex(&case.file));
+    if case.operation.reads_a_file() {
+        println!("file     {}", hex(&case.file));
+    }
     match case.operation {
         Operation::Run => println!("order    {}", hex(&case.rules)),
         Operation::Judge => {
@@ -415,6 +472,10 @@ fn report_difference(number: usize, case: Case) {
         }
         Operation::Grounds => {
             println!("order    {}\nfact     {}", hex(&case.rules), case.asked);
+        }
+        Operation::Load => {
+            let Load { start, facts, rules } = case.load;
+            println!("start    {start}\nfacts    {facts}\nrules    {rules}");
         }
         _ => {}
     }

@@ -1,11 +1,13 @@
-//! Runs the program `grounds` and compares what it writes to standard output and
-//! to standard error with the text of the reference.
+//! Runs the programs `grounds` and `load` and compares what they write to standard
+//! output and to standard error with what the reference says. What `load` writes is
+//! piped into the program `panel` too, whose text must be the reference's.
 //!
-//! programs <grounds> <file>..
+//! programs <grounds> <load> <panel> <file>..
 //!
-//! It is asked for every fact of the files, and for some numbers past them; of
+//! `grounds` is asked for every fact of the files, and for some numbers past them; of
 //! files made on purpose; with words that name no fact; and with input that comes
-//! in pieces, is too long, or cannot be read.
+//! in pieces, is too long, or cannot be read. `load` is asked for counts at their limits
+//! and past them, and with words that are no three numbers.
 
 #[path = "../draft.rs"]
 mod draft;
@@ -13,7 +15,7 @@ mod draft;
 mod large;
 
 use draft::{Draft, MOST_OWN_ITEMS, chain, stairs};
-use reference::{fact_in_words, grounds_text};
+use reference::{grounds_text, load_output, numbers_in_words};
 use std::ffi::OsStr;
 use std::fs::File;
 use std::io::{ErrorKind, Write};
@@ -28,8 +30,65 @@ use std::time::Duration;
 const LONGEST: usize = 32_767;
 /// Between two pieces of input, so that a read ends with the first.
 const PAUSE: Duration = Duration::from_millis(20);
-/// How the line begins that says which words the program takes.
-const USAGE: &str = "usage: grounds FACT";
+
+/// What a program is to write to standard output and to standard error.
+struct Written {
+    output: Vec<u8>,
+    said: Said,
+}
+
+/// What stands on standard error.
+enum Said {
+    Nothing,
+    /// One line that says which words the program takes.
+    Usage,
+    /// The line of a refusal.
+    Line(String),
+}
+
+impl Written {
+    fn output(output: Vec<u8>) -> Written {
+        Written { output, said: Said::Nothing }
+    }
+
+    fn said(said: Said) -> Written {
+        Written { output: vec![], said }
+    }
+}
+
+/// A program under comparison.
+struct Program<'p> {
+    path: &'p str,
+    /// How its line of usage begins.
+    usage: &'static str,
+    /// What it is to write, by its words and its input.
+    expected: fn(&[&[u8]], &Input) -> Written,
+}
+
+fn grounds(path: &str) -> Program<'_> {
+    let expected = |words: &[&[u8]], input: &Input| match (numbers_in_words(words), input.bytes()) {
+        (None, _) => Written::said(Said::Usage),
+        (Some([_]), None) => Written::output(vec![]),
+        (Some([fact]), Some(file)) => Written::output(grounds_text(&file, fact).into_bytes()),
+    };
+    Program { path, usage: "usage: grounds FACT", expected }
+}
+
+/// The load reads no input.
+fn load(path: &str) -> Program<'_> {
+    let expected = |words: &[&[u8]], _: &Input| match loaded(words) {
+        None => Written::said(Said::Usage),
+        Some(Ok(file)) => Written::output(file),
+        Some(Err(line)) => Written::said(Said::Line(line)),
+    };
+    Program { path, usage: "usage: load START FACTS RULES", expected }
+}
+
+/// The file of a load, or the line of its refusal, if the words are its numbers.
+fn loaded(words: &[&[u8]]) -> Option<Result<Vec<u8>, String>> {
+    let [start, facts, rules] = numbers_in_words(words)?;
+    Some(load_output(start, facts, rules))
+}
 
 /// What stands behind the program's standard input.
 #[derive(Clone)]
@@ -75,34 +134,68 @@ impl Trial {
         Trial { name, words, input }
     }
 
-    /// What it is to write to standard output, and whether it is to say its usage.
-    fn expected(&self) -> (String, bool) {
-        let words: Vec<&[u8]> = self.words.iter().map(Vec::as_slice).collect();
-        match (fact_in_words(&words), self.input.bytes()) {
-            (None, _) => (String::new(), true),
-            (Some(_), None) => (String::new(), false),
-            (Some(fact), Some(file)) => (grounds_text(&file, fact), false),
-        }
+    fn words(&self) -> Vec<&[u8]> {
+        self.words.iter().map(Vec::as_slice).collect()
     }
 
-    fn passes(&self, program: &str) -> Result<(), String> {
-        let output = self.call(program).map_err(|error| format!("{}: {error}", self.name))?;
-        let (text, usage) = self.expected();
+    fn passes(&self, program: &Program) -> Result<(), String> {
+        let output = self.call(program.path).map_err(|error| format!("{}: {error}", self.name))?;
+        let expected = (program.expected)(&self.words(), &self.input);
         let said = String::from_utf8_lossy(&output.stderr);
         let one_line = said.find('\n') == Some(said.len().wrapping_sub(1));
-        let said_right =
-            if usage { one_line && said.starts_with(USAGE) } else { output.stderr.is_empty() };
+        let said_right = match &expected.said {
+            Said::Nothing => output.stderr.is_empty(),
+            Said::Usage => one_line && said.starts_with(program.usage),
+            Said::Line(line) => output.stderr == line.as_bytes(),
+        };
         let ended = output.status.code().is_some();
-        if ended && said_right && output.stdout == text.as_bytes() {
+        if ended && said_right && output.stdout == expected.output {
+            return Ok(());
+        }
+        Err(format!(
+            "{}: {}, wrote {:?} and to standard error {said:?}\nexpected {:?} and {}",
+            self.name,
+            output.status,
+            String::from_utf8_lossy(&output.stdout),
+            String::from_utf8_lossy(&expected.output),
+            match &expected.said {
+                Said::Nothing => "nothing",
+                Said::Usage => "one line of usage",
+                Said::Line(line) => line.trim_end(),
+            },
+        ))
+    }
+
+    /// The panel's text for what the load writes; where that is nothing, it is the text of
+    /// an empty file.
+    fn passes_into(&self, load: &Program, panel: &str) -> Result<(), String> {
+        let failed = |error: std::io::Error| format!("{} into the panel: {error}", self.name);
+        let output = self.call_into(load.path, panel).map_err(failed)?;
+        let file = (load.expected)(&self.words(), &self.input).output;
+        let text = reference::panel(&file);
+        if output.stdout == text.as_bytes() && output.stderr.is_empty() {
             return Ok(());
         }
         let wrote = String::from_utf8_lossy(&output.stdout);
+        let said = String::from_utf8_lossy(&output.stderr);
         Err(format!(
-            "{}: {}, wrote {wrote:?} and to standard error {said:?}\nexpected {text:?} and {}",
-            self.name,
-            output.status,
-            if usage { "one line of usage" } else { "nothing" },
+            "{} into the panel: wrote {wrote:?} and to standard error {said:?}\nexpected {text:?}",
+            self.name
         ))
+    }
+
+    /// What the second program writes, whose input is the output of the first.
+    fn call_into(&self, first: &str, second: &str) -> std::io::Result<Output> {
+        let mut command = Command::new(first);
+        command.args(self.words.iter().map(|word| OsStr::from_bytes(word)));
+        command.stdin(Stdio::null()).stdout(Stdio::piped()).stderr(Stdio::null());
+        let mut writer = command.spawn()?;
+        let pipe = writer.stdout.take().expect("it was asked for");
+        let mut command = Command::new(second);
+        command.stdin(pipe).stdout(Stdio::piped()).stderr(Stdio::piped());
+        let output = command.spawn()?.wait_with_output();
+        writer.wait()?;
+        output
     }
 
     fn call(&self, program: &str) -> std::io::Result<Output> {
@@ -261,6 +354,9 @@ const WORDS: &str = "|0|1|2|01|10|+1|-1| 1|1 |1\n|0x1|1.0|1,0|1a|a|\u{661}|-|--|
     00000000000|0000000001|00000000001|1000000000|10000000000|4294967295|4294967296|4294967297|\
     8589934593|9999999999";
 
+/// Words that are not text.
+const OTHER_WORDS: [&[u8]; 3] = [b"\xFF", b"1\xFF", b"\xC3\x28"];
+
 /// Words before a file of which facts 0 and 1 are derived.
 fn trials_of_words(file: &[u8]) -> Vec<Trial> {
     let long = "1".repeat(300);
@@ -270,7 +366,7 @@ fn trials_of_words(file: &[u8]) -> Vec<Trial> {
     let trial =
         |words: Vec<&str>| Trial::new(format!("words {words:?}"), &words, Input::whole(file));
     let mut trials: Vec<Trial> = single.chain(other).map(trial).collect();
-    for word in [&b"\xFF"[..], b"1\xFF", b"\xC3\x28"] {
+    for word in OTHER_WORDS {
         let words = vec![word.to_vec()];
         trials.push(Trial { name: format!("word {word:?}"), words, input: Input::whole(file) });
     }
@@ -303,7 +399,94 @@ fn trials_of_input(file: &[u8]) -> Vec<Trial> {
         .collect()
 }
 
-fn trials(paths: &[String]) -> Result<Vec<Trial>, String> {
+/// Loads of counts at their limits and past them, some of which would pass in their low
+/// bytes.
+fn trials_of_counts() -> Vec<Trial> {
+    let mut trials = Vec::new();
+    for start in [0, 1, 1 << 31, u32::MAX] {
+        for facts in [0, 1, 2, 4, 255, 256, 260, u32::MAX] {
+            for rules in [0, 1, 2, 3, 4, 511, 512, 513, 65_537, u32::MAX] {
+                let words = [start, facts, rules].map(|number| number.to_string());
+                let words = words.each_ref().map(String::as_str);
+                trials.push(Trial::new(format!("load {words:?}"), &words, Input::whole(&[])));
+            }
+        }
+    }
+    trials
+}
+
+/// Words of a load: each single word in each of the three places, and other counts of
+/// words.
+fn trials_of_load_words() -> Vec<Trial> {
+    let long = "1".repeat(300);
+    let right = ["0", "4", "1"];
+    let more = "3|4|04|0000000004|00000000004|254|255|256|0000000255|511|512|513|0000000512";
+    let mut rows: Vec<Vec<Vec<u8>>> = Vec::new();
+    for place in 0..right.len() {
+        let single = WORDS.split('|').chain(more.split('|')).chain([&long[..]]).map(str::as_bytes);
+        for word in single.chain(OTHER_WORDS) {
+            let mut words = right.map(|word| word.as_bytes().to_vec());
+            words[place] = word.to_vec();
+            rows.push(words.to_vec());
+        }
+    }
+    let other: [&[&str]; 17] = [
+        &[],
+        &[""],
+        &["0"],
+        &["0 4 1"],
+        &["0,4,1"],
+        &["-h"],
+        &["0", "4"],
+        &["0 4", "1"],
+        &["0", "4 1"],
+        &["", ""],
+        &["", "", ""],
+        &["0", "4", "1", "1"],
+        &["0", "4", "1", ""],
+        &["", "0", "4", "1"],
+        &["load", "0", "4", "1"],
+        &["0", "256", "513", "x"],
+        &["0"; 9],
+    ];
+    rows.extend(other.map(|words| words.iter().map(|word| word.as_bytes().to_vec()).collect()));
+    let trial = |words: Vec<Vec<u8>>| {
+        let text: Vec<_> = words.iter().map(|word| String::from_utf8_lossy(word)).collect();
+        Trial {
+            name: format!("load words {text:?}"),
+            words: words.clone(),
+            input: Input::whole(&[]),
+        }
+    };
+    rows.into_iter().map(trial).collect()
+}
+
+/// Input that a load does not read.
+fn trials_of_load_input() -> Vec<Trial> {
+    let inputs = [
+        ("an input", Input::whole(&example_a())),
+        ("more than a pipe holds", Input::whole(&vec![0x10; 1_000_000])),
+        ("a read that fails", Input::Directory),
+        ("closed", Input::Closed),
+    ];
+    let mut trials = Vec::new();
+    for (name, input) in inputs {
+        for words in [["0", "4", "1"], ["0", "255", "512"], ["0", "0", "1"], ["0", "x", "1"]] {
+            let name = format!("load {words:?}, {name}");
+            trials.push(Trial::new(name, &words, input.clone()));
+        }
+    }
+    trials
+}
+
+fn trials_of_loads() -> Vec<Trial> {
+    let mut trials = trials_of_counts();
+    trials.extend(trials_of_load_words());
+    trials.extend(trials_of_load_input());
+    trials
+}
+
+fn trials_of_grounds(paths: &[String]) -> Result<Vec<Trial>, String> {
     let mut trials = Vec::new();
     for path in paths {
         let file = std::fs::read(path).map_err(|error| format!("{path}: {error}"))?;
@@ -318,22 +501,29 @@ fn trials(paths: &[String]) -> Result<Vec<Trial>, String> {
     Ok(trials)
 }
 
-fn run(program: &str, paths: &[String]) -> Result<(), String> {
-    let trials = trials(paths)?;
-    for trial in &trials {
-        trial.passes(program)?;
-    }
-    println!("{} calls of {program} agree", trials.len());
+fn run_all(program: &Program, trials: &[Trial]) -> Result<(), String> {
+    trials.iter().try_for_each(|trial| trial.passes(program))?;
+    println!("{} calls of {} agree", trials.len(), program.path);
+    Ok(())
+}
+
+fn run([grounds_path, load_path, panel]: [&str; 3], paths: &[String]) -> Result<(), String> {
+    run_all(&grounds(grounds_path), &trials_of_grounds(paths)?)?;
+    let load = load(load_path);
+    run_all(&load, &trials_of_loads())?;
+    let counts = trials_of_counts();
+    counts.iter().try_for_each(|trial| trial.passes_into(&load, panel))?;
+    println!("{} calls of {load_path} into {panel} agree", counts.len());
     Ok(())
 }
 
 fn main() -> ExitCode {
     let arguments: Vec<String> = std::env::args().skip(1).collect();
-    let [program, paths @ ..] = &arguments[..] else {
-        eprintln!("usage: programs <grounds> <file>..");
+    let [grounds, load, panel, paths @ ..] = &arguments[..] else {
+        eprintln!("usage: programs <grounds> <load> <panel> <file>..");
         return ExitCode::FAILURE;
     };
-    match run(program, paths) {
+    match run([grounds, load, panel], paths) {
         Ok(()) => ExitCode::SUCCESS,
         Err(message) => {
             println!("FAIL: {message}");

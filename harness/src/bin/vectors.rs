@@ -16,11 +16,11 @@
 //!   high half and its low half; the lengths of the four buffers; and the reply in
 //!   the order of the C structure, without the zeros at its end;
 //! - its name, or nothing;
-//! - the file;
+//! - the file; of a load its start, facts and rules, each four bytes, high byte first;
 //! - two more inputs, in the order of the operation's parameters;
 //! - what is expected of the four buffers: the bytes up to the last that differs
-//!   from the byte before the call. A panel's text is in the first, and an order by
-//!   ranks in the last, where the search has its order.
+//!   from the byte before the call. A panel's text and a load's file are in the first,
+//!   and an order by ranks in the last, where the search has its order.
 //!
 //! After the last case stands an empty row, then the name of each operation.
 
@@ -40,12 +40,14 @@ mod large;
 mod layers;
 #[path = "../list.rs"]
 mod list;
+#[path = "../loads.rs"]
+mod loads;
 #[path = "../notation.rs"]
 mod notation;
 #[path = "../random.rs"]
 mod random;
 
-use cases::{Case, Operation, Reply, Tally, random_case};
+use cases::{Case, Load, Operation, Reply, Tally, random_case};
 use directed::{all_operations, directed_cases, examples};
 use list::List;
 use random::Random;
@@ -76,10 +78,20 @@ fn put_numbers(out: &mut Vec<u8>, numbers: &[u32]) {
     put_row(out, &numbers.iter().flat_map(two_bytes).collect::<Vec<u8>>());
 }
 
+/// What stands in the place of the file.
+fn file_row(case: &Case) -> Vec<u8> {
+    if case.operation.reads_a_file() {
+        return case.file.clone();
+    }
+    let Load { start, facts, rules } = case.load;
+    [start, facts, rules].iter().flat_map(|number| number.to_be_bytes()).collect()
+}
+
 /// The inputs after the file.
 fn inputs(case: &Case) -> [&[u8]; 2] {
     match case.operation {
-        Operation::Accept | Operation::Search | Operation::Panel | Operation::Layered => [&[], &[]],
+        Operation::Accept | Operation::Search | Operation::Panel => [&[], &[]],
+        Operation::Layered | Operation::Load => [&[], &[]],
         Operation::Run | Operation::AskOrder | Operation::AskList | Operation::Grounds => {
             [&case.rules, &[]]
         }
@@ -102,11 +114,10 @@ fn without_end<T: PartialEq>(row: &[T], value: T) -> &[T] {
     &row[..kept]
 }
 
-/// The rows of a case; its file is left out where it is that of the case before.
-fn vector(name: &str, case: &Case, fill: u8, expected: &Reply, file_before: &[u8]) -> Vec<u8> {
+/// The rows of a case; there is no file where it is that of the case before.
+fn vector(name: &str, case: &Case, fill: u8, expected: &Reply, file: Option<&[u8]>) -> Vec<u8> {
     assert!(case.lent.iter().all(|&length| length <= MOST_LENT), "{name}: too much is lent");
-    let same_file = case.file == file_before;
-    let mut numbers = vec![case.operation as u32 + 1, u32::from(same_file), u32::from(fill)];
+    let mut numbers = vec![case.operation as u32 + 1, u32::from(file.is_none()), u32::from(fill)];
     numbers.extend([case.asked >> 16, case.asked & 0xFFFF]);
     let lengths = in_places(case.operation, &case.lent);
     numbers.extend(lengths.map(|length| length.map_or(0, |&length| length as u32)));
@@ -114,7 +125,7 @@ fn vector(name: &str, case: &Case, fill: u8, expected: &Reply, file_before: &[u8
     let mut out = Vec::new();
     put_numbers(&mut out, &numbers);
     put_row(&mut out, name.as_bytes());
-    put_row(&mut out, if same_file { &[] } else { &case.file });
+    put_row(&mut out, file.unwrap_or_default());
     inputs(case).iter().for_each(|input| put_row(&mut out, input));
     for buffer in in_places(case.operation, &expected.buffers) {
         put_row(&mut out, without_end(buffer.map_or(&[][..], Vec::as_slice), fill));
@@ -135,8 +146,10 @@ struct Vectors {
 impl Vectors {
     fn put(&mut self, name: &str, case: &Case, fill: u8, expected: &Reply) {
         self.tally.count(case.operation, case.met(expected));
-        self.bytes.extend(vector(name, case, fill, expected, &self.file));
-        self.file.clone_from(&case.file);
+        let file = file_row(case);
+        let other_file = (file != self.file).then_some(&file[..]);
+        self.bytes.extend(vector(name, case, fill, expected, other_file));
+        self.file = file;
         self.count += 1;
     }
 

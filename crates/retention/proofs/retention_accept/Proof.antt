@@ -1,6 +1,6 @@
 -- `retention_accept`: what `accept` answers, as a reply.
 use mathlib.Core.Path.{ap, _∙_}
-use Rattle.retention.specs.Reply.{fileOf}
+use Rattle.replies.specs.Reply.{fileOf}
 use borrow.Author.Needs.{needs}
 use Rattle.retention.proofs.retention_accept.Statement.{statement}
 use Rattle.retention.proofs.retention_accept.Tie as tie

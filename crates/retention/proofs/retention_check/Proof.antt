@@ -1,6 +1,6 @@
 -- `retention_check`: what `check` answers, as a reply.
 use mathlib.Core.Path.{ap, _∙_}
-use Rattle.retention.specs.Reply.{verdictOfChecked}
+use Rattle.replies.specs.Reply.{verdictOfChecked}
 use borrow.Author.Needs.{needs}
 use Rattle.retention.proofs.retention_check.Statement.{statement}
 use Rattle.retention.proofs.retention_check.Tie as tie

@@ -1,5 +1,5 @@
 -- `retention_grounds`: the answer as a reply, and the buffers.
-use Rattle.retention.proofs.Replied.{grounds-replied}
+use Rattle.replies.proofs.Replied.{grounds-replied}
 use borrow.Author.Needs.{needs}
 use Rattle.retention.proofs.retention_grounds.Statement.{statement}
 use Rattle.retention.proofs.retention_grounds.Tie as tie

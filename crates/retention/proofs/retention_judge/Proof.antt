@@ -1,6 +1,6 @@
 -- `retention_judge`: what `judge` answers, as a reply.
 use mathlib.Core.Path.{ap, _∙_}
-use Rattle.retention.specs.Reply.{verdictOfJudged}
+use Rattle.replies.specs.Reply.{verdictOfJudged}
 use borrow.Author.Needs.{needs}
 use Rattle.retention.proofs.retention_judge.Statement.{statement}
 use Rattle.retention.proofs.retention_judge.Tie as tie

@@ -1,5 +1,5 @@
 -- `retention_layered`: the answer as a reply, and the buffer.
-use Rattle.retention.proofs.Replied.{layered-replied}
+use Rattle.replies.proofs.Replied.{layered-replied}
 use borrow.Author.Needs.{needs}
 use Rattle.retention.proofs.retention_layered.Statement.{statement}
 use Rattle.retention.proofs.retention_layered.Tie as tie

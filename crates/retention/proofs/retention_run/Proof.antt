@@ -1,5 +1,5 @@
 -- `retention_run`: the run's answer as a reply, and its buffers.
-use Rattle.retention.proofs.Replied.{run-replied}
+use Rattle.replies.proofs.Replied.{run-replied}
 use borrow.Author.Needs.{needs}
 use Rattle.retention.proofs.retention_run.Statement.{statement}
 use Rattle.retention.proofs.retention_run.Tie as tie

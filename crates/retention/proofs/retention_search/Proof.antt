@@ -1,5 +1,5 @@
 -- `retention_search`: the search's answer as a reply, and its buffers.
-use Rattle.retention.proofs.Replied.{search-replied}
+use Rattle.replies.proofs.Replied.{search-replied}
 use borrow.Author.Needs.{needs}
 use Rattle.retention.proofs.retention_search.Statement.{statement}
 use Rattle.retention.proofs.retention_search.Tie as tie

@@ -1,0 +1,5 @@
+pub mod Sums
+pub mod Quotients
+pub mod LoadRead
+pub mod RulesPlaced
+pub mod LoadAnswers
