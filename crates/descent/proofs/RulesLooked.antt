@@ -97,6 +97,22 @@ module _ {P : Program} {seen stack roots todo ranks : List ℕ} {n m at f : ℕ}
           let same : seenOf seen′ g ≡ seenOf seen g = placed-other g (λ q. omega arith) in
           k .none-between b g l h (omega (arith, o .openers b l)) (omega arith)
 
+-- Another fact may be looked at, where no rule is left of the facts behind it.
+pub looked-elsewhere : {P : Program} {seen stack roots todo ranks : List ℕ} {n m at : ℕ} → Looked P seen stack roots todo ranks n m at → (to : ℕ) → ((f : ℕ) → f < P .facts → seenOf seen f < maxFacts narrow → to < seenOf seen f → getD todo f 0 ≡ threadEnd) → Looked P seen stack roots todo ranks n m to
+looked-elsewhere k to none-behind =
+    record {
+      bounds = k .bounds;
+      few-rules = k .few-rules;
+      known = k .known;
+      premises = k .premises;
+      constraints = k .constraints;
+      none-yet = k .none-yet;
+      none-behind = none-behind;
+      none-between = k .none-between;
+      few-ranks = k .few-ranks;
+      closed-fewer = k .closed-fewer;
+    }
+
 -- A fact with no rule left is left for the one that opened it.
 module _ {P : Program} {seen stack roots todo ranks : List ℕ} {n m at : ℕ} (w : Walking P seen stack roots n m) (inside : at < n) (k : Looked P seen stack roots todo ranks n m at) (done : getD todo (factAt stack at) 0 ≡ threadEnd) where
   -- so has every fact at that place or behind it
@@ -108,18 +124,9 @@ module _ {P : Program} {seen stack roots todo ranks : List ℕ} {n m at : ℕ} (
 
   pub looked-left : Looked P seen stack roots todo ranks n m (openerAt stack at)
   looked-left =
-      record {
-        bounds = k .bounds;
-        few-rules = k .few-rules;
-        known = k .known;
-        premises = k .premises;
-        constraints = k .constraints;
-        none-yet = k .none-yet;
-        none-behind = λ f l is-open behind. ⊎-elim (λ e. k .none-between at f inside l behind (ltb-true _ _ e)) (λ e. none-left f l is-open (ltb-false _ _ e)) (either (ltb (seenOf seen f) at));
-        none-between = k .none-between;
-        few-ranks = k .few-ranks;
-        closed-fewer = k .closed-fewer;
-      }
+      looked-elsewhere k (openerAt stack at)
+      (λ f l is-open behind.
+      ⊎-elim (λ e. k .none-between at f inside l behind (ltb-true _ _ e)) (λ e. none-left f l is-open (ltb-false _ _ e)) (either (ltb (seenOf seen f) at)))
 
   -- The last component is closed.
   module _ (here : Current roots n m at) (some-root : 0 < m) (last : rootPlace roots (m - 1) ≡ at) {seen′ ranks′ : List ℕ} (c : ClosedFrom stack at n seen ranks seen′ ranks′) where

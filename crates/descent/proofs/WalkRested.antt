@@ -22,7 +22,7 @@ use Rattle.components.specs.Open.{unmet, closed, seenOf, Walking, Current, MayO
 use Rattle.descent.specs.declared.walk.Standing.{Standing}
 use Rattle.descent.specs.Standing.{WasLooked, Looked, StaysMet, Stands, Rests, RanksFound}
 use Rattle.descent.proofs.ThreadsBegun.{threads-begin, none-before}
-use Rattle.descent.proofs.RulesLooked.{same-or, opened-met, looked-opened}
+use Rattle.descent.proofs.RulesLooked.{same-or, opened-met, looked-opened, looked-elsewhere}
 
 -- Nothing was met at first.
 none-met : (P : Program) (seen stack roots : List ℕ) → P .facts < maxFacts narrow → seen ≡ replicate (maxFacts narrow) unmet → length stack ≡ maxFacts narrow → length roots ≡ maxFacts narrow → Walking P seen stack roots 0 0
@@ -127,20 +127,7 @@ rested {P} {seen} {stack} {roots} {todo} {next} {ranks} {s} w h =
     }
   where
     looked-none : Looked P seen stack roots todo ranks (s .height) (s .roots) 0
-    looked-none =
-        let k = w .looked in
-        record {
-          bounds = k .bounds;
-          few-rules = k .few-rules;
-          known = k .known;
-          premises = k .premises;
-          constraints = k .constraints;
-          none-yet = k .none-yet;
-          none-behind = λ f l is-open. absurd (omega (arith, w .walking .place-there f l is-open .0));
-          none-between = k .none-between;
-          few-ranks = k .few-ranks;
-          closed-fewer = k .closed-fewer;
-        }
+    looked-none = looked-elsewhere (w .looked) 0 (λ f l is-open behind. absurd (omega (arith, w .walking .place-there f l is-open .0)))
 
     none-open : s .height ≡ 0
     none-open = omega arith

@@ -5,6 +5,8 @@ use native.Mathlib.Nat.{mul-comm, mul-assoc, mul-add, mul-one, add-mul, mul-le-m
 use mathlib.Core.Path.{_≡_, sym, ap, _∙_}
 use Rattle.generator.specs.Draws.{states, divisor, taken}
 use Rattle.generator.specs.Outcome.{mostFacts}
+use Rattle.generator.specs.declared.draw.Modulus.{Modulus}
+use Rattle.generator.specs.Drawing.{Divides}
 
 -- The product, by the quotients and the remainders of both: x is n q + r, and s is n w + t.
 product : (x n q r w s t : ℕ) → n * q + r ≡ x → n * w + t ≡ s → x * (w + 1) + q * t ≡ q * s + (r * w + x)
@@ -32,31 +34,34 @@ module _ (x n : ℕ) (small : x < divisor) (some : 0 < n) (few : n ≤ mostFacts
       omega (arith, wide, div-add-mod states n)
 
 -- What a draw takes, by the product; x is the high half of the state.
-module _ (state n inverse : ℕ) (fits : state < states) (some : 0 < n) (few : n ≤ mostFacts) (e : inverse ≡ states / n + 1) where
+module _ (state : ℕ) (by : Modulus) (fits : state < states) (d : Divides by) where
   abbrev x : ℕ
   x = state / divisor
+
+  abbrev n : ℕ
+  n = by .facts
 
   small : x < divisor
   small = omega arith
 
-  pub product-fits : x * inverse < states * states
+  pub product-fits : x * by .inverse < states * states
   product-fits =
-      let few-times : x * inverse ≤ divisor * (states + 1) = mul-le-mul {n₁ = x} {m₁ = inverse} {n₂ = divisor} {m₂ = states + 1} (omega (arith, small)) (omega (arith, e, div-le-self states n)) in
+      let few-times : x * by .inverse ≤ divisor * (states + 1) = mul-le-mul {n₁ = x} {m₁ = by .inverse} {n₂ = divisor} {m₂ = states + 1} (omega (arith, small)) (omega (arith, d .inverse, div-le-self states n)) in
       omega arith
 
-  pub quotient-is : x * inverse / states ≡ x / n
-  quotient-is = rw e (quotient x n small some few)
+  pub quotient-is : x * by .inverse / states ≡ x / n
+  quotient-is = rw (d .inverse) (quotient x n small (d .some) (d .few))
 
-  pub quotient-small : x * inverse / states ≤ x
+  pub quotient-small : x * by .inverse / states ≤ x
   quotient-small = omega (arith, quotient-is, div-le-self x n)
 
-  pub back-below : x * inverse / states * n ≤ x
+  pub back-below : x * by .inverse / states * n ≤ x
   back-below = rw quotient-is (div-mul-le-self x n)
 
-  pub takes : x - x * inverse / states * n ≡ taken n state
+  pub takes : x - x * by .inverse / states * n ≡ taken n state
   unfolding taken
   takes = rw quotient-is (sym (mod-eq-sub-div-mul x n))
 
-  pub takes-below : x - x * inverse / states * n < n
+  pub takes-below : x - x * by .inverse / states * n < n
   unfolding taken
-  takes-below = rw takes (mod-lt x some)
+  takes-below = rw takes (mod-lt x (d .some))

@@ -9,22 +9,22 @@ cast-quotient : tie.Need-cast-quotient
 cast-quotient c = search needs
 
 mul-quotient : tie.Need-mul-quotient
-mul-quotient c = omega (arith, product-fits (c .args .state) (c .args .by .facts) (c .args .by .inverse) (omega arith) (c .pre .some) (c .pre .few) (c .pre .inverse))
+mul-quotient c = omega (arith, product-fits (c .args .state) (c .args .by) (omega arith) (c .pre))
 
 cast-quotient-2 : tie.Need-cast-quotient-2
-cast-quotient-2 c = omega (arith, quotient-small (c .args .state) (c .args .by .facts) (c .args .by .inverse) (omega arith) (c .pre .some) (c .pre .few) (c .pre .inverse))
+cast-quotient-2 c = omega (arith, quotient-small (c .args .state) (c .args .by) (omega arith) (c .pre))
 
 mul-result : tie.Need-mul-result
-mul-result c = omega (arith, back-below (c .args .state) (c .args .by .facts) (c .args .by .inverse) (omega arith) (c .pre .some) (c .pre .few) (c .pre .inverse))
+mul-result c = omega (arith, back-below (c .args .state) (c .args .by) (omega arith) (c .pre))
 
 sub-result : tie.Need-sub-result
-sub-result c = back-below (c .args .state) (c .args .by .facts) (c .args .by .inverse) (omega arith) (c .pre .some) (c .pre .few) (c .pre .inverse)
+sub-result c = back-below (c .args .state) (c .args .by) (omega arith) (c .pre)
 
 cast-result : tie.Need-cast-result
 cast-result c = search needs
 
 returns : tie.Need-returns
-returns c = (takes (c .args .state) (c .args .by .facts) (c .args .by .inverse) (omega arith) (c .pre .some) (c .pre .few) (c .pre .inverse), takes-below (c .args .state) (c .args .by .facts) (c .args .by .inverse) (omega arith) (c .pre .some) (c .pre .few) (c .pre .inverse))
+returns c = (takes (c .args .state) (c .args .by) (omega arith) (c .pre), takes-below (c .args .state) (c .args .by) (omega arith) (c .pre))
 
 pub fact-of-spec : {M : Type 1} → statement M
 fact-of-spec =
