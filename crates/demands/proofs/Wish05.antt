@@ -30,7 +30,8 @@ use Rattle.generator.specs.Draws.{stateAfter, taken}
 use Rattle.generator.specs.Load.{ruleItems, loadBytes, ruleDrawn, loadProgram}
 use Rattle.generator.specs.Outcome.{LoadOutcome, loadOutcome, loadWritten, number, count, fileIn}
 use Rattle.generator.proofs.Sums.{state-sum}
-use Rattle.generator.proofs.LoadRead.{draw-below, load-length, load-accepted, program-back}
+use Rattle.generator.proofs.Quotients.{draw-below}
+use Rattle.generator.proofs.LoadRead.{load-length, load-accepted, program-back}
 use Rattle.generator.proofs.LoadAnswers.{AllYesses, all-yes, load-is, no-facts, too-many-facts, too-many-rules, too-short, passed, no-refusal, file-is}
 use Rattle.demands.specs.Starred.{factRoom, ruleRoom, stepRoom}
 use Rattle.demands.specs.Wish05.{Outside, LoadIs, LoadExample, Wish05}

@@ -1,7 +1,6 @@
 -- What was drawn is read back: a load is accepted, and it is the program that was drawn.
 use Prim.Native.Nat.{ℕ, suc, _+_, _*_, _%_, _<_, _≤_}
 use native.Mathlib.Omega.{arith}
-use native.Mathlib.Nat.{mod-lt}
 use mathlib.Core.Path.{_≡_, refl, ap, _∙_}
 use mathlib.Core.Bool.{Bool, true, false, cond}
 use mathlib.Core.List.{List, [], _∷_, _++_, map, append-assoc}
@@ -23,14 +22,9 @@ use Rattle.cursors.specs.Cursor.{item, itemsAt, fileStart}
 use Rattle.cursors.proofs.ReadBack.{InRow, read-back}
 use Rattle.reader.specs.Scanning.{seen}
 use Rattle.reader.specs.Questions.{ownFacts, rulesOf, bodyQuestions, fileQuestions, programOf, fileNo}
-use Rattle.generator.specs.Draws.{taken, draw}
 use Rattle.generator.specs.Load.{conclusionOf, firstOf, secondOf, ruleItems, itemsOf, loadItems, loadBytes, ruleDrawn, loadProgram}
 use Rattle.generator.specs.Outcome.{loadLength}
-
--- What a draw takes is a fact.
-pub draw-below : (start n : ℕ) → 0 < n → (k : ℕ) → draw start n k < n
-unfolding taken
-draw-below start n some k = mod-lt _ some
+use Rattle.generator.proofs.Quotients.{draw-below}
 
 -- The two items behind a rule's conclusion, where two tests tell whose turn it is.
 abbrev pub two : Bool → Bool → ℕ → ℕ → List Item

@@ -1,9 +1,9 @@
--- A division by a small number as a product: with the factor 2^32 / n + 1 the quotient of a number below 65,536 stands above 2^32.
+-- What a draw takes. A division by a small number is a product: with the factor 2^32 / n + 1 the quotient of a number below 65,536 stands above 2^32.
 use Prim.Native.Nat.{ℕ, _+_, _-_, _*_, _/_, _%_, _<_, _≤_}
 use native.Mathlib.Omega.{arith}
 use native.Mathlib.Nat.{mul-comm, mul-assoc, mul-add, mul-one, add-mul, mul-le-mul, mul-le-mul-left, mul-le-mul-right, div-add-mod, mod-lt, mod-eq-sub-div-mul, div-mul-le-self, div-le-self, le-div-iff-mul-le}
 use mathlib.Core.Path.{_≡_, sym, ap, _∙_}
-use Rattle.generator.specs.Draws.{states, divisor, taken}
+use Rattle.generator.specs.Draws.{states, divisor, taken, draw}
 use Rattle.generator.specs.Outcome.{mostFacts}
 use Rattle.generator.specs.declared.draw.Modulus.{Modulus}
 use Rattle.generator.specs.Drawing.{Divides}
@@ -33,7 +33,7 @@ module _ (x n : ℕ) (small : x < divisor) (some : 0 < n) (few : n ≤ mostFacts
       let one : (x % n + 1) * (states / n) ≡ x % n * (states / n) + 1 * (states / n) = add-mul (x % n) 1 (states / n) in
       omega (arith, wide, div-add-mod states n)
 
--- What a draw takes, by the product; x is the high half of the state.
+-- What is taken of a state, by the product; x is its high half.
 module _ (state : ℕ) (by : Modulus) (fits : state < states) (d : Divides by) where
   abbrev x : ℕ
   x = state / divisor
@@ -65,3 +65,8 @@ module _ (state : ℕ) (by : Modulus) (fits : state < states) (d : Divides by) w
   pub takes-below : x - x * by .inverse / states * n < n
   unfolding taken
   takes-below = rw takes (mod-lt x (d .some))
+
+-- What a draw takes is a fact.
+pub draw-below : (start n : ℕ) → 0 < n → (k : ℕ) → draw start n k < n
+unfolding taken
+draw-below start n some k = mod-lt _ some

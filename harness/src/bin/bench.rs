@@ -592,7 +592,7 @@ impl Table {
         let TimesRow { now, before } = rows;
         self.ratios[operation as usize].push((now.archive / now.reference).ln());
         self.line(&format!(
-            "{:<22}{:>6}{:>6}{:>5}  {:<8}{:>12.2}{:>12.2}{:>8.2}{:>10}{:>10}",
+            "{:<22}{:>6}{:>6}{:>5}  {:<8}{:>12.3}{:>12.3}{:>8.2}{:>10}{:>10}",
             file,
             subject.buffers.rule_marks.len(),
             subject.buffers.fact_marks.len(),
