@@ -2,7 +2,7 @@
 use Prim.Native.Nat.{ℕ, zero, suc, _<_}
 use native.Mathlib.Omega.{arith}
 use mathlib.Core.Path.{_≡_, refl, sym, _∙_, ap, fun-ext, subst}
-use mathlib.Core.Bool.{Bool, true, false, cond, _&&_, Bool·beq}
+use mathlib.Core.Bool.{Bool, true, false, _&&_, Bool·beq}
 use mathlib.Core.List.{List, [], _∷_}
 use mathlib.Core.Logic.{_⊎_, inl, inr, ⊎-elim, _↔_}
 use mathlib.Core.Option.{Option, none, some}
@@ -16,15 +16,14 @@ use Rattle.theory.specs.Search.{guessed, fits, hunt, search}
 use Rattle.theory.specs.Chaining.{Names}
 use Rattle.theory.proofs.Bools.{either, never, and-left, and-right, and-both, and-true, or-left, or-false, or-false-left, or-false-right, false-of, beq-true, beq-refl}
 use Rattle.theory.proofs.Lists.{all-elem, all-of, mem-cases, mem-here, mem-there, mem-keep, mem-downFrom, downFrom-mem}
-use Rattle.theory.proofs.ByKey.{case-below, key-once, key-only, key-length, key-names}
+use Rattle.theory.proofs.ByKey.{Rising, rising-keep, case-below, key-once, key-only, key-length, key-names}
 use Rattle.theory.proofs.Derive.{adjoin-has}
 use Rattle.theory.proofs.Run.{exception-known}
 use Rattle.theory.proofs.Stable.{Agree, constraint-below, least-mask, reduct-agrees, leastOf-least, leastOf-same, leastOf-agrees, stable-agree}
 
 -- each number of the list is below those before it
 abbrev pub Descending : List ℕ → Type 0
-Descending [] = Unit {0}
-Descending (k ∷ ks) = ((j : ℕ) → mem j ks ≡ true → j < k) × Descending ks
+Descending = Rising (λ k j. j < k)
 
 -- K differs from G at numbers of the list only
 abbrev pub Extends : List ℕ → FactSet → FactSet → Type 0
@@ -164,14 +163,6 @@ module _ (ok : FactSet → Bool) where
           (H, hunt-some k ks G H q, widen k ks H K (hunt-sound ks G H q .1 k not-again ∙ out ∙ sym e) n)
       go true e r = later e r (hunt ok ks G) refl
 
-keep-descending : (p : ℕ → Bool) (ks : List ℕ) → Descending ks → Descending (keep p ks)
-keep-descending p [] d = tt
-keep-descending p (k ∷ ks) d = go (p k) (keep-descending p ks (d .1))
-  where
-    go : (b : Bool) → Descending (keep p ks) → Descending (cond b (k ∷ keep p ks) (keep p ks))
-    go true r = (λ j m. d .0 j (and-left _ _ (sym (mem-keep p ks j) ∙ m)), r)
-    go false r = r
-
 downFrom-descending : (n : ℕ) → Descending (downFrom n)
 downFrom-descending zero = tt
 downFrom-descending (suc n) = (mem-downFrom n, downFrom-descending n)
@@ -180,7 +171,7 @@ module _ (P : Program) (on : Mask) where
   -- The guessed facts stand from the highest-numbered down, ..
   guessed-descending : Descending (guessed P on)
   unfolding guessed
-  guessed-descending = keep-descending (constraintFact P on) (downFrom (P .facts)) (downFrom-descending (P .facts))
+  guessed-descending = rising-keep (λ k j. j < k) (λ k j. j < k) (constraintFact P on) (λ k j t u l. l) (downFrom (P .facts)) (downFrom-descending (P .facts))
 
   -- .. and are the constraint facts.
   pub guessed-constraint : (k : ℕ) → mem k (guessed P on) ≡ true → constraintFact P on k ≡ true
