@@ -8,6 +8,7 @@
  *
  *   kind  body  where            what
  *    10     1   file, first      the count of facts, 0 to 255
+ *    07     1   file, between the first item and the first rule  an unread fact
  *    01     1   file             opens a rule: its conclusion
  *    02     1   file             a premise of the rule last opened
  *    03     1   file             a constraint of the rule last opened
@@ -19,8 +20,14 @@
  * together, repeats counted.
  *
  * A fact set is one byte for each fact, 1 in, 0 out. A plain rule has no
- * constraint, an exception rule has one or more. A constraint fact is a fact
- * that is a constraint of some rule.
+ * constraint, an exception rule has one or more. An exception rule with an
+ * unread constraint is withheld, and every function works on the file without
+ * the withheld rules; the other rules are in force. A withheld rule is still a
+ * rule and an exception rule of the file wherever these are counted or named. A
+ * plain rule is never withheld: an unread fact may be a premise or a conclusion
+ * as any other, and to name it again changes nothing. A constraint fact is a
+ * fact that is a constraint of some rule in force. Stable means stable for the
+ * rules in force.
  *
  * What a caller owes
  *
@@ -38,23 +45,24 @@
  *   - In a lent buffer the bytes past those written keep their contents.
  *   - Nothing is kept between calls, and nothing is allocated for the caller.
  *   - The stack that a call needs on x86-64, as measured: retention_load less
- *     than 1 KB, retention_accept and retention_check 29 KB, retention_layered
- *     34 KB, retention_grounds 68 KB, retention_judge 69 KB, retention_run
- *     70 KB, retention_panel 105 KB, retention_search 135 KB.
+ *     than 1 KB, retention_check 31 KB, retention_layered 36 KB,
+ *     retention_accept 60 KB, retention_grounds 69 KB, retention_judge 70 KB,
+ *     retention_run 71 KB, retention_panel 108 KB, retention_search 138 KB.
  *
  * Refusals
  *
  * Each is the number of the first question that gets a no. The questions are
- * asked in the order given with each function. The file's are 1 to 7, 51 and 8
- * to 10, in the order below.
+ * asked in the order given with each function. The file's are 1 to 6, 56, 7, 51
+ * and 8 to 10, in the order below.
  *
- *   the file, from the start; 3 to 10 and 51 for each next item
+ *   the file, from the start; 3 to 10, 51 and 56 for each next item
  *    1  At most 32,767 bytes?
  *    2  Does it begin with a whole 10 item?
  *    3  Is there a next byte?
- *    4  Is its kind 01, 02, 03 or 1F?
+ *    4  Is its kind 01, 02, 03, 07 or 1F?
  *    5  Is the body whole?
- *    6  01, 02, 03: is the fact below the count?
+ *    6  01, 02, 03, 07: is the fact below the count?
+ *   56  07: does it stand before the first rule?
  *    7  02, 03: has a rule been opened?
  *   51  02, 03: has that rule fewer than 24 items of these kinds before it?
  *    8  01: fewer than 512 rules before it?
@@ -63,9 +71,9 @@
  *
  *   an order or a list; 12 and 13 for each item
  *   11  Whole 05 items throughout?
- *   12  Does it name an exception rule of the file?
+ *   12  Does it name an exception rule of the file, withheld or not?
  *   13  Is the rule not named before?
- *   14  An order: is every exception rule named?
+ *   14  An order: is every exception rule named, the withheld ones too?
  *
  *   a fact set
  *   21  One byte for each fact?
@@ -77,9 +85,9 @@
  *
  *   lent buffers
  *   31  Fact marks: at least the count of facts?
- *   32  Rule marks: at least the count of rules?
+ *   32  Rule marks: at least the count of rules, the withheld ones too?
  *   33  Steps: at least 4 x facts?
- *   34  Order: at least 3 x exception rules?
+ *   34  Order: at least 3 x exception rules, the withheld ones too?
  *
  *   the search
  *   40  At most 16 constraint facts?
@@ -90,7 +98,8 @@
  *
  *   the order by rank
  *   52  Does no cycle of dependencies go through a constraint? (A fact depends
- *       on each premise and each constraint of each rule that concludes it.)
+ *       on each premise and each constraint of each rule in force that
+ *       concludes it.)
  *
  *   the test load
  *   53  Is the count of facts 1 to 255?
@@ -123,8 +132,10 @@ typedef struct {
     uint32_t refusal, verdict;
 } retention_verdict;
 
-/* An accepted file: its facts, rules, exception rules and constraint facts.
- * step_bytes is the bytes of one step, 4 here. */
+/* An accepted file: its facts, rules, exception rules and constraint facts. The
+ * rules and the exception rules have the withheld ones among them; a constraint
+ * that stands in withheld rules alone is no constraint fact. step_bytes is the
+ * bytes of one step, 4 here. */
 typedef struct {
     uint32_t refusal, facts, rules, exceptions, constraints, step_bytes;
 } retention_file;
@@ -137,10 +148,10 @@ typedef struct {
 retention_file retention_accept(const uint8_t *file, size_t file_len);
 
 /*
- * Runs the file under an order that names every exception rule once. Writes one
- * mark for each fact (0 open, 1 derived, 2 ruled out), one for each rule
- * (0 plain, 1 applied at a stage, 2 set aside, 3 other), and the steps in order,
- * as 06 items.
+ * Runs the file under an order that names every exception rule once, and passes
+ * over the withheld ones. Writes one mark for each fact (0 open, 1 derived,
+ * 2 ruled out), one for each rule (0 plain, 1 applied at a stage, 2 set aside,
+ * 3 other, 4 withheld), and the steps in order, as 06 items.
  * Questions: the file's, 11 to 14, 31 to 33.
  */
 retention_counts retention_run(const uint8_t *file, size_t file_len,
@@ -150,7 +161,8 @@ retention_counts retention_run(const uint8_t *file, size_t file_len,
                                uint8_t *steps, size_t steps_len);
 
 /*
- * Is the set stable for the file less the listed exception rules?
+ * Is the set stable for the rules in force less the listed exception rules? A
+ * list may name withheld rules, which changes nothing.
  * Questions: the file's, 11 to 13, 21, 22.
  */
 retention_verdict retention_judge(const uint8_t *file, size_t file_len,
@@ -159,7 +171,8 @@ retention_verdict retention_judge(const uint8_t *file, size_t file_len,
 
 /*
  * Is the row of steps a proof of the fact that the set admits? An empty row,
- * or an unknown fact or rule in a step, gets the verdict 0 and no refusal.
+ * an unknown fact or rule in a step, or a step by a withheld rule gets the
+ * verdict 0 and no refusal.
  * Questions: the file's, 21, 22, 24, 23.
  */
 retention_verdict retention_check(const uint8_t *file, size_t file_len,
@@ -171,8 +184,9 @@ retention_verdict retention_check(const uint8_t *file, size_t file_len,
  * Finds the earliest stable set of the file: of two stable sets the earlier
  * lacks the highest constraint fact on which they differ. Writes an order under
  * which the run ends at that set, as 05 items, and the marks and steps of that
- * run. The set is the facts marked 1. The steps from the first up to a fact's
- * own are a proof of it that the set admits.
+ * run; withheld rules have mark 4 and stand last in the order, ascending. The
+ * set is the facts marked 1. The steps from the first up to a fact's own are a
+ * proof of it that the set admits.
  * Questions: the file's, 31 to 34, 40, 41.
  */
 retention_counts retention_search(const uint8_t *file, size_t file_len,
@@ -183,12 +197,13 @@ retention_counts retention_search(const uint8_t *file, size_t file_len,
 
 /*
  * The grounds of one fact: runs the file under the order as retention_run does,
- * and writes the marks of that run, but of its steps only those that the fact
- * rests on, and returns their count. These are the fact's own step and, with a
- * step, the step of each premise of its rule. They stand in their old order, and
- * the bytes past them keep their contents: no other step is written. They are a
- * proof of the fact that the set of the facts marked 1 admits, and no proof of
- * it uses only some of their rules.
+ * and writes the marks of that run, 4 for a withheld rule among them, but of
+ * its steps only those that the fact rests on, and returns their count. These
+ * are the fact's own step and, with a step, the step of each premise of its
+ * rule. They stand in their old order, and the bytes past them keep their
+ * contents: no other step is written. They are a proof of the fact that the set
+ * of the facts marked 1 admits, and no proof of it uses only some of their
+ * rules.
  * Questions: the file's, 11 to 14, 31 to 33, 50.
  */
 retention_count retention_grounds(const uint8_t *file, size_t file_len,
@@ -200,11 +215,12 @@ retention_count retention_grounds(const uint8_t *file, size_t file_len,
 
 /*
  * The order by rank of a layered file. Each fact has its least rank: at least
- * that of every premise of its rules, above that of every constraint, and 0
- * where nothing forces more. Writes the exception rules by rank of conclusion,
- * then by number, as 05 items, and returns how many they are. Under this order
- * the run sets nothing aside, and the facts that it marks 1 are the only stable
- * set of the file.
+ * that of every premise of its rules in force, above that of every constraint
+ * of theirs, and 0 where nothing forces more. Writes the exception rules in
+ * force by rank of conclusion, then by number, and behind them the withheld
+ * ones, ascending, as 05 items, and returns how many all of these are. Under
+ * this order the run sets nothing aside, and the facts that it marks 1 are the
+ * only stable set of the file.
  * Questions: the file's, 34, 52.
  */
 retention_count retention_layered(const uint8_t *file, size_t file_len,
@@ -226,8 +242,9 @@ retention_count retention_load(uint32_t start, uint32_t facts, uint32_t rules,
 /*
  * Writes what the panel program prints for the file, and returns the length of
  * that text. Where the buffer is shorter nothing is written; a call with length
- * 0 asks for the length. The text of a refusal is "E n" and a line end, and
- * there is no zero byte after the text.
+ * 0 asks for the length. The rules that it counts have the withheld ones among
+ * them, and of these none is shown as set aside. The text of a refusal is "E n"
+ * and a line end, and there is no zero byte after the text.
  * Questions: the file's, answered by the text.
  */
 uint32_t retention_panel(const uint8_t *file, size_t file_len,

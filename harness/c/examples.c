@@ -681,12 +681,133 @@ static void rules_too_long(void)
     expect(prints(file, len, "E 51\n"), "panel for 25 premises");
 }
 
+/* The file A with fact 2 unread: rule 1, which is 1<0,!2, is withheld. */
+static const uint8_t A_UNREAD[] = {0x10, 4, 7, 2, 1, 0, 1, 1, 2, 0, 3, 2, 1,
+                                   2,    2, 0, 3, 1, 1, 3, 2, 2, 0x1F, 0, 4};
+/* The file B with fact 0 unread twice: its one rule, 0<!0, is withheld. */
+static const uint8_t B_UNREAD[] = {0x10, 1, 7, 0, 7, 0, 1, 0, 3, 0, 0x1F, 0, 1};
+/* The file F with fact 0 unread: its one rule, 0<0, is plain. */
+static const uint8_t F_UNREAD[] = {0x10, 1, 7, 0, 1, 0, 2, 0, 0x1F, 0, 1};
+
+/* A withheld rule is counted and named, and nothing is concluded by it. */
+static void unread_facts(void)
+{
+    retention_file found = retention_accept(A_UNREAD, sizeof A_UNREAD);
+    expect(found.refusal == 0 && found.facts == 4 && found.rules == 4 && found.exceptions == 2
+               && found.constraints == 1 && found.step_bytes == 4,
+           "A, 2 unread: 2 exception rules, 1 constraint fact");
+    outcome end = run(A_UNREAD, sizeof A_UNREAD, BYTES(5, 0, 1, 5, 0, 2));
+    expect(counted(&end, 1, 3) && HOLDS(end.fact_marks, BYTES(1, 2, 1, 1))
+               && HOLDS(end.rule_marks, BYTES(0, 4, 1, 0))
+               && HOLDS(end.steps, BYTES(6, 0, 0, 0, 6, 2, 0, 2, 6, 3, 0, 3)),
+           "A, 2 unread: the run passes over rule 1, which has mark 4");
+    end = run(A_UNREAD, sizeof A_UNREAD, BYTES(5, 0, 2));
+    expect(refused(&end, 14), "A, 2 unread: an order without rule 1, 14");
+    end = run(A_UNREAD, sizeof A_UNREAD, BYTES(5, 0, 1, 5, 0, 1));
+    expect(refused(&end, 13), "A, 2 unread: an order with rule 1 twice, 13");
+    outcome searched = search(A_UNREAD, sizeof A_UNREAD);
+    expect(counted(&searched, 1, 3) && HOLDS(searched.fact_marks, BYTES(1, 2, 1, 1))
+               && HOLDS(searched.rule_marks, BYTES(0, 4, 1, 0))
+               && HOLDS(searched.order, BYTES(5, 0, 2, 5, 0, 1)),
+           "A, 2 unread: the search takes {0,2,3}, rule 1 is the last of its order");
+    outcome kept = grounds(A_UNREAD, sizeof A_UNREAD, BYTES(5, 0, 1, 5, 0, 2), 2);
+    expect(counted(&kept, 0, 2) && HOLDS(kept.rule_marks, BYTES(0, 4, 1, 0))
+               && HOLDS(kept.steps, BYTES(6, 0, 0, 0, 6, 2, 0, 2)),
+           "A, 2 unread: the grounds of 2, with mark 4 for rule 1");
+    kept = grounds(A_UNREAD, sizeof A_UNREAD, BYTES(5, 0, 1, 5, 0, 2), 1);
+    expect(refused(&kept, 50), "A, 2 unread: 1 is not derived, 50");
+    expect(says(retention_judge(A_UNREAD, sizeof A_UNREAD, NOTHING, BYTES(1, 0, 1, 1)), 1),
+           "A, 2 unread: {0,2,3} is stable");
+    expect(says(retention_judge(A_UNREAD, sizeof A_UNREAD, BYTES(5, 0, 1), BYTES(1, 0, 1, 1)), 1),
+           "A, 2 unread: it is with rule 1 listed too");
+    expect(says(retention_judge(A_UNREAD, sizeof A_UNREAD, NOTHING, BYTES(1, 1, 0, 0)), 0),
+           "A, 2 unread: {0,1} is not stable");
+    expect(says(retention_check(A_UNREAD, sizeof A_UNREAD, BYTES(1, 1, 0, 0), 1,
+                                BYTES(6, 0, 0, 0, 6, 1, 0, 1)), 0),
+           "A, 2 unread: a step by rule 1 is no proof");
+    expect(says(retention_check(A_UNREAD, sizeof A_UNREAD, BYTES(1, 0, 1, 1), 2,
+                                BYTES(6, 0, 0, 0, 6, 2, 0, 2)), 1),
+           "A, 2 unread: a step by rule 2 is one");
+    layers order = layered(A_UNREAD, sizeof A_UNREAD, 6);
+    expect(ordered(&order, BYTES(5, 0, 2, 5, 0, 1)),
+           "A, 2 unread: no cycle is left, rule 1 is the last of the order");
+    order = layered(A_UNREAD, sizeof A_UNREAD, 3);
+    expect(unordered(&order, 34), "A, 2 unread: the order needs room for rule 1, 34");
+    expect(prints(A_UNREAD, sizeof A_UNREAD, "F 4 R 4 S 1\nD 0 0\nD 2 2\nD 3 3\nX 1\nY\n"),
+           "panel for A, 2 unread");
+    as_a_caller(A_UNREAD, sizeof A_UNREAD, "A, 2 unread");
+    by_layers(A_UNREAD, sizeof A_UNREAD, "A, 2 unread");
+}
+
+/* All rules withheld, none, and one of the 17 constraint facts in withheld rules alone. */
+static void more_unread_facts(void)
+{
+    outcome searched = search(B_UNREAD, sizeof B_UNREAD);
+    expect(counted(&searched, 0, 0) && HOLDS(searched.fact_marks, BYTES(0))
+               && HOLDS(searched.rule_marks, BYTES(4)) && HOLDS(searched.order, BYTES(5, 0, 0)),
+           "B, 0 unread: the empty set, with the rule in the order");
+    expect(prints(B_UNREAD, sizeof B_UNREAD, "F 1 R 1 S 0\nY\n"),
+           "panel for B, 0 unread: nothing is set aside");
+    as_a_caller(B_UNREAD, sizeof B_UNREAD, "B, 0 unread");
+    by_layers(B_UNREAD, sizeof B_UNREAD, "B, 0 unread");
+    outcome end = run(F_UNREAD, sizeof F_UNREAD, NOTHING);
+    expect(counted(&end, 0, 0) && HOLDS(end.rule_marks, BYTES(0)),
+           "F, 0 unread: a plain rule has mark 0");
+
+    static uint8_t large[32768];
+    size_t len = constrained(large, 17);
+    memmove(large + 4, large + 2, len - 2);
+    large[2] = 7;
+    large[3] = 16;
+    len += 2;
+    retention_file found = retention_accept(large, len);
+    expect(found.refusal == 0 && found.rules == 512 && found.exceptions == 512
+               && found.constraints == 16, "17 constraint facts, one unread: 16 are counted");
+    as_a_caller(large, len, "512 rules, 17 constraint facts, one unread");
+}
+
+/* A 07 item after a rule is refused, by every function. */
+static void unread_after_a_rule(void)
+{
+    static const uint8_t file[] = {0x10, 1, 1, 0, 7, 0, 0x1F, 0, 1};
+    expect_refusal(file, sizeof file, 56, "a 07 item after a rule: 56");
+    expect_refusal(BYTES(0x10, 1, 1, 0, 7, 1, 0x1F, 0, 1), 6, "of a fact too high: 6");
+    expect_refusal(BYTES(0x10, 1, 1, 0, 7), 5, "without its body: 5");
+    expect_refusal(BYTES(0x10, 1, 7, 0), 3, "a 07 item and nothing more: 3");
+    expect_refusal(BYTES(0x10, 0, 7, 0, 0x1F, 0, 0), 6, "a 07 item of no facts: 6");
+    outcome result = run(file, sizeof file, NOTHING);
+    expect(refused(&result, 56), "run of a 07 item after a rule: 56");
+    result = search(file, sizeof file);
+    expect(refused(&result, 56), "search of it: 56");
+    result = grounds(file, sizeof file, NOTHING, 0);
+    expect(refused(&result, 56), "grounds of it: 56");
+    layers order = layered(file, sizeof file, sizeof order.order);
+    expect(unordered(&order, 56), "layers of it: 56");
+    retention_verdict reply = retention_judge(file, sizeof file, NOTHING, BYTES(1));
+    expect(reply.refusal == 56 && reply.verdict == 0, "judge of it: 56");
+    reply = retention_check(file, sizeof file, BYTES(1), 0, BYTES(6, 0, 0, 0));
+    expect(reply.refusal == 56 && reply.verdict == 0, "check of it: 56");
+    expect(prints(file, sizeof file, "E 56\n"), "panel for it");
+}
+
 /* What a kind gets between the rule and the end of a file: 01 opens a second rule, and
    1F ends the file with the bytes 00 1F, so both give another count of rules. */
 static uint32_t refusal_in_file(unsigned kind)
 {
     switch (kind) {
     case 0x02: case 0x03: return 0;
+    case 0x01: case 0x1F: return 9;
+    case 0x07: return 56;
+    default: return 4;
+    }
+}
+
+/* The same before any rule: 01 opens one that is not counted. */
+static uint32_t refusal_before_rules(unsigned kind)
+{
+    switch (kind) {
+    case 0x07: return 0;
+    case 0x02: case 0x03: return 7;
     case 0x01: case 0x1F: return 9;
     default: return 4;
     }
@@ -695,13 +816,15 @@ static uint32_t refusal_in_file(unsigned kind)
 /* Each of the 256 kinds in each row of items: the row decides which may stand in it. */
 static void kinds(void)
 {
-    int first = 1, in_file = 1, in_order = 1, in_proof = 1;
+    int first = 1, in_file = 1, before_rules = 1, in_order = 1, in_proof = 1;
     for (unsigned kind = 0; kind < 256; kind++) {
         uint8_t byte = (uint8_t)kind;
         uint32_t refusal = retention_accept(BYTES(byte, 1, 0x1F, 0, 0)).refusal;
         first &= refusal == (kind == 0x10 ? 0 : 2);
         refusal = retention_accept(BYTES(0x10, 1, 1, 0, byte, 0, 0x1F, 0, 1)).refusal;
         in_file &= refusal == refusal_in_file(kind);
+        refusal = retention_accept(BYTES(0x10, 1, byte, 0, 0x1F, 0, 0)).refusal;
+        before_rules &= refusal == refusal_before_rules(kind);
         outcome result = run(A, sizeof A, BYTES(byte, 0, 1, 5, 0, 2));
         in_order &= kind == 0x05 ? counted(&result, 1, 2) : refused(&result, 11);
         retention_verdict reply =
@@ -709,7 +832,8 @@ static void kinds(void)
         in_proof &= kind == 0x06 ? says(reply, 1) : reply.refusal == 23 && reply.verdict == 0;
     }
     expect(first, "a file begins with kind 10 and no other");
-    expect(in_file, "the other kinds of a file are 01, 02, 03 and 1F");
+    expect(in_file, "the other kinds of a file are 01, 02, 03, 07 and 1F");
+    expect(before_rules, "kind 07 stands before the first rule alone");
     expect(in_order, "the kind of an order is 05");
     expect(in_proof, "the kind of a proof is 06");
 }
@@ -730,6 +854,9 @@ int main(void)
     largest_loads();
     panel();
     rules_too_long();
+    unread_facts();
+    more_unread_facts();
+    unread_after_a_rule();
     kinds();
     printf("%d failed\n", failures);
     return failures == 0 ? 0 : 1;

@@ -18,8 +18,9 @@ enum {
     MOST_RULES = 512,
     MOST_OWN_ITEMS = 24,
     PAIRS = 16,
-    /* no accepted file is longer */
-    MOST_BYTES = 2 + MOST_RULES * (2 + 2 * MOST_OWN_ITEMS) + 3
+    UNREAD = 5,
+    /* no accepted file with so few unread facts is longer */
+    MOST_BYTES = 2 + 2 * UNREAD + MOST_RULES * (2 + 2 * MOST_OWN_ITEMS) + 3
 };
 
 static uint8_t file[MOST_BYTES], order[3 * MOST_RULES], found[3 * MOST_RULES];
@@ -79,10 +80,10 @@ static void make_pairs(void)
     cyclic = 1;
 }
 
-/* Every rule is an exception rule: the longest order and the most constraint items. */
-static void make_exceptions(void)
+/* Every rule is an exception rule, from here on: the longest order and the most
+   constraint items. */
+static void add_exceptions(uint8_t *at)
 {
-    uint8_t *at = begin_file();
     for (int rule = 0; rule < MOST_RULES; rule++) {
         at = add_rule(at, rule % (MOST_FACTS - PAIRS), 0x03,
                       MOST_FACTS - PAIRS + rule % PAIRS);
@@ -92,6 +93,22 @@ static void make_exceptions(void)
     }
     end_file(at, MOST_RULES);
     asked = 0;
+}
+
+static void make_exceptions(void)
+{
+    add_exceptions(begin_file());
+}
+
+/* The same, with every third constraint fact unread from the second on. */
+static void make_withheld(void)
+{
+    uint8_t *at = begin_file();
+    for (int place = 0; place < UNREAD; place++) {
+        *at++ = 0x07;
+        *at++ = (uint8_t)(MOST_FACTS - PAIRS + 1 + 3 * place);
+    }
+    add_exceptions(at);
 }
 
 /* Each fact from as many before it as a rule may name, the nearest as the first premise
@@ -282,7 +299,8 @@ static void show(const function *measured)
 
 int main(void)
 {
-    static void (*const files[])(void) = {make_pairs, make_exceptions, make_stairs};
+    static void (*const files[])(void) = {make_pairs, make_exceptions, make_withheld,
+                                          make_stairs};
     /* These have too many constraint facts for the search, or nothing to derive. */
     static void (*const layered_files[])(void) = {make_ladder, make_ring, make_nested,
                                                   make_refused};

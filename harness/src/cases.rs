@@ -2,9 +2,9 @@
 //! buffers it is lent, and the reply that the reference gives.
 
 use crate::draft::{Draft, DraftRule};
-use crate::files::{lengthen_rule, random_draft, random_layers, spoil_file};
+use crate::files::{lengthen_rule, misplace_unread, random_draft, random_layers, spoil_file};
 use crate::random::Random;
-use reference::{Counts, Lent, RULE_NUMBER_BYTES, Refusal, STEP_BYTES, kind, load_bytes};
+use reference::{Counts, Lent, RULE_NUMBER_BYTES, Refusal, RuleFile, STEP_BYTES, kind, load_bytes};
 
 #[derive(Clone, Copy, PartialEq, Eq, Debug)]
 pub enum Operation {
@@ -101,7 +101,7 @@ impl Operation {
             Operation::Layered => &[34, 52],
             Operation::Load => return vec![53, 54, 55],
         };
-        (1..=10).chain([51]).chain(beyond_file.iter().copied()).collect()
+        (1..=10).chain([51, 56]).chain(beyond_file.iter().copied()).collect()
     }
 
     /// The names of its answers where nothing is refused.
@@ -154,8 +154,20 @@ pub struct Reply {
 #[derive(Clone, Copy, PartialEq, Eq, Debug)]
 pub enum Met {
     Refusal(u32),
-    /// An index into the answers of the operation.
-    Answer(usize),
+    /// An index into the answers of the operation, and what the withheld rules of the file
+    /// have to do with it.
+    Answer(usize, Withheld),
+}
+
+/// What the withheld rules of a file have to do with an answer.
+#[derive(Clone, Copy, PartialEq, Eq, Debug)]
+pub enum Withheld {
+    /// There are none, or no file.
+    None,
+    /// There are some, and the same call is answered the same where all facts were read.
+    Same,
+    /// There are some, and it is answered otherwise then.
+    Other,
 }
 
 impl Case {
@@ -243,31 +255,54 @@ impl Case {
     /// What the reply of the reference says.
     pub fn met(&self, reply: &Reply) -> Met {
         let numbers = &reply.numbers;
-        match self.operation {
+        let answer = match self.operation {
             Operation::Panel => match reference::accept(&self.file) {
-                Err(refusal) => Met::Refusal(refusal as u32),
-                Ok(_) => Met::Answer(usize::from(self.lent[0] >= numbers[0] as usize)),
+                Err(refusal) => return Met::Refusal(refusal as u32),
+                Ok(_) => usize::from(self.lent[0] >= numbers[0] as usize),
             },
-            _ if numbers[0] != 0 => Met::Refusal(numbers[0]),
-            Operation::Accept => Met::Answer(usize::from(numbers[3] > 0)),
-            question if question.is_question() => Met::Answer(0),
+            _ if numbers[0] != 0 => return Met::Refusal(numbers[0]),
+            Operation::Accept => usize::from(numbers[3] > 0),
+            question if question.is_question() => 0,
             Operation::Grounds => {
                 // Each fact derived has one step.
                 let facts = usize::from(self.file[1]);
                 let marks = reply.buffers[0][..facts].iter();
                 let steps = marks.filter(|&&mark| mark == 1).count();
-                Met::Answer(usize::from(numbers[1] as usize == steps))
+                usize::from(numbers[1] as usize == steps)
             }
             Operation::Layered => {
                 let named = RULE_NUMBER_BYTES * numbers[1] as usize;
                 let ascending = reply.buffers[0][..named].chunks(RULE_NUMBER_BYTES).is_sorted();
-                Met::Answer(if named == 0 { 0 } else { 1 + usize::from(!ascending) })
+                if named == 0 { 0 } else { 1 + usize::from(!ascending) }
             }
-            Operation::Load => Met::Answer(usize::from(self.load.rules > 0)),
-            _ => Met::Answer(usize::from(numbers[1] > 0)),
+            Operation::Load => usize::from(self.load.rules > 0),
+            _ => usize::from(numbers[1] > 0),
+        };
+        Met::Answer(answer, self.withheld(reply))
+    }
+
+    /// Whether withheld rules change the reply, of a case that is not refused. All unread
+    /// facts stand right behind the first item then.
+    fn withheld(&self, reply: &Reply) -> Withheld {
+        if !self.operation.reads_a_file() || self.file.get(2) != Some(&kind::UNREAD) {
+            return Withheld::None;
         }
+        let file = RuleFile::parse(&self.file).expect("the case is not refused");
+        if !(0..file.rules.len()).any(|rule| file.is_withheld(rule)) {
+            return Withheld::None;
+        }
+        let unread = self.file[2..].chunks(2).take_while(|item| item[0] == kind::UNREAD);
+        let mut read = self.file.clone();
+        read.drain(2..2 + 2 * unread.count());
+        let other = Case { file: read, ..self.clone() }.expected(|_| UNTOUCHED);
+        let written = self.expected(|_| UNTOUCHED);
+        debug_assert_eq!(written.numbers, reply.numbers);
+        if other == written { Withheld::Same } else { Withheld::Other }
     }
 }
+
+/// What the buffers hold where a reply is compared with another one.
+const UNTOUCHED: u8 = 0xA5;
 
 fn counts_reply(result: Result<Counts, Refusal>) -> Vec<u32> {
     match result {
@@ -295,7 +330,7 @@ fn answer_reply(result: Result<(), Refusal>) -> Vec<u32> {
 }
 
 /// The highest refusal number.
-const MOST_REFUSAL: usize = 55;
+const MOST_REFUSAL: usize = 56;
 /// The most answers that an operation has.
 const MOST_ANSWERS: usize = 3;
 const OPERATIONS: usize = Operation::ALL.len();
@@ -305,6 +340,8 @@ const OPERATIONS: usize = Operation::ALL.len();
 pub struct Tally {
     refusals: [[u64; MOST_REFUSAL + 1]; OPERATIONS],
     answers: [[u64; MOST_ANSWERS]; OPERATIONS],
+    /// Answers for a file with withheld rules, and those of them that these change.
+    withheld: [[u64; 2]; OPERATIONS],
 }
 
 impl Default for Tally {
@@ -312,6 +349,7 @@ impl Default for Tally {
         Tally {
             refusals: [[0; MOST_REFUSAL + 1]; OPERATIONS],
             answers: [[0; MOST_ANSWERS]; OPERATIONS],
+            withheld: [[0; 2]; OPERATIONS],
         }
     }
 }
@@ -320,7 +358,12 @@ impl Tally {
     pub fn count(&mut self, operation: Operation, met: Met) {
         match met {
             Met::Refusal(number) => self.refusals[operation as usize][number as usize] += 1,
-            Met::Answer(answer) => self.answers[operation as usize][answer] += 1,
+            Met::Answer(answer, withheld) => {
+                self.answers[operation as usize][answer] += 1;
+                let [with, changed] = &mut self.withheld[operation as usize];
+                *with += u64::from(withheld != Withheld::None);
+                *changed += u64::from(withheld == Withheld::Other);
+            }
         }
     }
 
@@ -336,6 +379,12 @@ impl Tally {
             {
                 text += &format!("  {answer:<18}{count:>10}\n");
                 all_met &= count > 0;
+            }
+            if operation.reads_a_file() {
+                let [with, changed] = self.withheld[operation as usize];
+                text += &format!("  rules withheld    {with:>10}, other reply by them {changed}\n");
+                // What a row or a set is asked does not depend on the rules.
+                all_met &= with > 0 && (changed > 0 || operation.is_question());
             }
             for refusal in operation.own_refusals() {
                 let count = self.refusals[operation as usize][refusal as usize];
@@ -424,7 +473,9 @@ pub fn random_case(random: &mut Random) -> Case {
         lengthen_rule(random, &mut draft);
     }
     let mut file = draft.bytes();
-    if random.one_in(8) {
+    if random.one_in(40) {
+        misplace_unread(random, &mut file);
+    } else if random.one_in(8) {
         spoil_file(random, &mut file);
     }
     let subject = Subject { draft, file };
@@ -524,13 +575,28 @@ impl Subject {
         Case { lent, ..Case::new(Operation::Panel, &self.file) }
     }
 
-    /// The end of a run or of the search, with the list that makes it stable.
+    /// The end of a run or of the search, with the list that makes it stable. At times it
+    /// is that of the file with all facts read, which uses rules that are withheld here.
     fn random_end(&self, random: &mut Random) -> Option<End> {
-        let searched = random.one_in(2).then(|| End::of(&search_case(&self.draft, &self.file)));
+        let read = Draft { unread: vec![], ..self.draft.clone() }.bytes();
+        let file = if random.one_in(2) { &read } else { &self.file };
+        let searched = random.one_in(2).then(|| End::of(&search_case(&self.draft, file)));
         searched.flatten().or_else(|| {
             let order = self.shuffled_exceptions(random);
-            End::of(&run_case(&self.draft, &self.file, &order))
+            End::of(&run_case(&self.draft, file, &order))
         })
+    }
+
+    /// Names the withheld rules in a list that lacks them, so that it says the same.
+    fn list_withheld(&self, list: &mut Vec<usize>) {
+        let unread = |&(kind, fact): &(u8, u8)| {
+            kind == kind::CONSTRAINT && self.draft.unread.contains(&fact)
+        };
+        for (number, rule) in self.draft.rules.iter().enumerate() {
+            if rule.items.iter().any(unread) && !list.contains(&number) {
+                list.push(number);
+            }
+        }
     }
 
     fn random_set(&self, random: &mut Random) -> Vec<u8> {
@@ -540,15 +606,19 @@ impl Subject {
     fn random_judge(&self, random: &mut Random) -> Case {
         let mut case = Case::new(Operation::Judge, &self.file);
         let end = if random.one_in(4) { None } else { self.random_end(random) };
+        let mut list;
         if let Some(end) = end {
-            case.rules = rule_numbers(&end.set_aside);
+            list = end.set_aside;
             case.set = end.set;
         } else {
-            let mut list = self.shuffled_exceptions(random);
+            list = self.shuffled_exceptions(random);
             list.truncate(random.below(list.len() + 1));
-            case.rules = rule_numbers(&list);
             case.set = self.random_set(random);
         }
+        if random.one_in(4) {
+            self.list_withheld(&mut list);
+        }
+        case.rules = rule_numbers(&list);
         if random.one_in(8) {
             self.spoil_rule_numbers(random, &mut case.rules);
         }

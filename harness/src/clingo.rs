@@ -4,7 +4,7 @@
 use crate::archive;
 use crate::files::{random_draft, random_layers};
 use crate::random::Random;
-use reference::{RULE_NUMBER_BYTES, RuleFile, STEP_BYTES};
+use reference::{RULE_NUMBER_BYTES, Rule, RuleFile, STEP_BYTES};
 use std::collections::BTreeSet;
 use std::fmt::Write as _;
 use std::io::{ErrorKind, Write as _};
@@ -33,6 +33,7 @@ pub fn compare(seed: u64) -> Result<(), String> {
 
 fn compare_searches(seed: u64) -> Result<(), String> {
     let mut without = 0;
+    let mut withheld = 0;
     let mut compared = 0;
     for stream in 0.. {
         let file = random_draft(&mut Random::new(seed ^ 0xC11_6060, stream)).bytes();
@@ -50,18 +51,23 @@ fn compare_searches(seed: u64) -> Result<(), String> {
             ));
         }
         without += usize::from(found.is_none());
+        withheld += usize::from(has_withheld(&parsed));
         compared += 1;
         if compared == FILES {
             break;
         }
     }
-    println!("clingo agrees on {compared} files, {without} of them without a stable set");
+    println!(
+        "clingo agrees on {compared} files, {without} of them without a stable set, {withheld} \
+         with rules withheld"
+    );
     Ok(())
 }
 
 /// A layered file has one stable set, at which the run under the order by ranks ends.
 fn compare_layers(seed: u64) -> Result<(), String> {
     let mut cyclic = 0;
+    let mut withheld = 0;
     let mut compared = 0;
     for stream in 0..LAYERED_ONE_IN * FILES as u64 {
         let random = &mut Random::new(seed ^ 0x1A_7E25, stream);
@@ -81,9 +87,13 @@ fn compare_layers(seed: u64) -> Result<(), String> {
                 "clingo's sets {models:?}, the run ends at {end:?}, file {file:02X?}"
             ));
         }
+        withheld += usize::from(has_withheld(&parsed));
         compared += 1;
         if compared == FILES {
-            println!("clingo agrees on {compared} layered files, met with {cyclic} others");
+            println!(
+                "clingo agrees on {compared} layered files, {withheld} of them with rules \
+                 withheld, met with {cyclic} others"
+            );
             return Ok(());
         }
     }
@@ -98,10 +108,19 @@ fn is_installed() -> Result<bool, String> {
     }
 }
 
-/// The file as a logic program: a premise as an atom, a constraint negated.
+fn has_withheld(file: &RuleFile) -> bool {
+    rules_in_force(file).count() < file.rules.len()
+}
+
+fn rules_in_force(file: &RuleFile) -> impl Iterator<Item = &Rule> {
+    let numbered = file.rules.iter().enumerate();
+    numbered.filter(|&(number, _)| !file.is_withheld(number)).map(|(_, rule)| rule)
+}
+
+/// The rules in force as a logic program: a premise as an atom, a constraint negated.
 fn program(file: &RuleFile) -> String {
     let mut text = String::new();
-    for rule in &file.rules {
+    for rule in rules_in_force(file) {
         let premises = (0..file.facts).filter(|&fact| rule.premises.contains(fact));
         let constraints = (0..file.facts).filter(|&fact| rule.constraints.contains(fact));
         let body: Vec<String> = premises
@@ -154,7 +173,7 @@ fn models_in(text: &str) -> Result<Vec<Model>, String> {
 /// differ: it comes first when both are read from the highest fact down.
 fn earliest(file: &RuleFile, models: Vec<Model>) -> Option<Model> {
     let is_constraint =
-        |fact: &usize| file.rules.iter().any(|rule| rule.constraints.contains(*fact));
+        |fact: &usize| rules_in_force(file).any(|rule| rule.constraints.contains(*fact));
     let constraints: Vec<usize> = (0..file.facts).rev().filter(is_constraint).collect();
     models.into_iter().min_by_key(|model| {
         constraints.iter().map(|fact| model.contains(fact)).collect::<Vec<bool>>()

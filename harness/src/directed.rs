@@ -30,6 +30,56 @@ pub fn examples() -> Vec<Draft> {
     ]
 }
 
+/// Some of the examples with facts unread, and a file whose withheld rules stand before and
+/// between others and would be in either group of the search's order.
+fn unread_examples() -> Vec<Draft> {
+    let examples = examples();
+    let unread =
+        |place: usize, unread: &[u8]| Draft { unread: unread.to_vec(), ..examples[place].clone() };
+    let mut three_withheld = example(
+        6,
+        &[
+            (4, &[], &[5]),
+            (1, &[], &[2]),
+            (2, &[], &[1]),
+            (3, &[2], &[5]),
+            (0, &[], &[4]),
+            (0, &[1], &[5, 4]),
+            (3, &[], &[1]),
+        ],
+    );
+    three_withheld.unread = vec![5, 5];
+    vec![
+        unread(0, &[2]),
+        unread(0, &[1, 2, 1]),
+        unread(0, &[0, 3]),
+        unread(1, &[0]),
+        unread(2, &[2]),
+        unread(3, &[1]),
+        unread(5, &[0]),
+        three_withheld,
+    ]
+}
+
+/// Unread facts before the first rule that are too high or cut, and 07 items behind it.
+fn files_with_unread_misplaced() -> Vec<Vec<u8>> {
+    let ends: [&[u8]; 12] = [
+        &[7],
+        &[7, 0],
+        &[7, 2],
+        &[7, 1, 2, 0],
+        &[7, 1, 0x1F, 0, 1],
+        &[7, 0, 1, 0, 7],
+        &[7, 0, 1, 0, 7, 2],
+        &[1, 0, 7, 1],
+        &[1, 0, 3, 1, 7, 1, 3, 1, 0x1F, 0, 1],
+        &[1, 0, 7, 1, 1, 0, 0x1F, 0, 2],
+        &[7, 1, 1, 0, 7, 1, 0x1F, 0, 3],
+        &[7, 1, 0x1F, 0, 0, 7, 1],
+    ];
+    ends.iter().map(|end| [&[0x10, 2], *end].concat()).collect()
+}
+
 /// One more fact than constraint facts; every rule number from 0 to 511.
 fn constraint_facts(count: usize) -> Draft {
     let mut draft = Draft::new(count + 1);
@@ -385,6 +435,13 @@ pub fn directed_cases() -> Vec<Case> {
         cases.extend(all_operations(&file));
     }
     for file in files_around_the_cap() {
+        cases.extend(all_operations(&file));
+    }
+    for draft in unread_examples() {
+        cases.extend(all_operations(&draft.bytes()));
+    }
+    cases.extend(buffer_cases(&unread_examples()[0].bytes()));
+    for file in files_with_unread_misplaced() {
         cases.extend(all_operations(&file));
     }
     cases.extend(load_cases());

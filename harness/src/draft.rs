@@ -16,12 +16,14 @@ pub struct DraftRule {
 #[derive(Clone, Default)]
 pub struct Draft {
     pub facts: u8,
+    /// The facts that are named as unread, in the order of their items.
+    pub unread: Vec<u8>,
     pub rules: Vec<DraftRule>,
 }
 
 impl Draft {
     pub fn new(facts: usize) -> Draft {
-        Draft { facts: facts as u8, rules: Vec::new() }
+        Draft { facts: facts as u8, unread: Vec::new(), rules: Vec::new() }
     }
 
     pub fn rule(&mut self, conclusion: usize, premises: &[usize], constraints: &[usize]) {
@@ -35,6 +37,7 @@ impl Draft {
 
     pub fn bytes(&self) -> Vec<u8> {
         let mut bytes = vec![kind::FACT_COUNT, self.facts];
+        bytes.extend(self.unread.iter().flat_map(|&fact| [kind::UNREAD, fact]));
         for rule in &self.rules {
             bytes.extend([kind::CONCLUSION, rule.conclusion]);
             bytes.extend(rule.items.iter().flat_map(|&(kind, fact)| [kind, fact]));

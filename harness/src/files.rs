@@ -5,9 +5,12 @@ use crate::loads;
 use crate::random::Random;
 use reference::kind;
 
+/// One draft in so many has unread facts.
+const UNREAD_ONE_IN: usize = 3;
+
 /// A valid draft of a random shape, within the cap. Most are small; few are large.
 pub fn random_draft(random: &mut Random) -> Draft {
-    match random.below(1000) {
+    let mut draft = match random.below(1000) {
         0..370 => scattered(random, 10, 14),
         370..380 => load(random),
         380..400 => wide(random),
@@ -18,6 +21,36 @@ pub fn random_draft(random: &mut Random) -> Draft {
         993..996 => many_rules(random),
         996..999 => many_facts(random),
         _ => crowded(random),
+    };
+    if random.one_in(UNREAD_ONE_IN) {
+        name_unread(random, &mut draft);
+    }
+    draft
+}
+
+/// Names facts as unread, mostly few and mostly constraints, so that some of the exception
+/// rules are withheld and others are not; at times as many as the constraints or more, and
+/// at times one of them again.
+fn name_unread(random: &mut Random, draft: &mut Draft) {
+    let facts = usize::from(draft.facts);
+    if facts == 0 {
+        return;
+    }
+    let items = draft.rules.iter().flat_map(|rule| &rule.items);
+    let constraints: Vec<u8> =
+        items.filter(|(kind, _)| *kind == kind::CONSTRAINT).map(|&(_, fact)| fact).collect();
+    let count = if random.one_in(8) { random.within(1, facts) } else { random.within(1, 2) };
+    for _ in 0..count {
+        let fact = if constraints.is_empty() || random.one_in(4) {
+            random.below(facts) as u8
+        } else {
+            constraints[random.below(constraints.len())]
+        };
+        draft.unread.push(fact);
+    }
+    if random.one_in(4) {
+        let again = draft.unread[random.below(draft.unread.len())];
+        draft.unread.insert(random.below(draft.unread.len() + 1), again);
     }
 }
 
@@ -138,7 +171,11 @@ pub fn random_layers(random: &mut Random) -> Draft {
         let premises = some_facts(random, facts, 1);
         draft.rule(random.below(facts), &premises, &[random.below(facts)]);
     }
-    finish(random, draft)
+    let mut draft = finish(random, draft);
+    if random.one_in(UNREAD_ONE_IN) {
+        name_unread(random, &mut draft);
+    }
+    draft
 }
 
 /// Rules that are as long as they may be, or a little shorter. Their premises are
@@ -276,6 +313,16 @@ pub fn lengthen_rule(random: &mut Random, draft: &mut Draft) {
     }
 }
 
+/// Puts a 07 item at any place behind the first item: mostly after a rule, at times before
+/// one or behind the end, and at times of a fact that is too high.
+pub fn misplace_unread(random: &mut Random, bytes: &mut Vec<u8>) {
+    let facts = usize::from(bytes[1]);
+    let fact = if random.one_in(6) { facts } else { random.below(facts) };
+    let place = 2 + 2 * random.below(bytes.len() / 2);
+    let place = place.min(bytes.len());
+    bytes.splice(place..place, [kind::UNREAD, fact as u8]);
+}
+
 /// Changes the bytes of a file in one place; mostly it is then refused.
 pub fn spoil_file(random: &mut Random, bytes: &mut Vec<u8>) {
     if random.one_in(500) {
@@ -296,7 +343,8 @@ pub fn spoil_file(random: &mut Random, bytes: &mut Vec<u8>) {
             bytes[end] = bytes[end].wrapping_add(1);
         }
         _ => {
-            let item = [random.within(1, 3) as u8, random.below(12) as u8];
+            let kinds = [kind::CONCLUSION, kind::PREMISE, kind::CONSTRAINT, kind::UNREAD];
+            let item = [kinds[random.below(kinds.len())], random.below(12) as u8];
             bytes.splice(2..2, item);
         }
     }
@@ -317,8 +365,14 @@ fn oversized(random: &mut Random) -> Vec<u8> {
 
 /// Often another kind, since a random byte is rarely one.
 fn change_byte(random: &mut Random, bytes: &mut [u8], place: usize) {
-    const KINDS: [u8; 5] =
-        [kind::CONCLUSION, kind::PREMISE, kind::CONSTRAINT, kind::RULE_COUNT, kind::FACT_COUNT];
+    const KINDS: [u8; 6] = [
+        kind::CONCLUSION,
+        kind::PREMISE,
+        kind::CONSTRAINT,
+        kind::UNREAD,
+        kind::RULE_COUNT,
+        kind::FACT_COUNT,
+    ];
     bytes[place] =
         if random.one_in(2) { KINDS[random.below(KINDS.len())] } else { random.below(256) as u8 };
 }

@@ -83,11 +83,11 @@ pub const FULL: [(&str, fn(usize) -> usize); 4] = [
     ("full after one exception", |rule| if rule == 0 { 0 } else { MOST_OWN_ITEMS }),
 ];
 
-/// The longest files that are accepted: as many rules as may be, each with as many
-/// items of its own as may be. The rules go up the facts 0 to 237 by turns, from the
-/// facts right below, and the last alone goes on to 238, so that its items matter
-/// though they stand last. Constraints are the 16 facts above, which no rule
-/// concludes. Odd rules have their constraints first.
+/// The longest files without unread facts that are accepted: as many rules as may be,
+/// each with as many items of its own as may be. The rules go up the facts 0 to 237 by
+/// turns, from the facts right below, and the last alone goes on to 238, so that its
+/// items matter though they stand last. Constraints are the 16 facts above, which no
+/// rule concludes. Odd rules have their constraints first.
 pub fn full(premises: fn(usize) -> usize) -> Draft {
     let (top, last) = (238, RULES - 1);
     let constraint_facts = FACTS - (top + 1);

@@ -13,7 +13,7 @@ pub fn draft(start: u32, facts: usize, rules: usize) -> Draft {
         items: vec![(second, fact), (third, last)],
     };
     let bodies = file[2..].as_chunks().0;
-    let draft = Draft { facts: facts as u8, rules: bodies.iter().map(rule).collect() };
+    let draft = Draft { rules: bodies.iter().map(rule).collect(), ..Draft::new(facts) };
     assert_eq!(draft.bytes(), file, "each rule has two items of its own");
     draft
 }

@@ -9,6 +9,8 @@ use std::str::FromStr;
 
 type Bytes = Result<Vec<u8>, String>;
 
+/// Bytes of the item that begins a file: kind and one byte of fact count.
+const COUNT_BYTES: usize = 2;
 /// Bytes of the item that ends a file: kind and two bytes of rule count.
 const END_BYTES: usize = 3;
 
@@ -142,7 +144,8 @@ pub fn lines(text: &str) -> Vec<u8> {
 
 /// A file: a name, bytes, equal bytes as `32765 of 02`, rules in the notation of
 /// document 01, a large file by its builder, any of these without the item that ends
-/// it after the word `unended`, or several of these with `then` between them.
+/// it after the word `unended`, any with unread facts as `unread 2, 5 to 7 in` before it,
+/// or several of these with `then` between them.
 pub fn file(text: &str, named: &BTreeMap<String, Vec<u8>>) -> Bytes {
     let mut bytes = Vec::new();
     for part in text.split(" then ") {
@@ -158,6 +161,16 @@ fn file_part(part: &str, named: &BTreeMap<String, Vec<u8>>) -> Bytes {
     if let Some(file) = part.strip_prefix("unended ") {
         let mut bytes = file_part(file, named)?;
         bytes.truncate(bytes.len().saturating_sub(END_BYTES));
+        return Ok(bytes);
+    }
+    if let Some((facts, file)) =
+        part.strip_prefix("unread ").and_then(|part| part.split_once(" in "))
+    {
+        let mut bytes = file_part(file, named)?;
+        if bytes.len() < COUNT_BYTES {
+            return Err(format!("no count of facts: {file:?}"));
+        }
+        bytes.splice(COUNT_BYTES..COUNT_BYTES, unread(facts)?);
         return Ok(bytes);
     }
     if let Some((facts, rules)) = part.split_once(" facts") {
@@ -197,6 +210,18 @@ fn layered(name: &str, rules: usize, items: usize) -> Result<Draft, String> {
     let file = layers::FILES.iter().find(|(other, _)| *other == name);
     let (_, file) = file.ok_or_else(|| format!("not a file of layers: {name:?}"))?;
     Ok(file(rules, items))
+}
+
+/// The 07 items of unread facts, which are written as premises are.
+fn unread(facts: &str) -> Bytes {
+    let mut bytes = Vec::new();
+    for (kind, fact) in items(facts)? {
+        if kind != kind::PREMISE {
+            return Err(format!("not unread facts: {facts:?}"));
+        }
+        bytes.extend([kind::UNREAD, fact]);
+    }
+    Ok(bytes)
 }
 
 /// What follows the count of facts: `; 0<; 1<0,!2`.

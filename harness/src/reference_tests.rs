@@ -25,6 +25,12 @@ fn file_of(facts: u8, rules: &[PlainRule]) -> Vec<u8> {
     bytes
 }
 
+/// The file with these facts named as unread, in this order.
+fn with_unread(unread: &[u8], file: &[u8]) -> Vec<u8> {
+    let items: Vec<u8> = unread.iter().flat_map(|&fact| [kind::UNREAD, fact]).collect();
+    [&file[..2], &items, &file[2..]].concat()
+}
+
 fn example_a() -> Vec<u8> {
     file_of(4, &[(0, &[], &[]), (1, &[0], &[2]), (2, &[0], &[1]), (3, &[2], &[])])
 }
@@ -269,6 +275,81 @@ fn every_operation_asks_the_cap_and_leaves_its_buffers() {
 }
 
 #[test]
+fn every_operation_asks_where_an_unread_fact_stands_and_leaves_its_buffers() {
+    let file = file_with_items(&[&[(kind::UNREAD, 2)]], &[0x1F, 0, 1]);
+    let no = Refusal::UnreadAfterRule;
+    let mut lent = [vec![9; 8], vec![9; 8], vec![9; 28], vec![9; 8]];
+    let [fact_marks, rule_marks, steps, order] = &mut lent;
+    assert_eq!(accept(&file), Err(no));
+    let ran = run(&file, &[], Lent { fact_marks, rule_marks, steps });
+    assert_eq!(ran, Err(no));
+    let found = search(&file, Lent { fact_marks, rule_marks, steps }, order);
+    assert_eq!(found, Err(no));
+    let kept = grounds(&file, &[], 0, Lent { fact_marks, rule_marks, steps });
+    assert_eq!(kept, Err(no));
+    assert_eq!(layered(&file, order), Err(no));
+    assert!(lent.iter().flatten().all(|&byte| byte == 9));
+    assert_eq!(judge(&file, &[], &[0; 3]), Err(no));
+    assert_eq!(check(&file, &[0; 3], 0, &[]), Err(no));
+    assert_eq!(ask_order(&file, &[]), Err(no));
+    assert_eq!(ask_list(&file, &[]), Err(no));
+    assert_eq!(ask_set(&file, &[0; 3]), Err(no));
+    assert_eq!(ask_row(&file, 0, &[]), Err(no));
+    assert_eq!(panel(&file), "E 56\n");
+    assert_eq!(grounds_text(&file, 0), "E 56\n");
+}
+
+#[test]
+fn where_an_unread_fact_may_stand() {
+    let refusal = |bytes: &[u8]| accept(bytes).unwrap_err();
+    assert_eq!(refusal(&[7, 0]), Refusal::NoFactCount);
+    assert_eq!(refusal(&[0x10, 1, 7]), Refusal::BodyCut);
+    assert_eq!(refusal(&[0x10, 1, 7, 0]), Refusal::NoNextItem);
+    assert_eq!(refusal(&[0x10, 1, 7, 1]), Refusal::UnknownFact);
+    assert_eq!(refusal(&[0x10, 0, 7, 0]), Refusal::UnknownFact);
+    assert_eq!(refusal(&[0x10, 1, 7, 0, 2, 0]), Refusal::NoRuleOpened);
+    assert_eq!(refusal(&[0x10, 1, 1, 0, 7]), Refusal::BodyCut);
+    assert_eq!(refusal(&[0x10, 1, 1, 0, 7, 1]), Refusal::UnknownFact);
+    assert_eq!(refusal(&[0x10, 1, 1, 0, 7, 0]), Refusal::UnreadAfterRule);
+    assert_eq!(refusal(&[0x10, 1, 1, 0, 2, 0, 7, 0, 2, 0]), Refusal::UnreadAfterRule);
+    assert_eq!(refusal(&[0x10, 1, 0x1F, 0, 0, 7, 0]), Refusal::BytesAfterEnd);
+    let counts = |file: &[u8]| {
+        let counts = accept(file).unwrap();
+        (counts.facts, counts.rules, counts.exceptions, counts.constraint_facts)
+    };
+    assert_eq!(counts(&with_unread(&[0], &file_of(1, &[]))), (1, 0, 0, 0));
+    assert_eq!(counts(&with_unread(&[0; 16_381], &file_of(1, &[]))), (1, 0, 0, 0));
+    assert_eq!(refusal(&with_unread(&[0; 16_382], &file_of(1, &[]))), Refusal::FileTooLong);
+    // Rule 1 of C is withheld: its constraint does not count, and it is still a rule.
+    assert_eq!(counts(&example_c()), (3, 2, 2, 2));
+    assert_eq!(counts(&with_unread(&[2, 0, 2], &example_c())), (3, 2, 2, 1));
+}
+
+#[test]
+fn a_withheld_rule_is_named_and_passed_over() {
+    // Rule 1 of A is 1<0,!2, and rule 2 is 2<0,!1.
+    let a = with_unread(&[2], &example_a());
+    let end = run_of(&a, &[1, 2]).unwrap();
+    assert_eq!((end.fact_marks, end.rule_marks), (vec![1, 2, 1, 1], vec![0, 4, 1, 0]));
+    assert_eq!(end.steps, [step(0, 0), step(2, 2), step(3, 3)]);
+    assert_eq!(run_of(&a, &[2]), Err(Refusal::ExceptionNotNamed));
+    assert_eq!(run_of(&a, &[1, 2, 1]), Err(Refusal::NamedBefore));
+    assert_eq!(search_of(&a).unwrap().order, order_of(&[2, 1]));
+    assert_eq!(judge(&a, &[], &[1, 0, 1, 1]), Ok(true));
+    assert_eq!(judge(&a, &order_of(&[1]), &[1, 0, 1, 1]), Ok(true));
+    assert_eq!(judge(&a, &[], &[1, 1, 0, 0]), Ok(false));
+    assert_eq!(check(&a, &[1, 1, 0, 0], 1, &[6, 0, 0, 0, 6, 1, 0, 1]), Ok(false));
+    assert_eq!(check(&a, &[1, 0, 1, 1], 2, &[6, 0, 0, 0, 6, 2, 0, 2]), Ok(true));
+    assert_eq!(layered_of(&a), Ok(order_of(&[2, 1])));
+    assert_eq!(panel(&a), "F 4 R 4 S 1\nD 0 0\nD 2 2\nD 3 3\nX 1\nY\n");
+    assert_eq!(grounds_of(&a, &[1, 2], 1), Err(Refusal::NotDerived));
+    // B sets its rule aside, unless that is withheld.
+    let b = with_unread(&[0], &file_of(1, &[(0, &[], &[0])]));
+    assert_eq!(panel(&b), "F 1 R 1 S 0\nY\n");
+    assert_eq!(search_of(&b).unwrap().rule_marks, [4]);
+}
+
+#[test]
 fn sixteen_constraint_facts_pass_and_seventeen_do_not() {
     let pairs = |count: usize| {
         let constraints: Vec<[usize; 1]> = (0..count).map(|fact| [fact]).collect();
@@ -277,6 +358,9 @@ fn sixteen_constraint_facts_pass_and_seventeen_do_not() {
     };
     assert!(search_of(&pairs(16)).is_ok());
     assert_eq!(search_of(&pairs(17)), Err(Refusal::TooManyConstraintFacts));
+    assert!(search_of(&with_unread(&[16], &pairs(17))).is_ok());
+    assert_eq!(search_of(&with_unread(&[17], &pairs(17))), Err(Refusal::TooManyConstraintFacts));
+    assert_eq!(search_of(&with_unread(&[3], &pairs(18))), Err(Refusal::TooManyConstraintFacts));
 }
 
 #[test]
@@ -546,7 +630,25 @@ fn loads_that_are_refused_leave_all_bytes() {
 
 /// The definitions, without any care for time.
 mod naive {
-    use super::super::{FactSet, RuleFile, Step};
+    use super::super::{FactSet, Rule, RuleFile, Step};
+
+    /// "An exception rule with an unread constraint is withheld".
+    pub fn is_withheld(file: &RuleFile, number: usize) -> bool {
+        file.rules[number].constraints.iter().any(|constraint| file.unread.contains(constraint))
+    }
+
+    /// "the file without the withheld rules", by their numbers.
+    fn remaining(file: &RuleFile) -> impl Iterator<Item = (usize, &Rule)> {
+        let numbered = file.rules.iter().enumerate();
+        numbered.filter(|&(number, _)| !is_withheld(file, number))
+    }
+
+    /// "A constraint fact is a fact that is a constraint of some rule".
+    fn constraint_facts(file: &RuleFile) -> FactSet {
+        let is_constraint =
+            |&fact: &usize| remaining(file).any(|(_, rule)| rule.constraints.contains(fact));
+        (0..file.facts).filter(is_constraint).collect()
+    }
 
     fn close(file: &RuleFile, set: &mut FactSet, steps: &mut Vec<Step>) {
         let next = |set: &FactSet| {
@@ -595,6 +697,7 @@ mod naive {
         closure.insert(rule.conclusion);
         close(file, &mut closure, &mut Vec::new());
         rule.is_exception()
+            && !is_withheld(file, number)
             && !end.derived.contains(rule.conclusion)
             && rule.premises.is_within(&end.derived)
             && !closure.meets(&rule.constraints)
@@ -607,7 +710,7 @@ mod naive {
         let mut ranks = vec![0; file.facts];
         loop {
             let before = ranks.clone();
-            for rule in &file.rules {
+            for (_, rule) in remaining(file) {
                 let at_least = rule.premises.iter().map(|premise| ranks[premise]);
                 let above = rule.constraints.iter().map(|constraint| ranks[constraint] + 1);
                 let asked = at_least.chain(above).max().unwrap_or(0);
@@ -629,15 +732,17 @@ mod naive {
             let mut reached: FactSet = [constraint].into_iter().collect();
             loop {
                 let before = reached;
-                for rule in file.rules.iter().filter(|rule| before.contains(rule.conclusion)) {
-                    reached = reached.union(&rule.premises).union(&rule.constraints);
+                for (_, rule) in remaining(file) {
+                    if before.contains(rule.conclusion) {
+                        reached = reached.union(&rule.premises).union(&rule.constraints);
+                    }
                 }
                 if reached == before {
                     return reached.contains(conclusion);
                 }
             }
         };
-        file.rules.iter().any(|rule| {
+        remaining(file).any(|(_, rule)| {
             rule.constraints.iter().any(|constraint| leads_back(constraint, rule.conclusion))
         })
     }
@@ -666,7 +771,7 @@ mod naive {
         let mut least = FactSet::EMPTY;
         loop {
             let before = least;
-            for (number, rule) in file.rules.iter().enumerate() {
+            for (number, rule) in remaining(file) {
                 let kept = !listed.contains(&number) && !rule.constraints.meets(set);
                 if kept && rule.premises.is_within(&least) {
                     least.insert(rule.conclusion);
@@ -680,17 +785,27 @@ mod naive {
 
     /// Every subset of the constraint facts, the earliest first.
     pub fn earliest_stable_set(file: &RuleFile) -> Option<FactSet> {
-        let facts: Vec<usize> = file.constraint_facts().iter().collect();
+        let constraint_facts = constraint_facts(file);
+        let facts: Vec<usize> = constraint_facts.iter().collect();
         assert!(facts.len() <= 16);
         (0..1usize << facts.len()).find_map(|subset| {
             let chosen = |&place: &usize| subset >> place & 1 == 1;
             let guess = (0..facts.len()).filter(chosen).map(|place| facts[place]).collect();
             let set = least_of_reduct(file, &[], &guess);
             (least_of_reduct(file, &[], &set) == set
-                && set.intersection(&file.constraint_facts()) == guess)
+                && set.intersection(&constraint_facts) == guess)
                 .then_some(set)
         })
     }
+}
+
+/// A file of these rules, one in two with unread facts.
+fn file_with(random: &mut Random, facts: usize, rules: Vec<Rule>) -> RuleFile {
+    let unread = if random.one_in(2) { random.within(1, 3) } else { 0 };
+    let unread = (0..unread).map(|_| random.below(facts)).collect();
+    let mut file = RuleFile { rules, unread, ..RuleFile::new(facts) };
+    file.withhold();
+    file
 }
 
 fn random_file(random: &mut Random) -> RuleFile {
@@ -705,7 +820,7 @@ fn random_file(random: &mut Random) -> RuleFile {
         constraints: some(random, most_constraints),
     };
     let rules = (0..random.within(1, 14)).map(|_| rule(random)).collect();
-    RuleFile { facts, rules }
+    file_with(random, facts, rules)
 }
 
 #[test]
@@ -790,7 +905,7 @@ fn random_levels(random: &mut Random) -> RuleFile {
         Rule { conclusion, premises, constraints: some(random, 3, level) }
     };
     let rules = (0..random.within(1, 14)).map(|_| rule(random)).collect();
-    RuleFile { facts, rules }
+    file_with(random, facts, rules)
 }
 
 #[test]
@@ -821,8 +936,12 @@ fn the_order_by_rank_names_each_exception_rule_in_its_place() {
         let mut named = order.clone();
         named.sort_unstable();
         assert_eq!(named, ascending);
-        let keys = order.iter().map(|&number| (ranks[file.rules[number].conclusion], number));
-        assert!(keys.is_sorted());
+        let key = |&number: &usize| {
+            let withheld = naive::is_withheld(&file, number);
+            let rank = if withheld { 0 } else { ranks[file.rules[number].conclusion] };
+            (withheld, rank, number)
+        };
+        assert!(order.iter().map(key).is_sorted());
         rearranged += usize::from(order != ascending);
     }
     assert!(rearranged > 1_000, "{rearranged} rearranged");
@@ -879,4 +998,81 @@ fn the_search_agrees_with_plain_enumeration() {
         }
     }
     assert!(without > 100);
+}
+
+/// The rules in force as a file of its own, and for each rule of it its old number.
+fn without_withheld(file: &RuleFile) -> (RuleFile, Vec<usize>) {
+    let kept: Vec<usize> =
+        (0..file.rules.len()).filter(|&number| !naive::is_withheld(file, number)).collect();
+    let rules = kept.iter().map(|&number| file.rules[number].clone()).collect();
+    (RuleFile { rules, ..RuleFile::new(file.facts) }, kept)
+}
+
+#[test]
+fn every_operation_works_on_the_file_without_the_withheld_rules() {
+    let (mut some, mut searched, mut layered) = (0, 0, 0);
+    for stream in 0..20_000 {
+        let random = &mut Random::new(10, stream);
+        let file = if random.one_in(2) { random_file(random) } else { random_levels(random) };
+        let (rest, numbers) = without_withheld(&file);
+        let withheld: Vec<usize> =
+            (0..file.rules.len()).filter(|number| !numbers.contains(number)).collect();
+        let renumbered = |order: Vec<usize>| -> Vec<usize> {
+            order.into_iter().map(|number| numbers[number]).collect()
+        };
+        let with_withheld_last = |order: Vec<usize>| [renumbered(order), withheld.clone()].concat();
+
+        let mut order: Vec<usize> = file.exceptions().collect();
+        random.shuffle(&mut order);
+        let place = |number: &usize| numbers.iter().position(|old| old == number);
+        let order_of_rest: Vec<usize> = order.iter().filter_map(place).collect();
+        let (ran, expected) = (Run::to_end(&file, &order), Run::to_end(&rest, &order_of_rest));
+        let steps = expected.steps.iter().map(|step| Step { rule: numbers[step.rule], ..*step });
+        assert_eq!(ran.steps, steps.collect::<Vec<_>>());
+        assert_eq!(ran.derived.facts, expected.derived.facts);
+        assert_eq!(ran.ruled_out, expected.ruled_out);
+        let mark = |number: usize| place(&number).map_or(4, |place| expected.rule_mark(place));
+        assert!((0..file.rules.len()).all(|number| ran.rule_mark(number) == mark(number)));
+        for set in all_sets(file.facts).step_by(7) {
+            let none = &RuleSet::EMPTY;
+            assert_eq!(file.is_stable(none, &set), rest.is_stable(none, &set));
+        }
+        assert_eq!(file.constraint_facts(), rest.constraint_facts());
+
+        let found = Search::new(&file).earliest_stable_set();
+        assert_eq!(found, Search::new(&rest).earliest_stable_set());
+        if let Some(set) = found {
+            assert_eq!(order_for(&file, &set), with_withheld_last(order_for(&rest, &set)));
+        }
+        let ranks = Layers::ranks(&file);
+        assert_eq!(ranks, Layers::ranks(&rest));
+        if let Ok(ranks) = &ranks {
+            let order = with_withheld_last(order_by_rank(&rest, ranks));
+            assert_eq!(order_by_rank(&file, ranks), order);
+        }
+        some += usize::from(!withheld.is_empty());
+        searched += usize::from(!withheld.is_empty() && found.is_some());
+        layered += usize::from(!withheld.is_empty() && ranks.is_ok());
+    }
+    assert!(some > 4_000 && searched > 2_000 && layered > 2_000, "{some} {searched} {layered}");
+}
+
+#[test]
+fn a_row_with_a_step_by_a_withheld_rule_is_no_proof() {
+    let mut by_withheld = 0;
+    for stream in 0..10_000 {
+        let random = &mut Random::new(11, stream);
+        let file = random_file(random);
+        let read = RuleFile { unread: FactSet::EMPTY, withheld: RuleSet::EMPTY, ..file.clone() };
+        let order: Vec<usize> = file.exceptions().collect();
+        let run = Run::to_end(&read, &order);
+        for fact in run.derived.facts.iter() {
+            let row = run.grounds(fact);
+            assert!(read.proves(&row, fact, &run.derived.facts));
+            let withheld = row.iter().any(|step| naive::is_withheld(&file, step.rule));
+            assert_eq!(file.proves(&row, fact, &run.derived.facts), !withheld);
+            by_withheld += usize::from(withheld);
+        }
+    }
+    assert!(by_withheld > 500, "{by_withheld} by a withheld rule");
 }

@@ -103,6 +103,7 @@ fn rule_ranges(file: &[u8]) -> Vec<Range<usize>> {
     let mut rules: Vec<Range<usize>> = Vec::new();
     for start in (2..file.len().saturating_sub(1)).step_by(2) {
         match (file[start], rules.last_mut()) {
+            (kind::UNREAD, None) => {}
             (kind::CONCLUSION, _) => rules.push(start..start + 2),
             (kind::PREMISE | kind::CONSTRAINT, Some(rule)) => rule.end = start + 2,
             _ => break,
@@ -159,17 +160,22 @@ fn renumbered(row: &[u8], item_bytes: usize, cut: &Range<usize>) -> Vec<u8> {
     kept
 }
 
-/// Leaves out a fact that no rule names, and renames the facts above it.
+/// Where the items that name facts stand: the unread facts, and the rules behind them.
+fn fact_items(file: &[u8]) -> Range<usize> {
+    let unread = file.get(2..).unwrap_or(&[]).chunks_exact(2);
+    let unread = unread.take_while(|item| item[0] == kind::UNREAD).count();
+    2..rule_ranges(file).last().map_or(2 + 2 * unread, |rule| rule.end)
+}
+
+/// Leaves out a fact that no item names, and renames the facts above it.
 fn without_fact(case: &Case, fact: u8) -> Option<Case> {
     let facts = *case.file.get(1)?;
-    let rules = rule_ranges(&case.file);
-    let named = |place: usize| place % 2 == 1 && case.file[place] == fact;
-    if fact >= facts || rules.iter().any(|rule| rule.clone().any(named)) {
+    let places = fact_items(&case.file).skip(1).step_by(2);
+    if fact >= facts || places.clone().any(|place| case.file[place] == fact) {
         return None;
     }
     let mut smaller = case.clone();
     smaller.file[1] -= 1;
-    let places = rules.into_iter().flatten().filter(|place| place % 2 == 1);
     places.for_each(|place| smaller.file[place] -= u8::from(smaller.file[place] > fact));
     for step in smaller.proof.chunks_exact_mut(STEP_BYTES) {
         step[1] -= u8::from(step[1] > fact);

@@ -30,14 +30,14 @@ module _ {P : Program} {seen stack roots : List ℕ} {n m at : ℕ} (w : Walking
   to-current : (a : ℕ) → a < n → Reaches P (factAt stack a) (factAt stack at)
   to-current a l = w .reaches a at l (here .inside) (λ t u behind. absurd (omega (arith, here .no-root-behind t u)))
 
-  module _ (i : ℕ) (known : i < count P) (concludes : rule P i .conclusion ≡ factAt stack at) where
+  module _ (i : ℕ) (known : i < count P) (on : inForce P i ≡ true) (concludes : rule P i .conclusion ≡ factAt stack at) where
     from-current : (g : ℕ) (barring : Bool) → mem g (bodyPart P i barring) ≡ true → Reaches P (factAt stack at) g
-    from-current g barring named = subst (λ f. Reaches P f g) concludes (one-link P i g barring known named)
+    from-current g barring named = subst (λ f. Reaches P f g) concludes (one-link P i g barring known on named)
 
     barred-from-current : (g : ℕ) → mem g (rule P i .constraints) ≡ true → ReachesBarred P (factAt stack at) g
-    barred-from-current g named = subst (λ f. ReachesBarred P f g) concludes (barring-link P i g known named)
+    barred-from-current g named = subst (λ f. ReachesBarred P f g) concludes (barring-link P i g known on named)
 
-    -- So what a rule of that fact names may be opened.
+    -- So what a rule in force of that fact names may be opened.
     pub may-open : (g : ℕ) (barring : Bool) → mem g (bodyPart P i barring) ≡ true → MayOpen P stack n g barring
     may-open g barring named a l = (
       reaches-join P (factAt stack a) (factAt stack at) g (to-current a l) (from-current g barring named),

@@ -11,18 +11,18 @@ use Rattle.components.specs.Open.{Reaches, ReachesBarred}
 use Rattle.components.specs.Look.{bodyPart}
 
 module _ (P : Program) where
-  -- A fact depends on what a rule that concludes it names; where that is a constraint, by a constraint.
+  -- A fact depends on what a rule in force that concludes it names; where that is a constraint, by a constraint.
   abbrev linkBy : ℕ → ℕ → Bool → Link
   linkBy i g barring = record { by = i; to = g; barring = barring }
 
-  depends : (i g : ℕ) (barring : Bool) → i < count P → mem g (bodyPart P i barring) ≡ true → Depends P (inForce P) (rule P i .conclusion) (linkBy i g barring)
-  depends i g barring known named = record { known = known; in-force = refl; concludes = refl; names = named }
+  depends : (i g : ℕ) (barring : Bool) → i < count P → inForce P i ≡ true → mem g (bodyPart P i barring) ≡ true → Depends P (inForce P) (rule P i .conclusion) (linkBy i g barring)
+  depends i g barring known on named = record { known = known; in-force = on; concludes = refl; names = named }
 
-  pub one-link : (i g : ℕ) (barring : Bool) → i < count P → mem g (bodyPart P i barring) ≡ true → Reaches P (rule P i .conclusion) g
-  one-link i g barring known named = (linkBy i g barring ∷ [], (depends i g barring known named, refl))
+  pub one-link : (i g : ℕ) (barring : Bool) → i < count P → inForce P i ≡ true → mem g (bodyPart P i barring) ≡ true → Reaches P (rule P i .conclusion) g
+  one-link i g barring known on named = (linkBy i g barring ∷ [], (depends i g barring known on named, refl))
 
-  pub barring-link : (i g : ℕ) → i < count P → mem g (rule P i .constraints) ≡ true → ReachesBarred P (rule P i .conclusion) g
-  barring-link i g known named = (linkBy i g true ∷ [], ((depends i g true known named, refl), refl))
+  pub barring-link : (i g : ℕ) → i < count P → inForce P i ≡ true → mem g (rule P i .constraints) ≡ true → ReachesBarred P (rule P i .conclusion) g
+  barring-link i g known on named = (linkBy i g true ∷ [], ((depends i g true known on named, refl), refl))
 
   -- What depends on a fact depends on whatever that one depends on; by a constraint on the way, where one of the two ways has one.
   pub reaches-join : (f g h : ℕ) → Reaches P f g → Reaches P g h → Reaches P f h

@@ -7,7 +7,7 @@ use mathlib.Core.Logic.{inl, inr, ⊎-elim}
 use native.Mathlib.Omega.{arith}
 use borrow.Author.Tests.{eqb-true, eqb-false}
 use lib.Dec.{eqb}
-use Rattle.theory.specs.Rule.{mem, Program, count}
+use Rattle.theory.specs.Rule.{mem, Program, inForce, count}
 use Rattle.theory.specs.Places.{rankIn}
 use Rattle.theory.proofs.Bools.{either, never}
 use Rattle.theory.proofs.Lists.{mem-cases}
@@ -52,17 +52,17 @@ placeless-noted met no-place = record { met = met; not-before = λ l. absurd (om
 pub open-noted : {seen : List ℕ} {low g : ℕ} → low ≤ seenOf seen g → seenOf seen g < maxFacts narrow → Noted false seen low g
 open-noted up small = record { met = λ u. omega arith; not-before = λ l. (refl, up) }
 
--- A walk along a span: what was found so far holds for every rule whose premises, or constraints, stand there.
+-- A walk along a span: what was found so far holds for every rule in force whose premises, or constraints, stand there.
 pub record Looking (P : Program) (barring : Bool) (row : ℕ → ℕ) (seen ranks : List ℕ) (from end j low high : ℕ) : Type 0 where
   pub reached : from ≤ j
-  pub finds : (i : ℕ) → i < count P → Spanned (P .facts) row (bodyPart P i barring) from end → PremisePlace P i seen low × Asked P i seen ranks high
+  pub finds : (i : ℕ) → i < count P → inForce P i ≡ true → Spanned (P .facts) row (bodyPart P i barring) from end → PremisePlace P i seen low × Asked P i seen ranks high
   pub passed : (k : ℕ) → from ≤ k → k < j → Noted barring seen low (row k) × (rankIn ranks (row k) + cond barring 1 0 ≤ high)
 
 pub nothing-found : (P : Program) (barring : Bool) (row : ℕ → ℕ) (seen ranks : List ℕ) (from end : ℕ) → Looking P barring row seen ranks from end from nowhere 0
 nothing-found P barring row seen ranks from end =
     record {
       reached = omega arith;
-      finds = λ i h s. (inl refl, record { under = λ rank r. omega arith; bounded = λ b most less. omega arith });
+      finds = λ i h on s. (inl refl, record { under = λ rank r. omega arith; bounded = λ b most less. omega arith });
       passed = λ k low high. absurd (omega arith);
     }
 
@@ -77,15 +77,15 @@ module _ {P : Program} {barring : Bool} {row : ℕ → ℕ} {seen ranks : List �
       }
 
   -- At the end all were passed.
-  pub all-found : end ≤ j → (i : ℕ) → i < count P → Spanned (P .facts) row (bodyPart P i barring) from end → PartFinds P i barring seen ranks (Seen low high)
-  all-found h i k s = (w .finds i k s, λ g m. let (a, (l, (u, is))) = of-span row from end g (rw (s .is) at m) in rw is (w .passed a l (omega arith)))
+  pub all-found : end ≤ j → (i : ℕ) → i < count P → inForce P i ≡ true → Spanned (P .facts) row (bodyPart P i barring) from end → PartFinds P i barring seen ranks (Seen low high)
+  all-found h i k on s = (w .finds i k on s, λ g m. let (a, (l, (u, is))) = of-span row from end g (rw (s .is) at m) in rw is (w .passed a l (omega arith)))
 
   -- A higher rank that is asked for counts from now on.
-  higher-found : (more : ℕ) → high ≤ more → ((i : ℕ) → i < count P → Spanned (P .facts) row (bodyPart P i barring) from end → Asked P i seen ranks more) → Looking P barring row seen ranks from end j low more
+  higher-found : (more : ℕ) → high ≤ more → ((i : ℕ) → i < count P → inForce P i ≡ true → Spanned (P .facts) row (bodyPart P i barring) from end → Asked P i seen ranks more) → Looking P barring row seen ranks from end j low more
   higher-found more up asked =
       record {
         reached = w .reached;
-        finds = λ i k s. (w .finds i k s .0, asked i k s);
+        finds = λ i k on s. (w .finds i k on s .0, asked i k on s);
         passed = λ k l h. (w .passed k l h .0, omega (arith, w .passed k l h .1));
       }
 
@@ -95,7 +95,7 @@ module _ {P : Program} {row : ℕ → ℕ} {seen ranks : List ℕ} {from end j l
   place-found small lower =
       record {
         reached = w .reached;
-        finds = λ i k s. let here = element P i false s (w .reached) h f e in (inr (f, (here .names, (here .known, (refl, small)))), w .finds i k s .1);
+        finds = λ i k on s. let here = element P i false s (w .reached) h f e in (inr (f, (here .names, (here .known, (refl, small)))), w .finds i k on s .1);
         passed = λ k l u. let (noted, asks) = w .passed k l u in (record { met = noted .met; not-before = λ is-open. (refl, omega (arith, noted .not-before is-open .1)) }, asks);
       }
 
@@ -104,8 +104,8 @@ module _ {P : Program} {row : ℕ → ℕ} {seen ranks : List ℕ} {from end j l
   rank-found r noted more =
       no-more-found
       (higher-found w (rankIn ranks f) (omega arith)
-      (λ i k s. record {
-        under = λ rank t. omega (arith, r .under rank t f, t .not-below i k refl f (element P i false s (w .reached) h f e .names));
+      (λ i k on s. record {
+        under = λ rank t. omega (arith, r .under rank t f, t .not-below i k on f (element P i false s (w .reached) h f e .names));
         bounded = λ b most less. most f;
       }))
       f e noted (omega arith)
@@ -115,8 +115,8 @@ pub above-found : {P : Program} {row : ℕ → ℕ} {seen ranks : List ℕ} {fro
 above-found {P} {row} {seen} {ranks} w h f e r noted more =
     no-more-found
     (higher-found w (rankIn ranks f + 1) (omega arith)
-    (λ i k s. let here = element P i true s (w .reached) h f e in record {
-      under = λ rank t. omega (arith, r .under rank t f, t .above i k refl f (here .names));
+    (λ i k on s. let here = element P i true s (w .reached) h f e in record {
+      under = λ rank t. omega (arith, r .under rank t f, t .above i k on f (here .names));
       bounded = λ b most less. omega (arith, less f (here .known) (noted .met) (λ l. never refl (noted .not-before l .0)));
     }))
     f e noted (omega arith)

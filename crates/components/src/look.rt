@@ -1,7 +1,8 @@
 // What a rule of an open fact says. Internal.
 ghost use Prim.Native.Nat.{_<_};
+ghost use mathlib.Core.Path.{_≡_};
 ghost use mathlib.Core.Bool.{true, false};
-ghost use Rattle.theory.specs.Rule.{count};
+ghost use Rattle.theory.specs.Rule.{count, inForce};
 ghost use Rattle.tables.specs.Layout.{programIn, WellFormed};
 ghost use Rattle.tables.specs.Ranking.{RanksSoFar};
 ghost use Rattle.components.specs.Look.{PartFinds, LookFinds};
@@ -33,7 +34,7 @@ pub enum Look {
     Seen { low: u16, high: u16 },
 }
 
-// Looks at the premises of a rule.
+// Looks at the premises of a rule in force.
 fn look_at_premises(
     tables: &[u16; TABLE_CELLS],
     rule: RuleId,
@@ -42,6 +43,7 @@ fn look_at_premises(
 ) -> Look
     requires { ⌜ WellFormed (now tables) × (rule .0 < count (programIn (now tables))) ⌝ }
     requires { ⌜ RanksSoFar (programIn (now tables)) (now ranks) ⌝ }
+    requires { ⌜ inForce (programIn (now tables)) (rule .0) ≡ true ⌝ }
     ensures { λ r. ⌜ PartFinds (programIn (now (tables .entry))) (rule .0) false (now (seen .entry)) (now (ranks .entry)) r ⌝ }
 {
     let own = premise_span(tables, rule);
@@ -72,7 +74,7 @@ fn look_at_premises(
     Look::Seen { low, high }
 }
 
-// Looks at the constraints of a rule.
+// Looks at the constraints of a rule in force.
 fn look_at_constraints(
     tables: &[u16; TABLE_CELLS],
     rule: RuleId,
@@ -81,6 +83,7 @@ fn look_at_constraints(
 ) -> Look
     requires { ⌜ WellFormed (now tables) × (rule .0 < count (programIn (now tables))) ⌝ }
     requires { ⌜ RanksSoFar (programIn (now tables)) (now ranks) ⌝ }
+    requires { ⌜ inForce (programIn (now tables)) (rule .0) ≡ true ⌝ }
     ensures { λ r. ⌜ PartFinds (programIn (now (tables .entry))) (rule .0) true (now (seen .entry)) (now (ranks .entry)) r ⌝ }
 {
     let own = constraint_span(tables, rule);
@@ -107,7 +110,7 @@ fn look_at_constraints(
     Look::Seen { low: NOWHERE, high }
 }
 
-// Looks at a rule: at its premises, then at its constraints.
+// Looks at a rule in force: at its premises, then at its constraints.
 pub fn look_at_rule(
     tables: &[u16; TABLE_CELLS],
     rule: RuleId,
@@ -116,6 +119,7 @@ pub fn look_at_rule(
 ) -> Look
     requires { ⌜ WellFormed (now tables) × (rule .0 < count (programIn (now tables))) ⌝ }
     requires { ⌜ RanksSoFar (programIn (now tables)) (now ranks) ⌝ }
+    requires { ⌜ inForce (programIn (now tables)) (rule .0) ≡ true ⌝ }
     ensures { λ r. ⌜ LookFinds (programIn (now (tables .entry))) (rule .0) (now (seen .entry)) (now (ranks .entry)) r ⌝ }
 {
     match look_at_premises(tables, rule, seen, ranks) {

@@ -12,7 +12,7 @@ use Rattle.items.specs.declared.item.Item.{Item}
 use Rattle.cursors.specs.declared.cursor.Row.{Row}
 use Rattle.cursors.specs.declared.cursor.Row.the-variants.{Opening, Body, Order, Steps}
 use Rattle.cursors.specs.declared.cursor.Cursor.{Cursor}
-use Rattle.items.specs.Item.{narrow, Width, maxFacts, itemWidth, lastWidth, nameWidth, stepWidth, factsKind, opensKind, premiseKind, constraintKind, rulesKind, namesKind, stepKind, noSuchKind, bodyLength, widthOf, bigEndian, itemOf, classOf, whereSaid}
+use Rattle.items.specs.Item.{narrow, Width, maxFacts, itemWidth, lastWidth, nameWidth, stepWidth, factsKind, opensKind, premiseKind, constraintKind, rulesKind, namesKind, stepKind, unreadKind, noSuchKind, bodyLength, widthOf, bigEndian, itemOf, classOf, whereSaid}
 use Rattle.cursors.specs.Cursor.{widthIn, ofRow}
 use Rattle.cursors.proofs.Items.{ReadAt}
 
@@ -30,18 +30,20 @@ record EachKind (P : Row → ℕ → Type 0) : Type 0 where
   premise : P Body (premiseKind (widthIn Body))
   constraint : P Body (constraintKind (widthIn Body))
   rules : P Body rulesKind
+  unread : P Body (unreadKind (widthIn Body))
   names : P Order namesKind
   step : P Steps (stepKind (widthIn Steps))
 
 of-kind : (P : Row → ℕ → Type 0) → EachKind P → (row : Row) (k : ℕ) → ofRow row k ≡ true → P row k
 of-kind P each Opening k e = subst (P Opening) (sym (eqb-true k (factsKind (widthIn Opening)) e)) (each .facts)
-of-kind P each Body k e = go (eqb k (opensKind (widthIn Body))) refl (eqb k (premiseKind (widthIn Body))) refl (eqb k (constraintKind (widthIn Body))) refl e
+of-kind P each Body k e = go (eqb k (opensKind (widthIn Body))) refl (eqb k (premiseKind (widthIn Body))) refl (eqb k (constraintKind (widthIn Body))) refl (eqb k rulesKind) refl e
   where
-    go : (a : Bool) → eqb k (opensKind (widthIn Body)) ≡ a → (b : Bool) → eqb k (premiseKind (widthIn Body)) ≡ b → (d : Bool) → eqb k (constraintKind (widthIn Body)) ≡ d → a || (b || (d || eqb k rulesKind)) ≡ true → P Body k
-    go true p b q d r h = subst (P Body) (sym (eqb-true k (opensKind (widthIn Body)) p)) (each .opens)
-    go false p true q d r h = subst (P Body) (sym (eqb-true k (premiseKind (widthIn Body)) q)) (each .premise)
-    go false p false q true r h = subst (P Body) (sym (eqb-true k (constraintKind (widthIn Body)) r)) (each .constraint)
-    go false p false q false r h = subst (P Body) (sym (eqb-true k rulesKind h)) (each .rules)
+    go : (a : Bool) → eqb k (opensKind (widthIn Body)) ≡ a → (b : Bool) → eqb k (premiseKind (widthIn Body)) ≡ b → (d : Bool) → eqb k (constraintKind (widthIn Body)) ≡ d → (m : Bool) → eqb k rulesKind ≡ m → a || (b || (d || (m || eqb k (unreadKind (widthIn Body))))) ≡ true → P Body k
+    go true p b q d r m t h = subst (P Body) (sym (eqb-true k (opensKind (widthIn Body)) p)) (each .opens)
+    go false p true q d r m t h = subst (P Body) (sym (eqb-true k (premiseKind (widthIn Body)) q)) (each .premise)
+    go false p false q true r m t h = subst (P Body) (sym (eqb-true k (constraintKind (widthIn Body)) r)) (each .constraint)
+    go false p false q false r true t h = subst (P Body) (sym (eqb-true k rulesKind t)) (each .rules)
+    go false p false q false r false t h = subst (P Body) (sym (eqb-true k (unreadKind (widthIn Body)) h)) (each .unread)
 of-kind P each Order k e = subst (P Order) (sym (eqb-true k namesKind e)) (each .names)
 of-kind P each Steps k e = subst (P Steps) (sym (eqb-true k (stepKind (widthIn Steps)) e)) (each .step)
 
@@ -56,6 +58,7 @@ known =
       premise = omega arith;
       constraint = omega arith;
       rules = omega arith;
+      unread = omega arith;
       names = omega arith;
       step = omega arith;
     })
@@ -90,6 +93,7 @@ in-row =
       premise = λ body. refl;
       constraint = λ body. refl;
       rules = λ body. refl;
+      unread = λ body. refl;
       names = λ body. refl;
       step = λ body. refl;
     })
@@ -112,6 +116,7 @@ count-in =
       premise = λ bs h. omega arith;
       constraint = λ bs h. omega arith;
       rules = λ bs h. omega arith;
+      unread = λ bs h. omega arith;
       names = λ bs h. omega arith;
       step = λ bs h. omega arith;
     })

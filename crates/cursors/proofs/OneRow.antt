@@ -14,21 +14,21 @@ use Rattle.cursors.specs.declared.cursor.Fault.the-variants.{NoByte, Oth
 use Rattle.cursors.specs.declared.cursor.Cursor.{Cursor}
 use Rattle.cursors.specs.declared.cursor.Read.the-variants.{Found}
 use Rattle.items.specs.Question.{firstNo}
-use Rattle.items.specs.Item.{narrow, Width, opensKind, premiseKind, constraintKind, rulesKind, bodyLength, itemOf}
+use Rattle.items.specs.Item.{narrow, Width, opensKind, premiseKind, constraintKind, rulesKind, unreadKind, bodyLength, itemOf}
 use Rattle.cursors.specs.Cursor.{bad, placeQuestions, stayed, widthIn, ofRow, rowAfter, nextAt}
 use Rattle.cursors.proofs.EachKind.{all-narrow}
 use Rattle.cursors.proofs.CursorWays.{no-byte, other-kind, short-body, whole-item}
 
--- The kinds that are not of a file's body: none of the four is.
-not-in-body : (k : ℕ) → (k ≡ opensKind narrow → ⊥) → (k ≡ premiseKind narrow → ⊥) → (k ≡ constraintKind narrow → ⊥) → (k ≡ rulesKind → ⊥) → ofRow Body k ≡ false
-not-in-body k o p q r = rw (ne-eqb k (opensKind narrow) o, ne-eqb k (premiseKind narrow) p, ne-eqb k (constraintKind narrow) q, ne-eqb k rulesKind r)
+-- The kinds that are not of a file's body: none of the five is.
+not-in-body : (k : ℕ) → (k ≡ opensKind narrow → ⊥) → (k ≡ premiseKind narrow → ⊥) → (k ≡ constraintKind narrow → ⊥) → (k ≡ rulesKind → ⊥) → (k ≡ unreadKind narrow → ⊥) → ofRow Body k ≡ false
+not-in-body k o p q r u = rw (ne-eqb k (opensKind narrow) o, ne-eqb k (premiseKind narrow) p, ne-eqb k (constraintKind narrow) q, ne-eqb k rulesKind r, ne-eqb k (unreadKind narrow) u)
 
--- Past the kinds of a rule's items there is the last item's alone, and among them are those of three items.
-pub past-rule-kinds : (k : ℕ) → constraintKind narrow < k → (k ≡ rulesKind → ⊥) → ofRow Body k ≡ false
-past-rule-kinds k h r = not-in-body k (λ e. omega arith) (λ e. omega arith) (λ e. omega arith) r
+-- Past the kinds of a rule's items there are the last item's and an unread fact's alone, and among them are those of three items.
+pub past-rule-kinds : (k : ℕ) → constraintKind narrow < k → (k ≡ rulesKind → ⊥) → (k ≡ unreadKind narrow → ⊥) → ofRow Body k ≡ false
+past-rule-kinds k h r u = not-in-body k (λ e. omega arith) (λ e. omega arith) (λ e. omega arith) r u
 
 pub no-rule-kind : (k : ℕ) → k ≤ constraintKind narrow → (k ≡ opensKind narrow → ⊥) → (k ≡ premiseKind narrow → ⊥) → (k ≡ constraintKind narrow → ⊥) → ofRow Body k ≡ false
-no-rule-kind k h o p q = not-in-body k o p q (λ e. omega arith)
+no-rule-kind k h o p q = not-in-body k o p q (λ e. omega arith) (λ e. omega arith)
 
 module _ (s : List ℕ) (c : Cursor) (row : Row) (known : c .row ≡ row) where
   stays : (fault : Fault) → nextAt s c ≡ stayed (firstNo (placeQuestions (c .row) (bad fault))) c → stayed (firstNo (placeQuestions row (bad fault))) c ≡ nextAt s c

@@ -8,7 +8,7 @@ use borrow.Author.Tests.{le-leb}
 use lib.ListN.{length, getD, take, drop}
 use lib.Seq.{drop-at, length-take-le}
 use Rattle.items.specs.declared.item.Item.{Item}
-use Rattle.items.specs.declared.item.Item.the-variants.{Facts, Opens, Premise, Constraint, Rules, Names, Step}
+use Rattle.items.specs.declared.item.Item.the-variants.{Facts, Opens, Premise, Constraint, Rules, Names, Step, Unread}
 use Rattle.cursors.specs.declared.cursor.Row.{Row}
 use Rattle.cursors.specs.declared.cursor.Row.the-variants.{Opening, Body, Order, Steps}
 use Rattle.cursors.specs.declared.cursor.Cursor.{Cursor}
@@ -60,6 +60,7 @@ reads-back (Rules n) ys = record { ours = refl; whole = omega arith; value = ap 
 reads-back (Names r) ys = record { ours = refl; whole = omega arith; value = ap (λ (n : ℕ). Names (ruleId n)) (two-digits (r .0)); rest = refl }
 reads-back (Step f r) ys =
     record { ours = refl; whole = omega arith; value = ap₂ (λ (m n : ℕ). Step (factId m) (ruleId n)) (one-digit (f .0)) (two-digits (r .0)); rest = refl }
+reads-back (Unread f) ys = record { ours = refl; whole = omega arith; value = ap (λ (n : ℕ). Unread (factId n)) (one-digit (f .0)); rest = refl }
 
 cut-kind : (i : Item) (ys : List ℕ) → itemBytes (widthIn (rowIn i)) i ++ ys ≡ kindOf i ∷ (bodyOf i ++ ys)
 cut-kind (Facts n) ys = refl
@@ -69,6 +70,7 @@ cut-kind (Constraint f) ys = refl
 cut-kind (Rules n) ys = refl
 cut-kind (Names r) ys = refl
 cut-kind (Step f r) ys = refl
+cut-kind (Unread f) ys = refl
 
 -- Reading gives back what was written: an item that was written at a place is read there.
 pub read-item : (i : Item) (s : List ℕ) (at : ℕ) → at ≤ length s → nextAt (placed (itemBytes (widthIn (rowIn i)) i) at s) (record { at = at; row = rowIn i }) ≡ Found i (record { at = at + widthOf (widthIn (rowIn i)) (kindOf i); row = rowAfter (rowIn i) })

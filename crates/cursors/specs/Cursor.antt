@@ -18,7 +18,7 @@ use Rattle.cursors.specs.declared.cursor.Fault.the-variants.{NoByte, Oth
 use Rattle.cursors.specs.declared.cursor.Cursor.{Cursor}
 use Rattle.cursors.specs.declared.cursor.Read.{Read}
 use Rattle.cursors.specs.declared.cursor.Read.the-variants.{Found, Refused, Ended}
-use Rattle.items.specs.Item.{narrow, Width, factsKind, opensKind, premiseKind, constraintKind, rulesKind, namesKind, stepKind, bodyLength, widthOf, itemOf}
+use Rattle.items.specs.Item.{narrow, Width, factsKind, opensKind, premiseKind, constraintKind, rulesKind, namesKind, stepKind, unreadKind, bodyLength, widthOf, itemOf}
 
 -- The width of the fact numbers in a row.
 abbrev pub widthIn : Row → Width
@@ -32,7 +32,7 @@ abbrev pub ofRow : Row → ℕ → Bool
 ofRow Opening k = eqb k (factsKind (widthIn Opening))
 ofRow Body k =
     eqb k (opensKind (widthIn Body))
-    || (eqb k (premiseKind (widthIn Body)) || (eqb k (constraintKind (widthIn Body)) || eqb k rulesKind))
+    || (eqb k (premiseKind (widthIn Body)) || (eqb k (constraintKind (widthIn Body)) || (eqb k rulesKind || eqb k (unreadKind (widthIn Body)))))
 ofRow Order k = eqb k namesKind
 ofRow Steps k = eqb k (stepKind (widthIn Steps))
 

@@ -15,6 +15,7 @@ use items::item::OPENS_KIND;
 use items::item::PREMISE_KIND;
 use items::item::RULES_KIND;
 use items::item::STEP_KIND;
+use items::item::UNREAD_KIND;
 use items::refusal::Refusal;
 
 // Which row of items is read: it decides the kinds that may stand there, and the refusal where none does.
@@ -155,11 +156,12 @@ impl Cursor {
             return stay(Row::Body, Fault::NoByte, self);
         }
         let kind = bytes[at];
-        // The kinds of a rule's items are neighbours, and the last item's lies far off. In one match they would be a jump through a table of addresses,
+        // The kinds of a rule's items are neighbours, and the other two lie behind them. In one match they would be a jump through a table of addresses,
         // which takes a fifth longer and more where premises and constraints stand mixed.
         if CONSTRAINT_KIND < kind {
             return match kind {
                 RULES_KIND => read_kind(Row::Body, RULES_KIND, bytes, self),
+                UNREAD_KIND => read_kind(Row::Body, UNREAD_KIND, bytes, self),
                 _ => stay(Row::Body, Fault::OtherKind, self),
             };
         }

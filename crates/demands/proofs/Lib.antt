@@ -15,8 +15,11 @@ pub mod SameReplies
 pub mod Demands
 pub mod Starred
 pub mod Wish01
+pub mod EachRefuses
+pub mod ItemsLead
 pub mod Wish02
 pub mod Wish03
 pub mod Wish04
 pub mod Wish05
+pub mod Wish06
 pub mod Wish08

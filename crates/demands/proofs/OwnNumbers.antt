@@ -41,7 +41,7 @@ place-own Steps t = (refl, tt)
 pub file-own : (s : List ℕ) → Own fileNumbers (fileQuestions s)
 file-own s =
     each-file _
-    (record { one = refl; two = refl; three = refl; four = refl; five = refl; six = refl; seven = refl; eight = refl; nine = refl; ten = refl; fifty-one = refl })
+    (record { one = refl; two = refl; three = refl; four = refl; five = refl; six = refl; seven = refl; eight = refl; nine = refl; ten = refl; fifty-one = refl; fifty-six = refl })
     s
 
 -- behind those of the file

@@ -1,12 +1,12 @@
 -- The run is the forward chaining along the order, for any bytes that get a result.
 use Prim.Native.Nat.{ℕ, _*_, _<_}
 use mathlib.Core.Path.{_≡_, sym, _∙_, ap}
-use mathlib.Core.Bool.{Bool, false, cond}
+use mathlib.Core.Bool.{Bool, true, false, cond}
 use mathlib.Core.List.{List}
 use mathlib.Core.Option.{Option, none}
 use lib.ListN.{length, getD, take, drop}
 use lib.Dec.{eqb}
-use Rattle.theory.specs.Rule.{howMany, mem, Program, Bounded, inForce, count, plain, exception, Step}
+use Rattle.theory.specs.Rule.{howMany, mem, Program, Bounded, withheld, inForce, count, plain, exception, Step}
 use Rattle.theory.specs.Run.{Stand, rejected, setAside, factMark, ruleMark, factMarks, ruleMarks}
 use Rattle.theory.specs.Stable.{rowTo}
 use Rattle.theory.specs.Chaining.{Names}
@@ -18,6 +18,7 @@ use Rattle.theory.proofs.Stages.{stands}
 use Rattle.theory.proofs.Rows.{run-proof, run-admits}
 use Rattle.theory.proofs.Chaining.{applicable-eligible, run-chains, chaining-derived, chaining-rejected, chaining-disjoint, chaining-applied, chaining-taken}
 use Rattle.theory.proofs.Marks.{aside-inconsistent}
+use Rattle.theory.proofs.Withheld.{read-on}
 use Rattle.items.specs.declared.refusal.Refusal.{Refusal}
 use Rattle.items.specs.Item.{narrow, stepWidth}
 use Rattle.reader.specs.Questions.{programOf, fileQuestions, fileNo}
@@ -28,10 +29,10 @@ use Rattle.questions.proofs.OperationAsked.{yes-to-order}
 use Rattle.closure.specs.Steps.{stepBytes}
 use Rattle.run.specs.Outcome.{RunOutcome, runWritten, runOutcome}
 use Rattle.run.specs.Outcome as run
-use Rattle.demands.specs.Results.{derivedSet, rejectedSet, plainSet, appliedSet, asideSet, stepRow, RunIs, takenSteps, rowUpTo}
+use Rattle.demands.specs.Results.{derivedSet, rejectedSet, plainSet, appliedSet, asideSet, withheldSet, stepRow, RunIs, takenSteps, rowUpTo}
 use Rattle.results.proofs.StepsWritten.{step-bytes-length}
 use Rattle.theory.proofs.Lists.{mapped-length}
-use Rattle.run.proofs.ReadMarks.{mark-at, marks-front, read-derived, read-rejected, read-plain, read-applied, read-aside, over-kept}
+use Rattle.run.proofs.ReadMarks.{mark-at, marks-front, read-derived, read-rejected, read-plain, read-applied, read-aside, read-withheld, over-kept}
 use Rattle.run.proofs.ReadSteps.{steps-front, row-front, steps-read}
 use Rattle.demands.proofs.Outcomes.{run-written, run-answered}
 
@@ -39,8 +40,8 @@ use Rattle.demands.proofs.Outcomes.{run-written, run-answered}
 open-mark : (d r : Bool) → d ≡ false → r ≡ false → _≡_ {A = ℕ} (cond d 1 (cond r 2 0)) 0
 open-mark d r e h = rw (e, h)
 
-other-mark : (p a s : Bool) → p ≡ false → a ≡ false → s ≡ false → _≡_ {A = ℕ} (cond p 0 (cond a 1 (cond s 2 3))) 3
-other-mark p a s e h k = rw (e, h, k)
+other-mark : (p a s o : Bool) → p ≡ false → a ≡ false → s ≡ false → o ≡ true → _≡_ {A = ℕ} (cond p 0 (cond a 1 (cond s 2 (cond o 3 4)))) 3
+other-mark p a s o e h k l = rw (e, h, k, l)
 
 module _ (file order facts rules steps : List ℕ) (passed : _≡_ {A = Option Refusal} (runNo file order (length facts) (length rules) (length steps)) none) where
   abbrev P : Program
@@ -90,6 +91,10 @@ module _ (file order facts rules steps : List ℕ) (passed : _≡_ {A = Option R
   unfolding runWritten
   aside-is = ap (asideSet file) o-is ∙ read-aside P in-bounds names rules
 
+  pub withheld-is : withheldSet file o ≡ withheld P
+  unfolding runWritten
+  withheld-is = ap (withheldSet file) o-is ∙ read-withheld P in-bounds names rules
+
   open-is : (f : ℕ) → f < P .facts → derivedSet file o f ≡ false → rejectedSet file o f ≡ false → getD (o .fact-marks) f 0 ≡ 0
   unfolding runWritten factMark
   open-is f l d r =
@@ -97,12 +102,12 @@ module _ (file order facts rules steps : List ℕ) (passed : _≡_ {A = Option R
       ∙ (mark-at (factMark P s) (P .facts) facts f l
       ∙ open-mark (s .derived f) (rejected P (s .applied) f) (rw derived-is at d) (rw rejected-is at r))
 
-  other-is : (c : ℕ) → c < count P → plainSet file o c ≡ false → appliedSet file o c ≡ false → asideSet file o c ≡ false → getD (o .rule-marks) c 0 ≡ 3
+  other-is : (c : ℕ) → c < count P → plainSet file o c ≡ false → appliedSet file o c ≡ false → asideSet file o c ≡ false → withheldSet file o c ≡ false → getD (o .rule-marks) c 0 ≡ 3
   unfolding runWritten ruleMark
-  other-is c l p a x =
+  other-is c l p a x w =
       ap (λ (x : RunOutcome). getD (x .rule-marks) c 0) o-is
       ∙ (mark-at (ruleMark P (inForce P) s) (count P) rules c l
-      ∙ other-mark (plain P c) (mem c (s .applied)) (setAside P (inForce P) (s .derived) c) (rw plain-is at p) (rw applied-is at a) (rw aside-is at x))
+      ∙ other-mark (plain P c) (mem c (s .applied)) (setAside P (inForce P) (s .derived) c) (inForce P c) (rw plain-is at p) (rw applied-is at a) (rw aside-is at x) (read-on P c (rw withheld-is at w)))
 
   stages-are : run.stages (o .answer) ≡ howMany (λ m. eqb m 1) (take (count P) (o .rule-marks))
   unfolding runWritten
@@ -160,6 +165,7 @@ module _ (file order facts rules steps : List ℕ) (passed : _≡_ {A = Option R
         plain-rules = λ c. ap (λ (p : ℕ → Bool). p c) plain-is;
         applied = λ D R h c. rw applied-is (chaining-applied P (inForce P) names D R h c);
         inconsistent = λ c. rw (aside-is, derived-is, rejected-is) (aside-inconsistent P (inForce P) names all-named c);
+        withheld-rules = λ c. ap (λ (p : ℕ → Bool). p c) withheld-is;
         other-rules = other-is;
         stages-taken = λ D R h n. rw stage-count (chaining-taken P (inForce P) names D R h n);
         stages = stages-are;

@@ -1,7 +1,7 @@
 -- Handed what a run leaves, the judge says stable.
 use Prim.Native.Nat.{ℕ, _≤_}
 use mathlib.Core.Path.{_≡_, _∙_, ap}
-use mathlib.Core.Bool.{Bool, true, false, not, cond}
+use mathlib.Core.Bool.{Bool, true, false, not, cond, _&&_}
 use mathlib.Core.List.{List, _++_}
 use mathlib.Core.Option.{Option, none}
 use lib.ListN.{length}
@@ -60,8 +60,8 @@ run-judged file order facts rules steps e =
         all-yes (fileQuestions file) (listQuestions (exception P) list ++ setQuestions (P .facts) set) (yeses file order facts rules steps ran .0)
         (all-yes (listQuestions (exception P) list) (setQuestions (P .facts) set) (listed-yes (count P) (exception P) (asideSet file o) excepted) (set-yes (P .facts) (derivedSet file o)))
 
-    named-back : unlisted P list ≡ (λ i. not (asideSet file o i))
-    named-back = ap {B = ℕ → Bool} (λ p i. not (p i)) (listed-back (count P) (asideSet file o) (λ i a. exception-known P (inForce P) i (excepted i a)))
+    named-back : unlisted P list ≡ (λ i. inForce P i && not (asideSet file o i))
+    named-back = ap {B = ℕ → Bool} (λ p i. inForce P i && not (p i)) (listed-back (count P) (asideSet file o) (λ i a. exception-known P (inForce P) i (excepted i a)))
 
     back : has set ≡ derivedSet file o
     back = set-back (P .facts) (derivedSet file o) within

@@ -29,7 +29,7 @@ use Rattle.run.specs.Outcome as running
 use Rattle.demands.specs.Results.{stepRow, foundSet, writtenOrder, writtenSteps, writtenProof, SameResult, SearchIs}
 use Rattle.results.proofs.StepsWritten.{step-bytes-length}
 use Rattle.theory.proofs.Lists.{mapped-length}
-use Rattle.run.proofs.ReadMarks.{marks-front, read-derived, read-aside, over-kept}
+use Rattle.run.proofs.ReadMarks.{marks-front, read-derived, read-aside, read-withheld, over-kept}
 use Rattle.run.proofs.ReadSteps.{steps-front, row-front, steps-read}
 use Rattle.search.specs.Outcome.{SearchOutcome, searchWritten, foundAt, takenSet, searchOutcome}
 use Rattle.search.specs.Outcome as searching
@@ -79,7 +79,7 @@ module _ (file facts rules steps order : List ℕ) (passed : _≡_ {A = Option R
   o-is : o ≡ foundAt P M facts rules steps order
   o-is = search-found file facts rules steps order passed
 
-  set-is : foundSet file o ≡ M
+  pub set-is : foundSet file o ≡ M
   unfolding searchWritten
   set-is =
       ap (foundSet file) o-is ∙ (read-derived P in-bounds row facts ∙ reaches file (yeses .0) M (earliest .stable))
@@ -94,13 +94,13 @@ module _ (file facts rules steps order : List ℕ) (passed : _≡_ {A = Option R
   unfolding searchWritten
   steps-are = ap writtenSteps o-is ∙ steps-front (s .trace) steps
 
-  trace-is : rowOf (writtenSteps o) ≡ s .trace
-  trace-is = ap rowOf steps-are ∙ steps-read (s .trace)
+  pub searched-trace : rowOf (writtenSteps o) ≡ s .trace
+  searched-trace = ap rowOf steps-are ∙ steps-read (s .trace)
 
   row-is : (f : ℕ) → writtenProof f o ≡ stepBytes narrow (rowTo f (s .trace))
   unfolding searchWritten
   row-is f =
-      ap (λ (taken : List Step). take (stepWidth narrow * length (rowTo f taken)) (o .steps)) trace-is
+      ap (λ (taken : List Step). take (stepWidth narrow * length (rowTo f taken)) (o .steps)) searched-trace
       ∙ (ap (λ (x : SearchOutcome). take (stepWidth narrow * length (rowTo f (s .trace))) (x .steps)) o-is ∙ row-front f (s .trace) steps)
 
   -- The run under the order that was written.
@@ -136,8 +136,9 @@ module _ (file facts rules steps order : List ℕ) (passed : _≡_ {A = Option R
         same-rule-marks = ap (λ (x : RunOutcome). x .rule-marks) same-bytes ∙ sym (ap (λ (x : SearchOutcome). x .rule-marks) o-is);
         same-steps = ap (λ (x : RunOutcome). x .steps) same-bytes ∙ sym (ap (λ (x : SearchOutcome). x .steps) o-is);
         none-aside = λ i. ap (λ (x : SearchOutcome). marked (count P) 2 (x .rule-marks) i) o-is ∙ (ap (λ (p : ℕ → Bool). p i) (read-aside P in-bounds row rules) ∙ order-none-aside P (inForce P) M (earliest .stable) i);
+        withheld-rules = λ i. ap (λ (x : SearchOutcome). marked (count P) 4 (x .rule-marks) i) o-is ∙ ap (λ (p : ℕ → Bool). p i) (read-withheld P in-bounds row rules);
         stages = rw o-is (sym (run-stages P (inForce P) row) ∙ ap (howMany (λ m. eqb m 1)) (sym (marks-front (ruleMark P (inForce P) s) (count P) rules)));
-        rows-are = λ f. rows-read file (yeses .0) M (earliest .stable) (λ g. writtenProof g o) row-is f ∙ ap (rowTo f) (sym trace-is);
+        rows-are = λ f. rows-read file (yeses .0) M (earliest .stable) (λ g. writtenProof g o) row-is f ∙ ap (rowTo f) (sym searched-trace);
         rows-prove = rw set-is (rows-prove file (yeses .0) M (earliest .stable) (λ g. writtenProof g o) row-is);
         fact-marks-kept = ap (λ (x : SearchOutcome). drop (P .facts) (x .fact-marks)) o-is ∙ over-kept (factMarks P s) facts (P .facts) (mapped-length (factMark P s) (P .facts));
         rule-marks-kept = ap (λ (x : SearchOutcome). drop (count P) (x .rule-marks)) o-is ∙ over-kept (ruleMarks P (inForce P) s) rules (count P) (mapped-length (ruleMark P (inForce P) s) (count P));

@@ -4,7 +4,7 @@ use Prim.Native.Nat.{ℕ}
 use native.Mathlib.Omega.{arith}
 use mathlib.Core.Path.{_≡_, refl, sym, _∙_, ap, subst}
 use mathlib.Core.List.{List, [], _∷_}
-use Rattle.theory.specs.Rule.{FactSet, inForce, plain, exception, constraintFact, plainRules}
+use Rattle.theory.specs.Rule.{FactSet, withheld, inForce, plain, exception, constraintFact, plainRules}
 use Rattle.theory.specs.Derive.{fired, derive, steps}
 use Rattle.theory.specs.Check.{isStable, leastOf, stepHolds, isProof}
 use Rattle.theory.specs.Stable.{Stable, reduct, Earliest, anySet, orderFor}
@@ -37,7 +37,7 @@ use Rattle.demands.proofs.RunIs.{run-is}
 use Rattle.demands.proofs.SearchIs.{search-is}
 
 -- What the bytes mean, by the theorems.
-ran-so : (file order : List ℕ) → running.number (runs file order .answer) ≡ 0 → RunIs file (naming order) (factRoom file) (ruleRoom file) (stepRoom file) (runs file order)
+pub ran-so : (file order : List ℕ) → running.number (runs file order .answer) ≡ 0 → RunIs file (naming order) (factRoom file) (ruleRoom file) (stepRoom file) (runs file order)
 ran-so file order e = run-is file (naming order) (factRoom file) (ruleRoom file) (stepRoom file) e
 
 stable-so : (file rs set : List ℕ) → judged file (naming rs) set ≡ judgement.Stable → IsStable file rs set
@@ -45,16 +45,16 @@ stable-so file rs set e =
     record {
       says = e;
       is =
-          subst (λ (named : List ℕ). Stable (programOf file) (less named) (has set)) (naming-names rs)
+          subst (λ (named : List ℕ). Stable (programOf file) (less (programOf file) named) (has set)) (naming-names rs)
           (judged-means file (naming rs) set .stable-exactly (ap judge.number e) .0 (ap judge.verdict e));
     }
 
 not-stable-so : (file rs set : List ℕ) → judged file (naming rs) set ≡ judgement.NotStable → IsNotStable file rs set
 not-stable-so file rs set e = record { says = e; is-not = not-so }
   where
-    not-so : Stable (programOf file) (less rs) (has set) → ⊥
+    not-so : Stable (programOf file) (less (programOf file) rs) (has set) → ⊥
     not-so m =
-        let listed : Stable (programOf file) (judge.unlisted (programOf file) (naming rs)) (has set) = subst (λ (named : List ℕ). Stable (programOf file) (less named) (has set)) (sym (naming-names rs)) m in
+        let listed : Stable (programOf file) (judge.unlisted (programOf file) (naming rs)) (has set) = subst (λ (named : List ℕ). Stable (programOf file) (less (programOf file) named) (has set)) (sym (naming-names rs)) m in
         let one : judge.verdict (judged file (naming rs) set) ≡ 1 = judged-means file (naming rs) set .stable-exactly (ap judge.number e) .1 listed in
         let zero : judge.verdict (judged file (naming rs) set) ≡ 0 = ap judge.verdict e in
         omega arith
@@ -64,10 +64,10 @@ proof-so file set fact row e =
     let t = checked-means file set fact row .yes-exactly (ap check.number e) .0 (ap check.verdict e) in
     record { says = e; proves = t .0; admitted = t .1 }
 
-taken-so : (file : List ℕ) → searching.number (searches file .answer) ≡ 0 → SearchIs file (factRoom file) (ruleRoom file) (stepRoom file) (orderRoom file) (searches file)
+pub taken-so : (file : List ℕ) → searching.number (searches file .answer) ≡ 0 → SearchIs file (factRoom file) (ruleRoom file) (stepRoom file) (orderRoom file) (searches file)
 taken-so file e = search-is file (factRoom file) (ruleRoom file) (stepRoom file) (orderRoom file) e
 
-earliest-so : (file set : List ℕ) → setOf (programOf file .facts) (foundSet file (searches file)) ≡ set → searching.number (searches file .answer) ≡ 0 → Earliest (programOf file) (inForce (programOf file)) anySet (has set)
+pub earliest-so : (file set : List ℕ) → setOf (programOf file .facts) (foundSet file (searches file)) ≡ set → searching.number (searches file .answer) ≡ 0 → Earliest (programOf file) (inForce (programOf file)) anySet (has set)
 earliest-so file set r e =
     let back : has set ≡ foundSet file (searches file) = ap has (sym r) ∙ set-back (programOf file .facts) (foundSet file (searches file)) (marked-past (programOf file .facts) 1 (searches file .fact-marks)) in
     rw back (taken-so file e .earliest)
@@ -76,7 +76,7 @@ none-so : (file : List ℕ) → searching.number (searches file .answer) ≡ 41 
 none-so file e = searched-means file (factRoom file) (ruleRoom file) (stepRoom file) (orderRoom file) .none-stable e
 
 pub starred : Starred
-unfolding searchOutcome searchWritten searchQuestions earlyQuestions limitQuestions someStable takenSet exceptions constraintFacts constraintFact guessed fits search orderFor runOutcome runWritten runQuestions bufferQuestions judged judgeQuestions checked checkQuestions setQuestions rowQuestions isStable leastOf reduct isProof stepHolds has marked listQuestions orderQuestions fileQuestions itemsAt front bodyLength itemOf run eligible rejected spares setAside factMark ruleMark fired derive steps plainRules plain exception
+unfolding searchOutcome searchWritten searchQuestions earlyQuestions limitQuestions someStable takenSet exceptions constraintFacts constraintFact guessed fits search orderFor runOutcome runWritten runQuestions bufferQuestions judged judgeQuestions checked checkQuestions setQuestions rowQuestions isStable leastOf reduct isProof stepHolds has marked listQuestions orderQuestions fileQuestions itemsAt front bodyLength itemOf run eligible rejected spares setAside factMark ruleMark fired derive steps plainRules plain exception inForce withheld
 starred =
     record {
       A = (record { leaves = refl; is = ran-so A (1 ∷ 2 ∷ []) refl }, stable-so A [] (1 ∷ 1 ∷ 0 ∷ 0 ∷ []) refl);

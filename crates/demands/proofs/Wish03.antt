@@ -11,7 +11,7 @@ use lib.Dec.{eqb, ltb}
 use Rattle.theory.specs.Rule.{mem}
 use Rattle.theory.proofs.Bools.{or-none}
 use Rattle.items.specs.declared.item.Item.{Item}
-use Rattle.items.specs.declared.item.Item.the-variants.{Facts, Opens, Premise, Constraint, Rules, Names, Step}
+use Rattle.items.specs.declared.item.Item.the-variants.{Facts, Opens, Premise, Constraint, Rules, Names, Step, Unread}
 use Rattle.items.specs.Item.{narrow, Width, noSuchKind, bodyLength}
 use Rattle.items.specs.Question.{firstNo}
 use Rattle.items.specs.Write.{itemBytes}
@@ -28,16 +28,17 @@ use Rattle.demands.specs.Wish03.{Entry, listed, lengthIn, isListed, kind
 
 each-kind : (k : ℕ) → bodyLength narrow k ≡ lengthIn listed k
 unfolding bodyLength
-each-kind k = go (eqb k 0x10) (eqb k 0x01) (eqb k 0x02) (eqb k 0x03) (eqb k 0x1F) (eqb k 0x05) (eqb k 0x06)
+each-kind k = go (eqb k 0x10) (eqb k 0x01) (eqb k 0x02) (eqb k 0x03) (eqb k 0x07) (eqb k 0x1F) (eqb k 0x05) (eqb k 0x06)
   where
-    go : (a b c d e f g : Bool) → cond (a || (b || (c || d))) 1 (cond (e || f) 2 (cond g 3 noSuchKind)) ≡ cond a 1 (cond b 1 (cond c 1 (cond d 1 (cond e 2 (cond f 2 (cond g 3 noSuchKind))))))
-    go true b c d e f g = refl
-    go false true c d e f g = refl
-    go false false true d e f g = refl
-    go false false false true e f g = refl
-    go false false false false true f g = refl
-    go false false false false false true g = refl
-    go false false false false false false g = refl
+    go : (a b c d u e f g : Bool) → cond (a || (b || (c || (d || u)))) 1 (cond (e || f) 2 (cond g 3 noSuchKind)) ≡ cond a 1 (cond b 1 (cond c 1 (cond d 1 (cond u 1 (cond e 2 (cond f 2 (cond g 3 noSuchKind)))))))
+    go true b c d u e f g = refl
+    go false true c d u e f g = refl
+    go false false true d u e f g = refl
+    go false false false true u e f g = refl
+    go false false false false true e f g = refl
+    go false false false false false true f g = refl
+    go false false false false false false true g = refl
+    go false false false false false false false g = refl
 
 -- every length of a list is below the mark
 abbrev allBelow : List Entry → Bool
@@ -70,10 +71,11 @@ written (Constraint f) = refl
 written (Rules n) = refl
 written (Names r) = refl
 written (Step f r) = refl
+written (Unread f) = refl
 
 row-kinds : (row : Row) (k : ℕ) → mem k (kindsOf row) ≡ ofRow row k
 row-kinds Opening k = or-none (eqb k 0x10)
-row-kinds Body k = ap (λ (b : Bool). eqb k 0x01 || (eqb k 0x02 || (eqb k 0x03 || b))) (or-none (eqb k 0x1F))
+row-kinds Body k = ap (λ (b : Bool). eqb k 0x01 || (eqb k 0x02 || (eqb k 0x03 || (eqb k 0x1F || b)))) (or-none (eqb k 0x07))
 row-kinds Order k = or-none (eqb k 0x05)
 row-kinds Steps k = or-none (eqb k 0x06)
 

@@ -10,7 +10,7 @@ use borrow.Author.Tests.{leb-true, leb-false, ltb-true, eq-eqb}
 use lib.Dec.{leb, ltb}
 use lib.ListN.{length}
 use Rattle.theory.specs.Rule as theory
-use Rattle.theory.specs.Rule.{all, mem, upTo, nothing, adjoin, Program, inForce, rule, blank, plain, exception, plainRules}
+use Rattle.theory.specs.Rule.{all, mem, upTo, nothing, adjoin, Program, withheld, inForce, rule, blank, plain, exception, plainRules}
 use Rattle.theory.proofs.Bools.{either, never, and-left}
 use Rattle.items.specs.declared.refusal.Refusal.{Refusal}
 use Rattle.items.specs.declared.refusal.Refusal.the-variants.{NotAllNamed}
@@ -185,7 +185,7 @@ the-order order facts rules steps z =
 
 -- The example of the document, by computing; that its run is the chaining along the order is by the theorem on the run.
 pub load-example : LoadExample
-unfolding loadBytes ruleItems stateAfter taken runOutcome runWritten runQuestions bufferQuestions orderQuestions listQuestions fileQuestions exceptions itemsAt front bodyLength itemOf run eligible rejected spares setAside factMark ruleMark fired derive steps plainRules plain exception
+unfolding loadBytes ruleItems stateAfter taken runOutcome runWritten runQuestions bufferQuestions orderQuestions listQuestions fileQuestions exceptions itemsAt front bodyLength itemOf run eligible rejected spares setAside factMark ruleMark fired derive steps plainRules plain exception inForce withheld
 load-example =
     record {
       bytes = refl;

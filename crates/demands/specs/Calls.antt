@@ -74,7 +74,7 @@ pub record RefusesExactly (c : Call) : Type 0 where
 
 -- The numbers of the questions on a file, a list of rules, an order, a fact set, a proof row, the run's buffers, and of the search alone.
 abbrev pub fileNumbers : List ℕ
-fileNumbers = 1 ∷ 2 ∷ 3 ∷ 4 ∷ 5 ∷ 6 ∷ 7 ∷ 8 ∷ 9 ∷ 10 ∷ 51 ∷ []
+fileNumbers = 1 ∷ 2 ∷ 3 ∷ 4 ∷ 5 ∷ 6 ∷ 7 ∷ 8 ∷ 9 ∷ 10 ∷ 51 ∷ 56 ∷ []
 
 abbrev pub listNumbers : List ℕ
 listNumbers = 11 ∷ 12 ∷ 13 ∷ []

@@ -2,7 +2,7 @@
 -- proof shows that it ends, on any input.
 use Prim.Native.Nat.{ℕ}
 use mathlib.Core.Path.{_≡_}
-use mathlib.Core.Bool.{not}
+use mathlib.Core.Bool.{not, _&&_}
 use mathlib.Core.List.{List}
 use mathlib.Core.Logic.{_↔_}
 use mathlib.Core.Option.{none, some}
@@ -62,7 +62,7 @@ pub record Demand1 : Type 0 where
 pub record Demand2 : Type 0 where
   pub run : (file order facts rules steps : List ℕ) → running.number (runOutcome file order facts rules steps .answer) ≡ 0 → RunIs file order facts rules steps (runOutcome file order facts rules steps)
   pub run-judged : (file order facts rules steps : List ℕ) → running.number (runOutcome file order facts rules steps .answer) ≡ 0 → JudgedStable file (runOutcome file order facts rules steps)
-  pub judge : (file list set : List ℕ) → judging.number (judged file list set) ≡ 0 → (judging.verdict (judged file list set) ≡ 1) ↔ Stable (programOf file) (λ i. not (mem i (namedIn list))) (has set)
+  pub judge : (file list set : List ℕ) → judging.number (judged file list set) ≡ 0 → (judging.verdict (judged file list set) ≡ 1) ↔ Stable (programOf file) (λ i. inForce (programOf file) i && not (mem i (namedIn list))) (has set)
   pub check : (file set : List ℕ) (fact : ℕ) (row : List ℕ) → checking.number (checked file set fact row) ≡ 0 → (checking.verdict (checked file set fact row) ≡ 1) ↔ (Proof (programOf file) (inForce (programOf file)) (rowOf row) fact × Admits (programOf file) (has set) (rowOf row))
   -- Repeats within a rule change nothing.
   pub repeats : (s t : List ℕ) → fileNo s ≡ none → fileNo t ≡ none → Alike (programOf s) (programOf t) → SameReplies s t

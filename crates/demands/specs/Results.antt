@@ -1,9 +1,9 @@
 -- What the results of a run and of a search are (demands 2 and 3), read off the bytes that they leave, and what it is for two files to get the
 -- same results.
 use Prim.Native.Nat.{ℕ, _*_, _<_, _≤_}
-use mathlib.Core.Bool.{Bool, cond, true, false, not}
+use mathlib.Core.Bool.{Bool, cond, true, false, not, _&&_}
 use mathlib.Core.List.{List, map}
-use Rattle.theory.specs.Rule.{keep, upTo, howMany, FactSet, count, inForce, plain, exception, Step}
+use Rattle.theory.specs.Rule.{keep, upTo, howMany, FactSet, count, withheld, inForce, plain, exception, Step}
 use Rattle.items.specs.Item.{narrow, stepWidth, nameWidth, marked}
 use Rattle.questions.specs.Questions.{naming, namedIn, orderNo, rowOf, buffersNo, askListQuestions, askOrderQuestions, askSetQuestions, askRowQuestions}
 use lib.ListN.{take, length, getD, drop}
@@ -47,7 +47,7 @@ derivedSet file o = marked (programOf file .facts) 1 (o .fact-marks)
 abbrev pub rejectedSet : List ℕ → RunOutcome → FactSet
 rejectedSet file o = marked (programOf file .facts) 2 (o .fact-marks)
 
--- the plain rules, mark 0; the rules applied at a stage, mark 1; the rules set aside, mark 2
+-- the plain rules, mark 0; the rules applied at a stage, mark 1; the rules set aside, mark 2; the withheld rules, mark 4
 abbrev pub plainSet : List ℕ → RunOutcome → ℕ → Bool
 plainSet file o = marked (count (programOf file)) 0 (o .rule-marks)
 
@@ -56,6 +56,9 @@ appliedSet file o = marked (count (programOf file)) 1 (o .rule-marks)
 
 abbrev pub asideSet : List ℕ → RunOutcome → ℕ → Bool
 asideSet file o = marked (count (programOf file)) 2 (o .rule-marks)
+
+abbrev pub withheldSet : List ℕ → RunOutcome → ℕ → Bool
+withheldSet file o = marked (count (programOf file)) 4 (o .rule-marks)
 
 -- the bytes of the steps that it wrote, as many as it counts
 abbrev pub stepRow : RunOutcome → List ℕ
@@ -92,16 +95,17 @@ pub record RunIs (file order facts rules steps : List ℕ) (o : RunOutcome) : Ty
   pub plain-rules : (c : ℕ) → plainSet file o c ≡ plain (programOf file) c
   -- .. mark 1 on those that are taken at some stage, ..
   pub applied : (D R : ℕ → FactSet) → ChainsAlong file order D R → (c : ℕ) → (appliedSet file o c ≡ true) ↔ ((n : ℕ) × TakenAt file order D R n c)
-  -- .. mark 2 on the inconsistent clauses (clause 5), and mark 3 on all others.
+  -- .. mark 2 on the inconsistent clauses (clause 5), mark 4 on the withheld rules, and mark 3 on all others.
   pub inconsistent : (c : ℕ) → (asideSet file o c ≡ true) ↔ Inconsistent (programOf file) (inForce (programOf file)) (derivedSet file o) (rejectedSet file o) c
-  pub other-rules : (c : ℕ) → c < count (programOf file) → plainSet file o c ≡ false → appliedSet file o c ≡ false → asideSet file o c ≡ false → getD (o .rule-marks) c 0 ≡ 3
+  pub withheld-rules : (c : ℕ) → withheldSet file o c ≡ withheld (programOf file) c
+  pub other-rules : (c : ℕ) → c < count (programOf file) → plainSet file o c ≡ false → appliedSet file o c ≡ false → asideSet file o c ≡ false → withheldSet file o c ≡ false → getD (o .rule-marks) c 0 ≡ 3
   -- A rule is taken at each stage that is counted, and at none after these; the stage count is the number of rule marks 1.
   pub stages-taken : (D R : ℕ → FactSet) → ChainsAlong file order D R → (n : ℕ) → (n < run.stages (o .answer)) ↔ ((c : ℕ) × TakenAt file order D R n c)
   pub stages : run.stages (o .answer) ≡ howMany (λ m. eqb m 1) (take (count (programOf file)) (o .rule-marks))
   -- No applicable rule is left.
   pub none-applicable : (c : ℕ) → Applicable (programOf file) (inForce (programOf file)) (derivedSet file o) (rejectedSet file o) c → ⊥
-  -- Theorem 3.3: the facts with mark 1 are stable for the file less the rules with mark 2; where no rule has mark 2, for the whole file.
-  pub stable : Stable (programOf file) (λ i. not (asideSet file o i)) (derivedSet file o)
+  -- Theorem 3.3: the facts with mark 1 are stable for the rules in force less those with mark 2; where no rule has mark 2, for all rules in force.
+  pub stable : Stable (programOf file) (λ i. inForce (programOf file) i && not (asideSet file o i)) (derivedSet file o)
   pub whole-stable : ((i : ℕ) → asideSet file o i ≡ false) → Stable (programOf file) (inForce (programOf file)) (derivedSet file o)
   -- The steps are as many as counted, and their facts are those with mark 1.
   pub step-count : length (takenSteps o) ≡ run.steps (o .answer)
@@ -190,7 +194,7 @@ pub record SearchIs (file facts rules steps order : List ℕ) (o : SearchOutcome
   pub earliest : Earliest (programOf file) (inForce (programOf file)) anySet (foundSet file o)
   -- The order that it writes leads to that set: ..
   pub leads : LeadsTo file (writtenOrder file o) (foundSet file o)
-  -- .. ascending, the exception rules with premises in the set and no constraint in it, then the others ascending.
+  -- .. ascending, the exception rules with premises in the set and no constraint in it, then the others ascending, and the withheld ones last, ascending.
   pub order-is : namedIn (writtenOrder file o) ≡ orderFor (programOf file) (inForce (programOf file)) (foundSet file o)
   -- The run under that order gives the same marks, steps and counts, in any buffers that suffice for it; ..
   pub same-result : (facts′ rules′ steps′ : List ℕ) → buffersNo narrow (programOf file) (length facts′) (length rules′) (length steps′) ≡ none → SameResult file o (runOutcome file (writtenOrder file o) facts′ rules′ steps′)
@@ -198,8 +202,9 @@ pub record SearchIs (file facts rules steps order : List ℕ) (o : SearchOutcome
   pub same-fact-marks : runOutcome file (writtenOrder file o) facts rules steps .fact-marks ≡ o .fact-marks
   pub same-rule-marks : runOutcome file (writtenOrder file o) facts rules steps .rule-marks ≡ o .rule-marks
   pub same-steps : runOutcome file (writtenOrder file o) facts rules steps .steps ≡ o .steps
-  -- By the search's own rule marks nothing is set aside, and the stage count is the number of rule marks 1.
+  -- By the search's own rule marks nothing is set aside, mark 4 is on exactly the withheld rules, and the stage count is the number of rule marks 1.
   pub none-aside : (i : ℕ) → marked (count (programOf file)) 2 (o .rule-marks) i ≡ false
+  pub withheld-rules : (i : ℕ) → marked (count (programOf file)) 4 (o .rule-marks) i ≡ withheld (programOf file) i
   pub stages : search.stages (o .answer) ≡ howMany (λ m. eqb m 1) (take (count (programOf file)) (o .rule-marks))
   -- Its own steps, from the first up to a fact's own, prove each fact of the set.
   pub rows-are : (f : ℕ) → rowOf (writtenProof f o) ≡ rowTo f (rowOf (writtenSteps o))

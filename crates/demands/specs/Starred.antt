@@ -1,10 +1,10 @@
 -- The starred examples of document 01, from their bytes: what each operation answers and leaves, and what that means by the definitions.
 use Prim.Native.Nat.{ℕ, _*_}
 use mathlib.Core.Path.{_≡_}
-use mathlib.Core.Bool.{not}
+use mathlib.Core.Bool.{not, _&&_}
 use mathlib.Core.List.{List, [], _∷_}
 use lib.ListN.{replicate}
-use Rattle.theory.specs.Rule.{mem, Mask, FactSet, inForce, count}
+use Rattle.theory.specs.Rule.{mem, Program, Mask, FactSet, inForce, count}
 use Rattle.theory.specs.Stable.{Stable, Proof, Admits, Earliest, anySet}
 use Rattle.items.specs.declared.refusal.Refusal.the-variants.{NoStableSet}
 use Rattle.items.specs.Item.{narrow, nameWidth, stepWidth, has}
@@ -45,9 +45,9 @@ runs file order = runOutcome file (naming order) (factRoom file) (ruleRoom file)
 abbrev pub searches : List ℕ → SearchOutcome
 searches file = searchOutcome file (factRoom file) (ruleRoom file) (stepRoom file) (orderRoom file)
 
--- every rule but these
-abbrev pub less : List ℕ → Mask
-less rs i = not (mem i rs)
+-- every rule in force but these
+abbrev pub less : Program → List ℕ → Mask
+less P rs i = inForce P i && not (mem i rs)
 
 -- The run of a file under an order answers and leaves this, and is the forward chaining along the order.
 pub record Runs (file order : List ℕ) (o : RunOutcome) : Type 0 where
@@ -57,11 +57,11 @@ pub record Runs (file order : List ℕ) (o : RunOutcome) : Type 0 where
 -- A set, one byte for each fact, is stable for a file less these rules, and the judge says so; or it is not.
 pub record IsStable (file rs set : List ℕ) : Type 0 where
   pub says : judged file (naming rs) set ≡ judgement.Stable
-  pub is : Stable (programOf file) (less rs) (has set)
+  pub is : Stable (programOf file) (less (programOf file) rs) (has set)
 
 pub record IsNotStable (file rs set : List ℕ) : Type 0 where
   pub says : judged file (naming rs) set ≡ judgement.NotStable
-  pub is-not : Stable (programOf file) (less rs) (has set) → ⊥
+  pub is-not : Stable (programOf file) (less (programOf file) rs) (has set) → ⊥
 
 -- A row of steps is a proof of a fact that a set admits, and the check says yes.
 pub record IsProof (file set : List ℕ) (fact : ℕ) (row : List ℕ) : Type 0 where

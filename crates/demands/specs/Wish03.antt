@@ -24,9 +24,9 @@ pub record Entry : Type 0 where
 abbrev pub entry : ℕ → ℕ → Entry
 entry k n = record { kind = k; body = n }
 
--- The kinds of document 01, as the README and the header show them. A later wish adds its own.
+-- The kinds of document 01 and of wish 6, as the README and the header show them. A later wish adds its own.
 abbrev pub listed : List Entry
-listed = entry 0x10 1 ∷ entry 0x01 1 ∷ entry 0x02 1 ∷ entry 0x03 1 ∷ entry 0x1F 2 ∷ entry 0x05 2 ∷ entry 0x06 3 ∷ []
+listed = entry 0x10 1 ∷ entry 0x01 1 ∷ entry 0x02 1 ∷ entry 0x03 1 ∷ entry 0x07 1 ∷ entry 0x1F 2 ∷ entry 0x05 2 ∷ entry 0x06 3 ∷ []
 
 -- What the list gives a kind: the mark where it has no such kind.
 abbrev pub lengthIn : List Entry → ℕ → ℕ
@@ -40,7 +40,7 @@ isListed (e ∷ es) k = eqb k (e .kind) || isListed es k
 -- The kinds that may stand in a row, and the number of the refusal where another one stands.
 abbrev pub kindsOf : Row → List ℕ
 kindsOf Opening = 0x10 ∷ []
-kindsOf Body = 0x01 ∷ 0x02 ∷ 0x03 ∷ 0x1F ∷ []
+kindsOf Body = 0x01 ∷ 0x02 ∷ 0x03 ∷ 0x1F ∷ 0x07 ∷ []
 kindsOf Order = 0x05 ∷ []
 kindsOf Steps = 0x06 ∷ []
 

@@ -31,9 +31,9 @@ pub record OneReading (file : List ℕ) (r : RunOutcome) : Type 0 where
 -- What a result is; `order` is the buffer before.
 pub record LayeredIs (file order : List ℕ) (o : LayeredOutcome) : Type 0 where
   -- "Give each fact its least rank .. hand out the order of exception rules by rank of conclusion, then by number": there are least ranks, and whichever they
-  -- are, the order goes by them.
+  -- are, the order goes by them, with the withheld rules behind all others.
   pub ranked : (rank : ℕ → ℕ) × LeastRanks (programOf file) (inForce (programOf file)) rank
-  pub by-rank : (rank : ℕ → ℕ) → LeastRanks (programOf file) (inForce (programOf file)) rank → ByRank (programOf file) rank (namedIn (handedOut o))
+  pub by-rank : (rank : ℕ → ℕ) → LeastRanks (programOf file) (inForce (programOf file)) rank → ByRank (programOf file) (inForce (programOf file)) rank (namedIn (handedOut o))
   -- "It returns the count of rules named", which is that of all exception rules.
   pub counted : length (namedIn (handedOut o)) ≡ count (o .answer)
   pub every-exception : count (o .answer) ≡ exceptions (programOf file)

@@ -8,7 +8,7 @@ use mathlib.Core.Logic.{_⊎_, inl, inr, ⊎-elim}
 use borrow.Author.Tests.{eqb-true, eqb-false, ltb-true, ltb-false}
 use lib.ListN.{getD}
 use lib.Dec.{eqb, ltb}
-use Rattle.theory.specs.Rule.{mem, Program, count, rule, Bounded}
+use Rattle.theory.specs.Rule.{mem, Program, inForce, count, rule, Bounded}
 use Rattle.theory.specs.Places.{rankIn}
 use Rattle.theory.proofs.Bools.{either}
 use Rattle.theory.proofs.Lists.{all-elem}
@@ -45,8 +45,8 @@ module _ {P : Program} {seen stack roots todo ranks : List ℕ} {n m at f : ℕ}
   pub opened-met : StaysMet seen seen′
   opened-met g e = sym (placed-other g (λ q. absurd (omega (arith, small)))) ∙ e
 
-  was-looked : (i : ℕ) → i < count P → WasLooked P seen′ todo i → (seenOf seen′ (rule P i .conclusion) ≡ seenOf seen (rule P i .conclusion)) × WasLooked P seen todo i
-  was-looked i h d = same-or c f (λ e. absurd (not-new e)) (λ e. let same = o .others c e in (same, subst (λ x. (x ≡ closed) ⊎ ((x < maxFacts narrow) × (i < getD todo c 0))) same d))
+  was-looked : (i : ℕ) → i < count P → inForce P i ≡ true → WasLooked P seen′ todo i → (seenOf seen′ (rule P i .conclusion) ≡ seenOf seen (rule P i .conclusion)) × WasLooked P seen todo i
+  was-looked i h on d = same-or c f (λ e. absurd (not-new e)) (λ e. let same = o .others c e in (same, subst (λ x. (x ≡ closed) ⊎ ((x < maxFacts narrow) × (i < getD todo c 0))) same d))
     where
       c : ℕ
       c = rule P i .conclusion
@@ -54,7 +54,7 @@ module _ {P : Program} {seen stack roots todo ranks : List ℕ} {n m at f : ℕ}
       not-new : c ≡ f → ⊥
       not-new e =
           let place : seenOf seen′ c ≡ n = ap (seenOf seen′) e ∙ o .place in
-          ⊎-elim (λ q. omega (arith, small)) (λ q. omega (arith, q .1, k .none-yet i h (ap (seenOf seen) e ∙ new))) d
+          ⊎-elim (λ q. omega (arith, small)) (λ q. omega (arith, q .1, k .none-yet i h on (ap (seenOf seen) e ∙ new))) d
 
   together-still : (a b : ℕ) → a < n → b < n → Together roots m a b → Together roots′ (m + 1) a b
   together-still a b la lb both t l =
@@ -69,22 +69,22 @@ module _ {P : Program} {seen stack roots todo ranks : List ℕ} {n m at f : ℕ}
         few-rules = k .few-rules;
         known = λ g l. same-or g f (λ e. inr (inr (rw (e, o .place) small))) (λ e. rw (o .others g e) (k .known g l));
         premises = premises-still;
-        constraints = λ i h d g m. let (same, before) = was-looked i h d in let (is-closed, less) = k .constraints i h before g m in (met-other g (λ e. omega arith) ∙ is-closed, less);
-        none-yet = λ i h e. k .none-yet i h (opened-met (rule P i .conclusion) e);
+        constraints = λ i h on d g m. let (same, before) = was-looked i h on d in let (is-closed, less) = k .constraints i h on before g m in (met-other g (λ e. omega arith) ∙ is-closed, less);
+        none-yet = λ i h on e. k .none-yet i h on (opened-met (rule P i .conclusion) e);
         none-behind = λ g l is-open behind. absurd (omega (arith, o .walking .place-there g l is-open .0));
         none-between = λ b g l h from to. same-or b n (between-new b g h from to) (λ e. let before : b < n = omega arith in between-old b g before h from to);
         few-ranks = λ g. omega (arith, k .few-ranks g, o .fewer);
         closed-fewer = λ g l e. omega (arith, k .closed-fewer g l (sym (placed-other g (λ q. omega (arith, small))) ∙ e), o .fewer);
       }
     where
-      premises-still : (i : ℕ) → i < count P → WasLooked P seen′ todo i → (g : ℕ) → mem g (rule P i .premises) ≡ true → PremiseHeld seen′ roots′ ranks (m + 1) (rule P i .conclusion) g
-      premises-still i h d g mg =
-          let (same, before) = was-looked i h d in
+      premises-still : (i : ℕ) → i < count P → inForce P i ≡ true → WasLooked P seen′ todo i → (g : ℕ) → mem g (rule P i .premises) ≡ true → PremiseHeld seen′ roots′ ranks (m + 1) (rule P i .conclusion) g
+      premises-still i h on d g mg =
+          let (same, before) = was-looked i h on d in
           ⊎-elim
           (λ (is-closed, less). inl (met-other g (λ e. omega arith) ∙ is-closed, less))
           (λ (open-c, (open-g, both)).
           inr (rw (same, met-other g (λ e. omega arith)) (open-c, (open-g, together-still _ _ (w .place-there _ (k .bounds .conclusion-below i h) open-c .0) (w .place-there g (premise-low (k .bounds) i g h mg) open-g .0) both))))
-          (k .premises i h before g mg)
+          (k .premises i h on before g mg)
 
       between-new : (b g : ℕ) → g < P .facts → openerAt stack′ b < seenOf seen′ g → seenOf seen′ g < b → b ≡ n → getD todo g 0 ≡ threadEnd
       between-new b g h from to e =
@@ -179,33 +179,33 @@ module _ {P : Program} {seen stack roots todo ranks : List ℕ} {n m at : ℕ} (
     last-root : (m - 1) < m
     last-root = omega arith
 
-    premise-closed : (i : ℕ) → i < count P → (g : ℕ) → mem g (rule P i .premises) ≡ true → WasShut (rule P i .conclusion) → PremiseHeld seen′ roots ranks′ (m - 1) (rule P i .conclusion) g
-    premise-closed i h g mg s =
+    premise-closed : (i : ℕ) → i < count P → inForce P i ≡ true → (g : ℕ) → mem g (rule P i .premises) ≡ true → WasShut (rule P i .conclusion) → PremiseHeld seen′ roots ranks′ (m - 1) (rule P i .conclusion) g
+    premise-closed i h on g mg s =
         ⊎-elim
         (λ (is-closed, less). let (now, same) = still-closed g is-closed in inl (now, omega (arith, not-lower (rule P i .conclusion) s)))
         (λ (open-c, (open-g, both)). let t = is-shut g (premise-low (k .bounds) i g h mg) open-g (behind both) in inl (now-closed g t, omega (arith, shut-rank w here some-root last c g t, shut-rank w here some-root last c (rule P i .conclusion) s)))
-        (k .premises i h (looked-shut i h s) g mg)
+        (k .premises i h on (looked-shut i h s) g mg)
       where
         behind : Together roots m (seenOf seen (rule P i .conclusion)) (seenOf seen g) → at ≤ seenOf seen g
         behind both = subst (λ x. x ≤ seenOf seen g) last (both (m - 1) last-root .0 (rw last (was-place (rule P i .conclusion) s .0)))
 
-    premise-open : (i : ℕ) → i < count P → (g : ℕ) → mem g (rule P i .premises) ≡ true → WasKept (rule P i .conclusion) → WasLooked P seen′ todo i → PremiseHeld seen′ roots ranks′ (m - 1) (rule P i .conclusion) g
-    premise-open i h g mg s d =
+    premise-open : (i : ℕ) → i < count P → inForce P i ≡ true → (g : ℕ) → mem g (rule P i .premises) ≡ true → WasKept (rule P i .conclusion) → WasLooked P seen′ todo i → PremiseHeld seen′ roots ranks′ (m - 1) (rule P i .conclusion) g
+    premise-open i h on g mg s d =
         ⊎-elim
         (λ (is-closed, less). let (now, same) = still-closed g is-closed in inl (now, omega (arith, s .same-rank)))
         (λ (open-c, (open-g, both)). ⊎-elim (λ t. absurd (apart open-c both t)) (λ t. inr (rw (s .same-seen, t .same-seen) (open-c, (open-g, λ r l. both r (omega arith))))) (way g))
-        (k .premises i h (looked-kept i s d) g mg)
+        (k .premises i h on (looked-kept i s d) g mg)
       where
         apart : seenOf seen (rule P i .conclusion) < maxFacts narrow → Together roots m (seenOf seen (rule P i .conclusion)) (seenOf seen g) → WasShut g → ⊥
         apart open-c both t =
             let up : at ≤ seenOf seen (rule P i .conclusion) = subst (λ x. x ≤ seenOf seen (rule P i .conclusion)) last (both (m - 1) last-root .1 (rw last (was-place g t .0))) in
             omega (arith, now-closed (rule P i .conclusion) (is-shut (rule P i .conclusion) (k .bounds .conclusion-below i h) open-c up), s .same-seen)
 
-    constraint-still : (i : ℕ) → i < count P → WasLooked P seen′ todo i → (g : ℕ) → mem g (rule P i .constraints) ≡ true → ConstraintHeld seen′ ranks′ (rule P i .conclusion) g
-    constraint-still i h d g mg = ⊎-elim (λ s. go (looked-shut i h s) (not-lower (rule P i .conclusion) s)) (λ s. go (looked-kept i s d) (omega (arith, s .same-rank))) (way (rule P i .conclusion))
+    constraint-still : (i : ℕ) → i < count P → inForce P i ≡ true → WasLooked P seen′ todo i → (g : ℕ) → mem g (rule P i .constraints) ≡ true → ConstraintHeld seen′ ranks′ (rule P i .conclusion) g
+    constraint-still i h on d g mg = ⊎-elim (λ s. go (looked-shut i h s) (not-lower (rule P i .conclusion) s)) (λ s. go (looked-kept i s d) (omega (arith, s .same-rank))) (way (rule P i .conclusion))
       where
         go : WasLooked P seen todo i → rankIn ranks (rule P i .conclusion) ≤ rankIn ranks′ (rule P i .conclusion) → ConstraintHeld seen′ ranks′ (rule P i .conclusion) g
-        go before up = let (is-closed, less) = k .constraints i h before g mg in let (now, same) = still-closed g is-closed in (now, omega arith)
+        go before up = let (is-closed, less) = k .constraints i h on before g mg in let (now, same) = still-closed g is-closed in (now, omega arith)
 
     -- an open fact is as it was
     open-kept : (f : ℕ) → seenOf seen′ f < maxFacts narrow → seenOf seen′ f ≡ seenOf seen f
@@ -220,9 +220,9 @@ module _ {P : Program} {seen stack roots todo ranks : List ℕ} {n m at : ℕ} (
           bounds = k .bounds;
           few-rules = k .few-rules;
           known = λ f l. ⊎-elim (λ s. inr (inl (now-closed f s))) (λ s. rw (s .same-seen) (k .known f l)) (way f);
-          premises = λ i h d g mg. ⊎-elim (premise-closed i h g mg) (λ s. premise-open i h g mg s d) (way (rule P i .conclusion));
+          premises = λ i h on d g mg. ⊎-elim (premise-closed i h on g mg) (λ s. premise-open i h on g mg s d) (way (rule P i .conclusion));
           constraints = constraint-still;
-          none-yet = λ i h e. k .none-yet i h (closed-met (rule P i .conclusion) e);
+          none-yet = λ i h on e. k .none-yet i h on (closed-met (rule P i .conclusion) e);
           none-behind = λ f l is-open behind. let same = open-kept f is-open in k .none-between at f inside l (omega (arith, same)) (omega (arith, same, closed-walking w here some-root last c .place-there f l is-open .0));
           none-between = λ b f l h from to. let same = open-kept f (omega (arith, w .room, w .few)) in k .none-between b f (omega arith) h (omega (arith, same)) (omega (arith, same));
           few-ranks = λ f. ⊎-elim (λ s. omega (arith, shut-rank w here some-root last c f s, k .few-ranks (factAt stack (c .top)), same-unmet)) (λ s. omega (arith, s .same-rank, k .few-ranks f, same-unmet)) (way f);

@@ -1,20 +1,21 @@
--- The conclusion of each rule is its key, and the rules of each fact stand in its thread: what is first there, and what follows a rule.
+-- The conclusion of each rule in force is its key, and the rules of each fact stand in its thread: what is first there, and what follows a rule.
 use Prim.Native.Nat.{ℕ, zero, suc, _+_, _<_, _≤_}
 use native.Mathlib.Omega.{arith}
-use mathlib.Core.Path.{_≡_, refl, sym, _∙_}
-use mathlib.Core.Bool.{Bool, true, false}
+use mathlib.Core.Path.{_≡_, refl, sym, subst, _∙_}
+use mathlib.Core.Bool.{Bool, true, false, cond}
 use mathlib.Core.List.{List, [], _∷_}
 use mathlib.Core.Logic.{_⊎_, inl, inr, ⊎-elim}
 use borrow.Author.Tests.{eqb-true, eq-eqb}
 use lib.ListN.{getD}
 use lib.Dec.{eqb}
-use Rattle.theory.specs.Rule.{mem, keep, range, upTo, Program, count, rule, Bounded}
+use Rattle.theory.specs.Rule.{mem, keep, range, upTo, Program, withheld, inForce, count, rule, Bounded}
 use Rattle.theory.specs.Places.{placesMarked}
 use Rattle.theory.proofs.Bools.{never, and-left, and-right, and-both}
 use Rattle.theory.proofs.Lists.{mem-here, mem-cases, mem-keep, mem-range, mem-upTo, upTo-mem}
+use Rattle.theory.proofs.Withheld.{withheld-off, read-on}
 use Rattle.items.specs.Item.{narrow, maxFacts}
 use Rattle.threads.specs.Threads.{threadEnd, Strung, Threaded}
-use Rattle.descent.specs.Standing.{Threads}
+use Rattle.descent.specs.Standing.{ruleKey, RuleOf, Threads}
 
 -- what is first in a thread is the end, or one of it
 first-of : (next : List ℕ) (from : ℕ) (is : List ℕ) → Strung next from is → (from ≡ threadEnd) ⊎ (mem from is ≡ true)
@@ -75,8 +76,26 @@ module _ (p : ℕ → Bool) (next : List ℕ) where
           (mem-cases j a (keep p (range (suc a) n)) (rw e at k))
       go false e r = r from i j (rw e at s) (rw e at m) (rw e at k) l
 
--- Rules threaded by their conclusions: each fact's first rule concludes it, and so does the next after a rule, with a higher number, and none is passed over.
-module _ (P : Program) (keys first next : List ℕ) (b : Bounded P) (few : P .facts < maxFacts narrow) (told : (i : ℕ) → i < count P → getD keys i 0 ≡ rule P i .conclusion) (w : Threaded keys (count P) first next) where
+-- The key of a rule that is withheld, and of one that is not.
+pub withheld-key : (P : Program) (i : ℕ) → withheld P i ≡ true → threadEnd ≡ ruleKey P i
+withheld-key P i e = rw (withheld-off P i e) refl
+
+pub read-key : (P : Program) (i : ℕ) → withheld P i ≡ false → rule P i .conclusion ≡ ruleKey P i
+read-key P i e = rw (read-on P i e) refl
+
+-- A fact is the key of its rules, and of no other ones.
+own-key : {P : Program} {f i : ℕ} → RuleOf P f i → ruleKey P i ≡ f
+own-key r = rw (r .in-force) (r .concludes)
+
+key-own : (P : Program) (f i : ℕ) → f < maxFacts narrow → i < count P → ruleKey P i ≡ f → RuleOf P f i
+key-own P f i small known = go (inForce P i) refl
+  where
+    go : (on : Bool) → inForce P i ≡ on → cond on (rule P i .conclusion) threadEnd ≡ f → RuleOf P f i
+    go true on e = record { known = known; in-force = on; concludes = e }
+    go false on e = absurd (omega arith)
+
+-- Rules threaded by these keys: each fact's first rule is a rule of it, and so is the next after a rule, with a higher number, and none is passed over.
+module _ (P : Program) (keys first next : List ℕ) (b : Bounded P) (few : P .facts < maxFacts narrow) (told : (i : ℕ) → i < count P → getD keys i 0 ≡ ruleKey P i) (w : Threaded keys (count P) first next) where
   abbrev has-key : ℕ → ℕ → Bool
   has-key key i = eqb (getD keys i 0) key
 
@@ -85,8 +104,15 @@ module _ (P : Program) (keys first next : List ℕ) (b : Bounded P) (few : P .fa
   unfolding placesMarked
   thread-of f l = w .strung f (omega arith)
 
-  stands-there : (f i : ℕ) → i < count P → rule P i .conclusion ≡ f → mem i (keep (has-key f) (upTo (count P))) ≡ true
-  stands-there f i l e = mem-keep (has-key f) (upTo (count P)) i ∙ and-both (upTo-mem (count P) i l) (eq-eqb _ _ (told i l ∙ e))
+  stands-there : (f i : ℕ) → RuleOf P f i → mem i (keep (has-key f) (upTo (count P))) ≡ true
+  stands-there f i r = mem-keep (has-key f) (upTo (count P)) i ∙ and-both (upTo-mem (count P) i (r .known)) (eq-eqb _ _ (told i (r .known) ∙ own-key r))
+
+  stood-there : (f i : ℕ) → f < P .facts → i < count P → has-key f i ≡ true → RuleOf P f i
+  stood-there f i l known has = key-own P f i (omega arith) known (sym (told i known) ∙ eqb-true _ _ has)
+
+  -- a fact that has a rule is one of the program
+  low : (f i : ℕ) → RuleOf P f i → f < P .facts
+  low f i r = subst (λ g. g < P .facts) (r .concludes) (b .conclusion-below i (r .known))
 
   pub threads-begin : Threads P first next
   threads-begin =
@@ -95,27 +121,23 @@ module _ (P : Program) (keys first next : List ℕ) (b : Bounded P) (few : P .fa
         next-places = w .next-places;
         todo-rule = starts;
         next-rule = follows;
-        next-least = λ i j l h e. next-least (has-key (rule P i .conclusion)) next 0 (count P) (getD first (rule P i .conclusion) 0) i j (thread-of (rule P i .conclusion) (b .conclusion-below i l)) (stands-there (rule P i .conclusion) i l refl) (stands-there (rule P i .conclusion) j h e);
+        next-least = λ f i j r s. next-least (has-key f) next 0 (count P) (getD first f 0) i j (thread-of f (low f i r)) (stands-there f i r) (stands-there f j s);
       }
     where
-      starts : (f : ℕ) → f < P .facts → (getD first f 0 ≡ threadEnd) ⊎ ((getD first f 0 < count P) × (rule P (getD first f 0) .conclusion ≡ f))
+      starts : (f : ℕ) → f < P .facts → (getD first f 0 ≡ threadEnd) ⊎ RuleOf P f (getD first f 0)
       starts f l = ⊎-elim (λ e. inl e) (λ m. inr (one-of m)) (first-of next (getD first f 0) (keep (has-key f) (upTo (count P))) (thread-of f l))
         where
-          one-of : mem (getD first f 0) (keep (has-key f) (upTo (count P))) ≡ true → (getD first f 0 < count P) × (rule P (getD first f 0) .conclusion ≡ f)
+          one-of : mem (getD first f 0) (keep (has-key f) (upTo (count P))) ≡ true → RuleOf P f (getD first f 0)
           one-of m =
               let (inside, passes) = kept (has-key f) next 0 (count P) (getD first f 0) m in
-              let low : getD first f 0 < count P = mem-upTo (count P) (getD first f 0) inside in
-              (low, sym (told (getD first f 0) low) ∙ eqb-true _ _ passes)
+              stood-there f (getD first f 0) l (mem-upTo (count P) (getD first f 0) inside) passes
 
-      follows : (i : ℕ) → i < count P → (getD next i 0 ≡ threadEnd) ⊎ ((i < getD next i 0) × ((getD next i 0 < count P) × (rule P (getD next i 0) .conclusion ≡ rule P i .conclusion)))
-      follows i l =
+      follows : (f i : ℕ) → RuleOf P f i → (getD next i 0 ≡ threadEnd) ⊎ ((i < getD next i 0) × RuleOf P f (getD next i 0))
+      follows f i r =
           ⊎-elim (λ e. inl e)
-          (λ h. let low : getD next i 0 < count P = omega (arith, h .1 .0) in inr (h .0, (low, sym (told (getD next i 0) low) ∙ eqb-true _ _ (h .1 .1))))
-          (leads-on (has-key own) next 0 (count P) (getD first own 0) i (thread-of own (b .conclusion-below i l)) (stands-there own i l refl))
-        where
-          own : ℕ
-          own = rule P i .conclusion
+          (λ h. inr (h .0, stood-there f (getD next i 0) (low f i r) (omega (arith, h .1 .0)) (h .1 .1)))
+          (leads-on (has-key f) next 0 (count P) (getD first f 0) i (thread-of f (low f i r)) (stands-there f i r))
 
   -- no rule of a fact is before its first
-  pub none-before : (i : ℕ) → i < count P → getD first (rule P i .conclusion) 0 ≤ i
-  none-before i l = first-least (has-key (rule P i .conclusion)) next 0 (count P) (getD first (rule P i .conclusion) 0) i (thread-of (rule P i .conclusion) (b .conclusion-below i l)) (stands-there (rule P i .conclusion) i l refl)
+  pub none-before : (f i : ℕ) → RuleOf P f i → getD first f 0 ≤ i
+  none-before f i r = first-least (has-key f) next 0 (count P) (getD first f 0) i (thread-of f (low f i r)) (stands-there f i r)

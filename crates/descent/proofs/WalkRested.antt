@@ -20,7 +20,7 @@ use Rattle.tables.specs.Ranking.{RanksSoFar}
 use Rattle.threads.specs.Threads.{Threaded}
 use Rattle.components.specs.Open.{unmet, closed, seenOf, Walking, Current, MayOpen, Opened}
 use Rattle.descent.specs.declared.walk.Standing.{Standing}
-use Rattle.descent.specs.Standing.{WasLooked, Looked, StaysMet, Stands, Rests, RanksFound}
+use Rattle.descent.specs.Standing.{ruleKey, WasLooked, Looked, StaysMet, Stands, Rests, RanksFound}
 use Rattle.descent.proofs.ThreadsBegun.{threads-begin, none-before}
 use Rattle.descent.proofs.RulesLooked.{same-or, opened-met, looked-opened, looked-elsewhere}
 
@@ -58,7 +58,7 @@ none-ranked P ranks e =
     })
 
 pub rests-first :
-    (P : Program) {keys todo next seen stack roots ranks : List ℕ} {n : ℕ} → Bounded P → P .facts < maxFacts narrow → count P ≤ maxRules → ((i : ℕ) → i < count P → getD keys i 0 ≡ rule P i .conclusion) → n ≡ count P → Threaded keys n todo next
+    (P : Program) {keys todo next seen stack roots ranks : List ℕ} {n : ℕ} → Bounded P → P .facts < maxFacts narrow → count P ≤ maxRules → ((i : ℕ) → i < count P → getD keys i 0 ≡ ruleKey P i) → n ≡ count P → Threaded keys n todo next
     → seen ≡ replicate (maxFacts narrow) unmet → length stack ≡ maxFacts narrow → length roots ≡ maxFacts narrow → ranks ≡ replicate (maxFacts narrow) 0 → Rests P seen stack roots todo next ranks
 rests-first P {keys} {todo} {next} {seen} {stack} {roots} {ranks} b few few-rules told all-rules threaded all-unmet stack-places root-places no-ranks =
     record {
@@ -70,9 +70,9 @@ rests-first P {keys} {todo} {next} {seen} {stack} {roots} {ranks} b few few-rule
             bounds = b;
             few-rules = few-rules;
             known = λ f l. inl (not-met f l);
-            premises = λ i h d. absurd (none-looked i h d);
-            constraints = λ i h d. absurd (none-looked i h d);
-            none-yet = λ i h e. none-before P keys todo next b few told strung i h;
+            premises = λ i h on d. absurd (none-looked i h d);
+            constraints = λ i h on d. absurd (none-looked i h d);
+            none-yet = λ i h on e. none-before P keys todo next b few told strung (rule P i .conclusion) i (record { known = h; in-force = on; concludes = refl });
             none-behind = λ f l is-open. absurd (omega (arith, not-met f l));
             none-between = λ c f l. absurd (omega arith);
             few-ranks = λ f. omega (arith, rank-zero f, walking .room);
@@ -143,7 +143,7 @@ rested {P} {seen} {stack} {roots} {todo} {next} {ranks} {s} w h =
 pub met-further : (seen seen′ : List ℕ) (f : ℕ) → ((g : ℕ) → g < f → seenOf seen g ≡ unmet → ⊥) → StaysMet seen seen′ → (seenOf seen′ f ≡ unmet → ⊥) → (g : ℕ) → g < f + 1 → seenOf seen′ g ≡ unmet → ⊥
 met-further seen seen′ f met stays here g l e = same-or g f (λ q. here (subst (λ a. seenOf seen′ a ≡ unmet) q e)) (λ q. met g (omega arith) (stays g e))
 
--- Every fact was met and none is open: all are closed, so every rule was looked at, and the ranks are right. They are the least ones, as none is too high.
+-- Every fact was met and none is open: all are closed, so every rule in force was looked at, and the ranks are right. They are the least ones, as none is too high.
 module _ {P : Program} {seen stack roots todo next ranks : List ℕ} (w : Rests P seen stack roots todo next ranks) (met : (f : ℕ) → f < P .facts → seenOf seen f ≡ unmet → ⊥) where
   all-closed : (f : ℕ) → f < P .facts → seenOf seen f ≡ closed
   all-closed f l = ⊎-elim (λ e. absurd (met f l e)) (⊎-elim (λ e. e) (λ e. absurd (omega (arith, w .walking .place-there f l e .0)))) (w .looked .known f l)
@@ -154,8 +154,8 @@ module _ {P : Program} {seen stack roots todo next ranks : List ℕ} (w : Rests 
   right-ranks : Ranks P (inForce P) (rankIn ranks)
   right-ranks =
       record {
-        not-below = λ i h on g m. ⊎-elim (λ e. e .1) (λ e. absurd (omega (arith, e .0, conclusion-closed i h))) (w .looked .premises i h (inl (conclusion-closed i h)) g m);
-        above = λ i h on g m. w .looked .constraints i h (inl (conclusion-closed i h)) g m .1;
+        not-below = λ i h on g m. ⊎-elim (λ e. e .1) (λ e. absurd (omega (arith, e .0, conclusion-closed i h))) (w .looked .premises i h on (inl (conclusion-closed i h)) g m);
+        above = λ i h on g m. w .looked .constraints i h on (inl (conclusion-closed i h)) g m .1;
       }
 
   pub all-walked : RanksFound P true ranks

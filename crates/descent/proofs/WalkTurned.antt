@@ -26,7 +26,7 @@ use Rattle.tables.proofs.RanksHeld.{raised}
 use Rattle.components.proofs.WalkClosed.{last-highest, closed-ranks, closed-unmet, closed-walking}
 use Rattle.descent.specs.declared.walk.Standing.{Standing}
 use Rattle.descent.specs.declared.walk.Turn.the-variants.{Goes}
-use Rattle.descent.specs.Standing.{threadsLeft, Stands, TurnLeaves}
+use Rattle.descent.specs.Standing.{RuleOf, threadsLeft, Stands, TurnLeaves}
 use Rattle.descent.proofs.ThreadsFollowed.{followed, less-followed}
 use Rattle.descent.proofs.RulesLooked.{same-or, opened-met, looked-opened, looked-left, closed-met, looked-closed}
 use Rattle.descent.proofs.RuleDone.{high-few, rank-raised, looked-done}
@@ -136,22 +136,25 @@ module _ {P : Program} {seen stack roots todo next ranks : List ℕ} {s : Standi
   abbrev now-here : Current roots (s .height) (s .roots) (s .at)
   now-here = here w (l .some-open)
 
-  -- The fact is one of the program, and the rule concludes it.
+  -- The fact is one of the program, and the rule is a rule of it.
   fact-low : fact < P .facts
   fact-low = rw (l .is-fact) (w .walking .fact-there (s .at) (now-here .inside) .0)
 
   fact-small : fact < maxFacts narrow
   fact-small = omega (arith, fact-low, w .walking .few)
 
-  own-rule : (i < count P) × (rule P i .conclusion ≡ fact)
+  own-rule : RuleOf P fact i
   own-rule =
       ⊎-elim
       (λ e. absurd (l .not-end (sym (l .is-rule) ∙ e)))
-      (λ h. subst (λ j. (j < count P) × (rule P j .conclusion ≡ fact)) (l .is-rule) h)
+      (λ h. subst (RuleOf P fact) (l .is-rule) h)
       (w .threads .todo-rule fact fact-low)
 
   pub rule-known : i < count P
-  rule-known = own-rule .0
+  rule-known = own-rule .known
+
+  pub rule-in-force : inForce P i ≡ true
+  rule-in-force = own-rule .in-force
 
   pub rule-small : i < maxRules
   rule-small = omega (arith, rule-known, w .looked .few-rules)
@@ -160,7 +163,7 @@ module _ {P : Program} {seen stack roots todo next ranks : List ℕ} {s : Standi
   own-place = rw (l .is-fact) (w .walking .fact-there (s .at) (now-here .inside) .1)
 
   concludes : rule P i .conclusion ≡ factAt stack (s .at)
-  concludes = own-rule .1 ∙ l .is-fact
+  concludes = own-rule .concludes ∙ l .is-fact
 
   -- A fact that was not met is opened, and is looked at then.
   module _ {r : Look} {f : FactId} {barring : Bool} (is : r ≡ look.Unmet f barring) (finds : LookFinds P i seen ranks r) where
@@ -175,7 +178,7 @@ module _ {P : Program} {seen stack roots todo next ranks : List ℕ} {s : Standi
         → (Walking P seen stack roots (s .height) (s .roots) → (0 < s .height → Current roots (s .height) (s .roots) (s .at)) → f .0 < P .facts → seenOf seen (f .0) ≡ unmet → MayOpen P stack (s .height) (f .0) barring → Opened P seen stack roots (s .height) (s .roots) (s .at) (f .0) seen′ stack′ roots′)
         → TurnLeaves P seen todo s next (Goes (record { height = s .height + 1; roots = s .roots + 1; at = s .height })) seen′ stack′ roots′ todo ranks
     opened seen′ stack′ roots′ opens =
-        let o = opens (w .walking) (w .current) (found .1 .0) (found .1 .1) (may-open (w .walking) now-here i rule-known concludes (f .0) barring (found .0)) in (
+        let o = opens (w .walking) (w .current) (found .1 .0) (found .1 .1) (may-open (w .walking) now-here i rule-known rule-in-force concludes (f .0) barring (found .0)) in (
           record {
             walking = o .walking;
             current = λ _. record { inside = omega arith; no-root-behind = λ t u. omega (arith, o .walking .root-inside t u .1) };
@@ -190,7 +193,7 @@ module _ {P : Program} {seen stack roots todo next ranks : List ℕ} {s : Standi
   pub barred-look : {r : Look} → r ≡ look.Barred → LookFinds P i seen ranks r → Cycle P (inForce P)
   barred-look is finds =
       let (k, (named, (low, is-open))) = subst (λ q. LookFinds P i seen ranks q) is finds in
-      open-constraint-cycle (w .walking) now-here i rule-known concludes k named low is-open
+      open-constraint-cycle (w .walking) now-here i rule-known rule-in-force concludes k named low is-open
 
   -- All facts of the rule were met. Its conclusion gets the rank that they ask; the roots behind the lowest open premise go, or a cycle is met.
   module _ {r : Look} {low high : ℕ} (is : r ≡ look.Seen low high) (finds : LookFinds P i seen ranks r) where
@@ -198,13 +201,13 @@ module _ {P : Program} {seen stack roots todo next ranks : List ℕ} {s : Standi
     met = subst (λ q. LookFinds P i seen ranks q) is finds
 
     asked-rank : RanksSoFar P (set ranks fact high)
-    asked-rank = raised P ranks fact high fact-small (omega (arith, high-few (w .walking) (w .looked) (met .0 .1), w .walking .few)) (λ rank r. subst (λ f. high ≤ rank f) (own-rule .1) (met .0 .1 .under rank r)) (w .so-far)
+    asked-rank = raised P ranks fact high fact-small (omega (arith, high-few (w .walking) (w .looked) (met .0 .1), w .walking .few)) (λ rank r. subst (λ f. high ≤ rank f) (own-rule .concludes) (met .0 .1 .under rank r)) (w .so-far)
 
     pub merged-cycle : {m : Merge} → m ≡ merge.Barred → Merges roots (s .roots) low m → Cycle P (inForce P)
     merged-cycle way merges =
         ⊎-elim
         (λ e. absurd (none-cycle (w .walking) (rw e at gone)))
-        (λ (g, (named, (below, (place, is-open)))). merge-cycle (w .walking) now-here i rule-known concludes g low named below place is-open gone)
+        (λ (g, (named, (below, (place, is-open)))). merge-cycle (w .walking) now-here i rule-known rule-in-force concludes g low named below place is-open gone)
         (met .0 .0)
       where
         gone : Merges roots (s .roots) low merge.Barred
@@ -214,7 +217,7 @@ module _ {P : Program} {seen stack roots todo next ranks : List ℕ} {s : Standi
     left-walking left gone =
         ⊎-elim
         (λ e. none-merged (w .walking) left (rw e at gone))
-        (λ (g, (named, (below, (place, is-open)))). merged (w .walking) now-here i rule-known concludes g low named below place is-open left gone)
+        (λ (g, (named, (below, (place, is-open)))). merged (w .walking) now-here i rule-known rule-in-force concludes g low named below place is-open left gone)
         (met .0 .0)
 
     -- The rule is done with: the fact's next one follows it in the thread. Its rank is raised where it was below the one that is asked.
@@ -226,7 +229,7 @@ module _ {P : Program} {seen stack roots todo next ranks : List ℕ} {s : Standi
           record {
             walking = left-walking left (gone .0);
             current = λ _. current-fewer roots (s .height) (s .roots) left (s .at) (gone .0 .0) now-here;
-            threads = followed (w .threads) (w .walking .few) fact-low (l .is-rule) rule-known (own-rule .1);
+            threads = followed (w .threads) (w .walking .few) fact-low (l .is-rule) own-rule;
             so-far = ⊎-elim (λ e. rw (e .0) asked-rank) (λ e. rw (e .0) (w .so-far)) ranked;
             looked =
                 looked-done
@@ -238,8 +241,7 @@ module _ {P : Program} {seen stack roots todo next ranks : List ℕ} {s : Standi
                   low-fact = fact-low;
                   is-place = own-place;
                   is-rule = l .is-rule;
-                  is-known = rule-known;
-                  concludes = own-rule .1;
+                  own = own-rule;
                   asked = met .0 .1;
                   premises-noted = met .1 .0;
                   constraints-noted = met .1 .1;
@@ -248,7 +250,7 @@ module _ {P : Program} {seen stack roots todo next ranks : List ℕ} {s : Standi
           },
           (
             fewer-left _ _ (s .height) (s .at) (s .height) (s .at)
-                (omega (arith, less-followed (w .threads) (w .walking .few) fact-low (l .is-rule) rule-known (own-rule .1) (w .looked .few-rules)))
+                (omega (arith, less-followed (w .threads) (w .walking .few) fact-low (l .is-rule) own-rule (w .looked .few-rules)))
                 (looked-small w (l .some-open)),
             λ f e. e,
           ),

@@ -17,14 +17,24 @@ use Rattle.descent.specs.declared.walk.Standing.{Standing}
 use Rattle.descent.specs.declared.walk.Turn.{Turn}
 use Rattle.descent.specs.declared.walk.Turn.the-variants.{Goes, Cyclic}
 
--- Each fact's next rule to look at is one that concludes it, or none is left; and from each rule the next one has a higher number and the same conclusion, and
+-- The key of a rule in force is its conclusion. Another rule has the end for its key, so it stands in no thread.
+abbrev pub ruleKey : Program → ℕ → ℕ
+ruleKey P i = cond (inForce P i) (rule P i .conclusion) threadEnd
+
+-- Rule i is a rule of the fact f: it is in force and concludes it.
+pub record RuleOf (P : Program) (f i : ℕ) : Type 0 where
+  pub known : i < count P
+  pub in-force : inForce P i ≡ true
+  pub concludes : rule P i .conclusion ≡ f
+
+-- Each fact's next rule to look at is a rule of it, or none is left; and from each rule the next one has a higher number and is a rule of the same fact, and
 -- no such rule stands between the two.
 pub record Threads (P : Program) (todo next : List ℕ) : Type 0 where
   pub todo-places : length todo ≡ maxFacts narrow
   pub next-places : length next ≡ maxRules
-  pub todo-rule : (f : ℕ) → f < P .facts → (getD todo f 0 ≡ threadEnd) ⊎ ((getD todo f 0 < count P) × (rule P (getD todo f 0) .conclusion ≡ f))
-  pub next-rule : (i : ℕ) → i < count P → (getD next i 0 ≡ threadEnd) ⊎ ((i < getD next i 0) × ((getD next i 0 < count P) × (rule P (getD next i 0) .conclusion ≡ rule P i .conclusion)))
-  pub next-least : (i j : ℕ) → i < count P → j < count P → rule P j .conclusion ≡ rule P i .conclusion → i < j → getD next i 0 ≤ j
+  pub todo-rule : (f : ℕ) → f < P .facts → (getD todo f 0 ≡ threadEnd) ⊎ RuleOf P f (getD todo f 0)
+  pub next-rule : (f i : ℕ) → RuleOf P f i → (getD next i 0 ≡ threadEnd) ⊎ ((i < getD next i 0) × RuleOf P f (getD next i 0))
+  pub next-least : (f i j : ℕ) → RuleOf P f i → RuleOf P f j → i < j → getD next i 0 ≤ j
 
 -- How far the threads of all facts are from their ends, by rule numbers.
 abbrev pub threadsLeft : Program → List ℕ → ℕ
@@ -52,15 +62,15 @@ PremiseHeld seen roots ranks m f g =
 abbrev pub ConstraintHeld : List ℕ → List ℕ → ℕ → ℕ → Type 0
 ConstraintHeld seen ranks f k = (seenOf seen k ≡ closed) × (rankIn ranks k < rankIn ranks f)
 
--- What the rules that were looked at have come to, where the fact at the place `at` is looked at.
+-- What the rules in force that were looked at have come to, where the fact at the place `at` is looked at.
 pub record Looked (P : Program) (seen stack roots todo ranks : List ℕ) (n m at : ℕ) : Type 0 where
   pub bounds : Bounded P
   pub few-rules : count P ≤ maxRules
   pub known : (f : ℕ) → f < P .facts → (seenOf seen f ≡ unmet) ⊎ ((seenOf seen f ≡ closed) ⊎ (seenOf seen f < maxFacts narrow))
-  pub premises : (i : ℕ) → i < count P → WasLooked P seen todo i → (g : ℕ) → mem g (rule P i .premises) ≡ true → PremiseHeld seen roots ranks m (rule P i .conclusion) g
-  pub constraints : (i : ℕ) → i < count P → WasLooked P seen todo i → (k : ℕ) → mem k (rule P i .constraints) ≡ true → ConstraintHeld seen ranks (rule P i .conclusion) k
+  pub premises : (i : ℕ) → i < count P → inForce P i ≡ true → WasLooked P seen todo i → (g : ℕ) → mem g (rule P i .premises) ≡ true → PremiseHeld seen roots ranks m (rule P i .conclusion) g
+  pub constraints : (i : ℕ) → i < count P → inForce P i ≡ true → WasLooked P seen todo i → (k : ℕ) → mem k (rule P i .constraints) ≡ true → ConstraintHeld seen ranks (rule P i .conclusion) k
   -- no rule of a fact that was not met was looked at
-  pub none-yet : (i : ℕ) → i < count P → seenOf seen (rule P i .conclusion) ≡ unmet → getD todo (rule P i .conclusion) 0 ≤ i
+  pub none-yet : (i : ℕ) → i < count P → inForce P i ≡ true → seenOf seen (rule P i .conclusion) ≡ unmet → getD todo (rule P i .conclusion) 0 ≤ i
   -- no rule is left of the facts behind the one that is looked at, nor of those between an open fact and the one that opened it
   pub none-behind : (f : ℕ) → f < P .facts → seenOf seen f < maxFacts narrow → at < seenOf seen f → getD todo f 0 ≡ threadEnd
   pub none-between : (b f : ℕ) → b < n → f < P .facts → openerAt stack b < seenOf seen f → seenOf seen f < b → getD todo f 0 ≡ threadEnd

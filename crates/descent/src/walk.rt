@@ -3,13 +3,13 @@ ghost use Prim.Native.Nat.{ℕ, _<_, _≤_};
 ghost use mathlib.Core.Path.{_≡_};
 ghost use mathlib.Core.List.{List};
 ghost use lib.ListN.{length, getD, replicate};
-ghost use Rattle.theory.specs.Rule.{Program, count, rule as ruleOf};
+ghost use Rattle.theory.specs.Rule.{Program, count};
 ghost use Rattle.items.specs.Item.{narrow, maxFacts};
 ghost use Rattle.tables.specs.Layout.{programIn, WellFormed};
 ghost use Rattle.threads.specs.Threads.{threadEnd};
 ghost use Rattle.components.specs.Open.{seenOf, factAt, unmet};
 ghost use Rattle.descent.specs.declared.walk.Turn.the-variants.{Goes};
-ghost use Rattle.descent.specs.Standing.{Stands, Rests, TurnLeaves, WalkLeaves, RanksFound};
+ghost use Rattle.descent.specs.Standing.{ruleKey, Stands, Rests, TurnLeaves, WalkLeaves, RanksFound};
 use components::close::close_from;
 use components::look::Look;
 use components::look::UNMET;
@@ -29,6 +29,7 @@ use tables::layout::facts_of;
 use tables::layout::rules_of;
 use tables::layout::wide;
 use tables::rule::conclusion;
+use tables::rule::is_withheld;
 use threads::END;
 
 // How many facts are open, how many of them are roots, and the place of the one that is looked at.
@@ -162,17 +163,29 @@ fn walk_from(
     true
 }
 
-// The conclusion of each rule, as its key.
-fn conclusions_of(tables: &[u16; TABLE_CELLS]) -> [u16; MAX_RULES]
+// The key of a rule: its conclusion, or END where it is withheld, so that no walk looks at it. The conclusion is read first: so the loop over the rules takes several at a time.
+fn rule_key(tables: &[u16; TABLE_CELLS], rule: RuleId) -> u16
+    requires { ⌜ WellFormed (now tables) × (rule .0 < count (programIn (now tables))) ⌝ }
+    ensures { λ r. ⌜ r ≡ ruleKey (programIn (now (tables .entry))) (rule .0) ⌝ }
+{
+    let fact = conclusion(tables, rule);
+    if is_withheld(tables, rule) {
+        END
+    } else {
+        fact.0
+    }
+}
+
+// The key of each rule.
+fn keys_of(tables: &[u16; TABLE_CELLS]) -> [u16; MAX_RULES]
     requires { ⌜ WellFormed (now tables) ⌝ }
-    ensures { λ r. ⌜ ((i : ℕ) → i < count (programIn (now (tables .entry))) → getD r i 0 ≡ ruleOf (programIn (now (tables .entry))) i .conclusion) ⌝ }
+    ensures { λ r. ⌜ ((i : ℕ) → i < count (programIn (now (tables .entry))) → getD r i 0 ≡ ruleKey (programIn (now (tables .entry))) i) ⌝ }
 {
     let rules = rules_of(tables);
     let mut keys = [0u16; MAX_RULES];
     let mut i: usize = 0;
     while i < rules {
-        let fact = conclusion(tables, RuleId(i as u16));
-        keys[i] = fact.0;
+        keys[i] = rule_key(tables, RuleId(i as u16));
         i += 1;
     }
     keys
@@ -183,7 +196,7 @@ pub fn walk(tables: &[u16; TABLE_CELLS], ranks: &mut [u16; MAX_FACTS]) -> bool
     requires { ⌜ WellFormed (now tables) × (_≡_ {A = List ℕ} (now ranks) (replicate (maxFacts narrow) 0)) ⌝ }
     ensures { λ r. ⌜ RanksFound (programIn (now (tables .entry))) r (now (ranks .exit)) ⌝ }
 {
-    let keys = conclusions_of(tables);
+    let keys = keys_of(tables);
     let mut todo = [END; MAX_FACTS];
     let mut next = [0u16; MAX_RULES];
     threads::thread(&keys, rules_of(tables), &mut todo, &mut next);

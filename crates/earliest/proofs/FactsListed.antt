@@ -18,15 +18,6 @@ use Rattle.theory.proofs.Lists.{howMany-append, less-one, all-elem, getD-mem, r
 use Rattle.index.specs.Literal.{outside}
 use Rattle.earliest.specs.Branch.{Kept}
 
-module _ (marks : List ℕ) (k : ℕ) where
-  pub marked-at : getD marks k 0 ≡ 1 → has marks k ≡ true
-  unfolding has
-  marked-at e = rw e refl
-
-  pub unmarked-at : (getD marks k 0 ≡ 1 → ⊥) → has marks k ≡ false
-  unfolding has
-  unmarked-at n = ne-eqb (getD marks k 0) 1 n
-
 -- Of the facts below `facts` those from f on are listed.
 pub record Down (marks : List ℕ) (facts : ℕ) (row : List ℕ) (n f : ℕ) : Type 0 where
   pub places : length row ≡ maxGuessed

@@ -10,6 +10,7 @@ use lib.ListN.{length, take, drop, replicate, drop-of-length-le}
 use Rattle.theory.specs.Rule.{all, FactSet, Bounded, inForce, nothing}
 use Rattle.theory.specs.Search.{guessed, search}
 use Rattle.theory.specs.Bounds.{alive}
+use Rattle.theory.proofs.Bools.{and-true}
 use Rattle.theory.proofs.Lists.{all-of}
 use Rattle.items.specs.Item.{narrow, maxFacts, maxRules}
 use Rattle.tables.specs.Layout.{programIn}
@@ -88,7 +89,7 @@ module _ {T R : List ℕ} (r : Ready T R) where
   -- Nothing is decided at first, and what is found is what the search takes.
   module _ (row low missing high left : List ℕ) (is-row : row ≡ guessed (programIn T) (inForce (programIn T))) (none-off : LeftOut (programIn T) (replicate maxRules 0) R) (s : Settled (programIn T) (onIn R) low missing) (none-held : HeldToo (replicate literals 0) [] low) where
     pub begin : Settled (programIn T) (onIn R) high left → HeldToo low (drop 0 (take (length row) row)) high → Branch (programIn T) R row 0 low missing high
-    begin = first-branch (programIn T) facts-bounded few R row low missing high left is-row (λ i h. none-off i h ∙ ap (λ (off : ℕ → Bool). inForce (programIn T) i && not (off i)) (unmarked maxRules)) s none-held
+    begin = first-branch (programIn T) facts-bounded few R row low missing high left is-row (λ i h. none-off i h ∙ ap (λ (off : ℕ → Bool). inForce (programIn T) i && not (off i)) (unmarked maxRules) ∙ and-true (inForce (programIn T) i)) s none-held
 
     pub end : (t : Bool) (found : List ℕ) → Looked (programIn T) (drop 0 row) (heldIn row 0 low) t found → Shown (search (programIn T) (inForce (programIn T))) t found
     end t found l =

@@ -1,14 +1,14 @@
 -- What was drawn is read back: a load is accepted, and it is the program that was drawn.
 use Prim.Native.Nat.{ℕ, suc, _+_, _*_, _%_, _<_, _≤_}
 use native.Mathlib.Omega.{arith}
-use mathlib.Core.Path.{_≡_, refl, ap, _∙_}
+use mathlib.Core.Path.{_≡_, refl, ap, ap₂, _∙_}
 use mathlib.Core.Bool.{Bool, true, false, cond}
 use mathlib.Core.List.{List, [], _∷_, _++_, map, append-assoc}
 use mathlib.Core.Option.{Option, none}
 use borrow.Author.Tests.{lt-ltb, le-leb, eq-eqb}
 use lib.Dec.{eqb}
 use lib.ListN.{length, length-append}
-use Rattle.theory.specs.Rule.{upTo, Rule}
+use Rattle.theory.specs.Rule.{mem, upTo, Rule}
 use Rattle.theory.proofs.Lists.{length-range}
 use Rattle.items.specs.declared.refusal.Refusal.{Refusal}
 use Rattle.items.specs.declared.item.Item.{Item}
@@ -21,7 +21,7 @@ use Rattle.cursors.specs.declared.cursor.Row.the-variants.{Opening, Body}
 use Rattle.cursors.specs.Cursor.{item, itemsAt, fileStart}
 use Rattle.cursors.proofs.ReadBack.{InRow, read-back}
 use Rattle.reader.specs.Scanning.{seen}
-use Rattle.reader.specs.Questions.{ownFacts, rulesOf, bodyQuestions, fileQuestions, programOf, fileNo}
+use Rattle.reader.specs.Questions.{ownFacts, rulesOf, unreadOf, bodyQuestions, fileQuestions, programOf, fileNo}
 use Rattle.generator.specs.Load.{conclusionOf, firstOf, secondOf, ruleItems, itemsOf, loadItems, loadBytes, ruleDrawn, loadProgram}
 use Rattle.generator.specs.Outcome.{loadLength}
 use Rattle.generator.proofs.Quotients.{draw-below}
@@ -49,6 +49,12 @@ two-rules : (a b : Bool) (c f g : ℕ) (is : List Item) → ((sign : Sign) → o
 two-rules true b c f g is ends = rw (ends asksIn, ends asksOut) refl
 two-rules false true c f g is ends = rw (ends asksIn, ends asksOut) refl
 two-rules false false c f g is ends = rw (ends asksIn, ends asksOut) refl
+
+-- They name no unread fact.
+two-read : (a b : Bool) (f g : ℕ) (is : List Item) → unreadOf (map item (two a b f g ++ is)) ≡ unreadOf (map item is)
+two-read true b f g is = refl
+two-read false true f g is = refl
+two-read false false f g is = refl
 
 -- They get yes behind an opened rule.
 two-asked : (n r : ℕ) (a b : Bool) (f g : ℕ) (is : List Item) → 0 < r → f < n → g < n → firstNo (bodyQuestions (seen n r 0) (map item (two a b f g ++ is))) ≡ firstNo (bodyQuestions (seen n r 2) (map item is))
@@ -109,8 +115,13 @@ module _ (start n : ℕ) where
   rules-back (i ∷ is) m =
       rw (next-left i is m) (two-rules (first i) (second i) (conclusionOf start n i) (firstOf start n i) (secondOf start n i) (left is m) (λ sign. own-ends sign is m) ∙ ap (λ (rs : List Rule). ruleDrawn start n i ∷ rs) (rules-back is m))
 
+  -- No fact of it is unread.
+  none-unread : (is : List ℕ) (m : ℕ) → unreadOf (map item (left is m)) ≡ []
+  none-unread [] m = refl
+  none-unread (i ∷ is) m = rw (next-left i is m) (two-read (first i) (second i) (firstOf start n i) (secondOf start n i) (left is m) ∙ none-unread is m)
+
   pub program-back : (m : ℕ) → programOf (loadBytes start n m) ≡ loadProgram start n m
-  program-back m = rw (items-back m) (ap (λ (rs : List Rule). record { facts = n; rules = rs }) (rules-back (upTo m) m))
+  program-back m = rw (items-back m) (ap₂ (λ (rs : List Rule) (fs : List ℕ). record { facts = n; rules = rs; unread = λ f. mem f fs }) (rules-back (upTo m) m) (none-unread (upTo m) m))
 
   -- Every question gets yes.
   module _ (some : 0 < n) where

@@ -3,7 +3,7 @@ use Prim.Native.Nat.{ℕ, _+_, _*_, _%_}
 use mathlib.Core.Bool.{cond}
 use mathlib.Core.List.{List, [], _∷_, _++_, map}
 use lib.Dec.{eqb}
-use Rattle.theory.specs.Rule.{upTo, Rule, Program}
+use Rattle.theory.specs.Rule.{upTo, Rule, Program, nothing}
 use Rattle.items.specs.declared.item.Item.{Item}
 use Rattle.items.specs.declared.item.Item.the-variants.{Facts, Opens, Premise, Constraint, Rules}
 use Rattle.items.specs.Item.{narrow, factId}
@@ -56,4 +56,4 @@ ruleDrawn start n i =
     }
 
 abbrev pub loadProgram : ℕ → ℕ → ℕ → Program
-loadProgram start n m = record { facts = n; rules = map (ruleDrawn start n) (upTo m) }
+loadProgram start n m = record { facts = n; rules = map (ruleDrawn start n) (upTo m); unread = nothing }

@@ -2,7 +2,7 @@
 use Prim.Native.Nat.{ℕ}
 use mathlib.Core.Path.{_≡_, refl}
 use mathlib.Core.List.{List, [], _∷_}
-use Rattle.theory.specs.Rule.{plain, exception, plainRules}
+use Rattle.theory.specs.Rule.{plain, exception, plainRules, withheld, inForce}
 use Rattle.theory.specs.Derive.{fired, derive, steps}
 use Rattle.theory.specs.Run.{run, eligible, rejected, spares}
 use Rattle.theory.specs.Keeping.{groundsOf}
@@ -29,5 +29,5 @@ pub record Texts : Type 0 where
   pub nothing : groundsText [] 0 ≡ 0x45 ∷ 0x20 ∷ 0x32 ∷ 0x0A ∷ []
 
 pub texts : Texts
-unfolding groundsText textQuestions groundsOf stepLine line field spaced decimal fileQuestions itemsAt front bodyLength itemOf run eligible rejected spares fired derive steps plainRules plain exception
+unfolding groundsText textQuestions groundsOf stepLine line field spaced decimal fileQuestions itemsAt front bodyLength itemOf run eligible rejected spares fired derive steps plainRules plain exception inForce withheld
 texts = record { two-steps = refl; one-step = refl; not-derived = refl; past-the-facts = refl; nothing = refl }

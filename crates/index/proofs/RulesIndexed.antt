@@ -1,7 +1,7 @@
 -- The index is filled rule by rule: the rules passed are in the rows of their literals.
 use Prim.Native.Nat.{ℕ, _+_, _*_, _≤_, _<_}
 use mathlib.Core.Path.{_≡_, refl, sym, ap, ap₂, subst, _∙_, fun-ext}
-use mathlib.Core.Bool.{Bool, true, false, cond, _&&_, _||_}
+use mathlib.Core.Bool.{Bool, true, false, cond, not, Bool·not-not, _&&_, _||_}
 use mathlib.Core.List.{List}
 use mathlib.Core.Logic.{⊎-elim}
 use native.Mathlib.Omega.{arith}
@@ -9,7 +9,7 @@ use borrow.Author.Tests.{eqb-true, eqb-false, eq-eqb, ne-eqb, le-ltb, lt-ltb, lt
 use lib.ListN.{length, getD, set, length-set, length-replicate}
 use lib.Seq.{getD-set-same, getD-set-other}
 use lib.Dec.{eqb, ltb}
-use Rattle.theory.specs.Rule.{mem, howMany, upTo, nothing, Program, Mask, count, rule}
+use Rattle.theory.specs.Rule.{mem, howMany, upTo, nothing, Program, Mask, withheld, inForce, count, rule}
 use Rattle.theory.proofs.Bools.{either, and-true, and-false, or-none}
 use Rattle.theory.proofs.Lists.{zeros, eqb-self, howMany-ext, below-more, here-not, here-now}
 use Rattle.items.specs.Item.{maxRules, has}
@@ -170,12 +170,12 @@ module _ {P : Program} (off : List ℕ) {R missing : List ℕ} {i : ℕ} (w : In
         unused = λ j h e. w .sizes j (omega arith) ∙ ap (λ (b : Bool). cond b (lacking P nothing j) 1) (sym (all-left-out j h) ∙ e);
       }
 
--- Whether a rule is off.
+-- Which rules are left out: those that are off, and of the others those that are withheld.
 module _ (P : Program) (off : List ℕ) (i : ℕ) where
-  pub is-off : getD off i 0 ≡ 1 → inForceBut P off i ≡ false
+  pub off-left-out : getD off i 0 ≡ 1 → true ≡ not (inForceBut P off i)
   unfolding has
-  is-off e = rw (eq-eqb (getD off i 0) 1 e) refl
+  off-left-out e = rw (eq-eqb (getD off i 0) 1 e, and-false (inForce P i)) refl
 
-  pub is-on : (getD off i 0 ≡ 1 → ⊥) → inForceBut P off i ≡ true
-  unfolding has
-  is-on n = rw (ne-eqb (getD off i 0) 1 n) refl
+  pub withheld-left-out : (getD off i 0 ≡ 1 → ⊥) → withheld P i ≡ not (inForceBut P off i)
+  unfolding has inForce
+  withheld-left-out n = rw (ne-eqb (getD off i 0) 1 n, and-true (inForce P i)) (sym (Bool·not-not (withheld P i)))

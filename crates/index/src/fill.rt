@@ -1,7 +1,7 @@
 // The index is filled, rule by rule. Internal.
 ghost use Prim.Native.Nat.{ℕ, _+_, _<_, _≤_};
 ghost use mathlib.Core.Path.{_≡_};
-ghost use mathlib.Core.Bool.{Bool, false};
+ghost use mathlib.Core.Bool.{Bool, false, not};
 ghost use mathlib.Core.List.{List, _++_, map};
 ghost use Rattle.theory.specs.Rule.{count, rule as ruleOf};
 ghost use Rattle.bits.specs.Matrix.{SameFrom};
@@ -9,7 +9,7 @@ ghost use Rattle.tables.specs.Layout.{maxOwn, programIn, WellFormed};
 ghost use Rattle.premises.specs.Filling.{Entered};
 ghost use Rattle.index.specs.Literal.{literals, outside};
 ghost use Rattle.index.specs.Cells.{marksFrom};
-ghost use Rattle.index.specs.Index.{Indexed, LeftOut, Sized, Blank};
+ghost use Rattle.index.specs.Index.{Indexed, inForceBut, LeftOut, Sized, Blank};
 use crate::cells::INDEX_WORDS;
 use crate::cells::MARKS;
 use bits::matrix::mark_in;
@@ -21,6 +21,7 @@ use tables::layout::TABLE_CELLS;
 use tables::layout::rules_of;
 use tables::own::constraint_at;
 use tables::own::constraint_span;
+use tables::rule::is_withheld;
 
 // Marks a rule in the rows of its constraints, as facts out. Answers how many of them had no mark of it.
 fn index_constraints(
@@ -48,6 +49,18 @@ fn index_constraints(
     distinct
 }
 
+// Is a rule off, or not in force?
+fn is_left_out(tables: &[u16; TABLE_CELLS], off: &[u8; MAX_RULES], rule: RuleId) -> bool
+    requires { ⌜ WellFormed (now tables) × (rule .0 < count (programIn (now tables))) ⌝ }
+    ensures { λ r. ⌜ r ≡ not (inForceBut (programIn (now (tables .entry))) (now (off .entry)) (rule .0)) ⌝ }
+{
+    let number = rule.0 as usize;
+    if off[number] == 1 {
+        return true;
+    }
+    is_withheld(tables, rule)
+}
+
 // Fills the index, which is empty before, with the rules in force less those that are off, and how many literals each of them asks.
 pub fn index_rules(
     tables: &[u16; TABLE_CELLS],
@@ -63,12 +76,12 @@ pub fn index_rules(
     let rules = rules_of(tables);
     let mut i: usize = 0;
     while i < rules {
-        if off[i] == 1 {
+        let rule = RuleId(i as u16);
+        if is_left_out(tables, off, rule) {
             missing[i] = 1;
             i += 1;
             continue;
         }
-        let rule = RuleId(i as u16);
         let inside = index_rule(tables, rule, i, index);
         let outside = index_constraints(tables, rule, index);
         index[MARKS + i] = 1;

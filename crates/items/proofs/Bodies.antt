@@ -9,7 +9,7 @@ use native.Mathlib.Numerals.{add-one}
 use lib.ListN.{length, getD, take, drop, length-drop}
 use lib.Seq.{drop-cons, drop-drop}
 use lib.Dec.{eqb}
-use Rattle.items.specs.Item.{narrow, factsKind, opensKind, premiseKind, constraintKind, rulesKind, namesKind, stepKind, noSuchKind, bodyLength, bigEndian, stepFact, stepRule}
+use Rattle.items.specs.Item.{narrow, factsKind, opensKind, premiseKind, constraintKind, rulesKind, namesKind, stepKind, unreadKind, noSuchKind, bodyLength, bigEndian, stepFact, stepRule}
 
 -- k is none of the kinds but perhaps a step's
 pub record NoOther (k : ℕ) : Type 0 where
@@ -19,12 +19,13 @@ pub record NoOther (k : ℕ) : Type 0 where
   pub constraint : k ≡ constraintKind narrow → ⊥
   pub rules : k ≡ rulesKind → ⊥
   pub names : k ≡ namesKind → ⊥
+  pub unread : k ≡ unreadKind narrow → ⊥
 
 pub unknown : (k : ℕ) → NoOther k → (k ≡ stepKind narrow → ⊥) → bodyLength narrow k ≡ noSuchKind
 unfolding bodyLength
 unknown k h s =
     rw
-    (ne-eqb k (factsKind narrow) (h .facts), ne-eqb k (opensKind narrow) (h .opens), ne-eqb k (premiseKind narrow) (h .premise), ne-eqb k (constraintKind narrow) (h .constraint), ne-eqb k rulesKind (h .rules), ne-eqb k namesKind (h .names), ne-eqb k (stepKind narrow) s)
+    (ne-eqb k (factsKind narrow) (h .facts), ne-eqb k (opensKind narrow) (h .opens), ne-eqb k (premiseKind narrow) (h .premise), ne-eqb k (constraintKind narrow) (h .constraint), ne-eqb k (unreadKind narrow) (h .unread), ne-eqb k rulesKind (h .rules), ne-eqb k namesKind (h .names), ne-eqb k (stepKind narrow) s)
 
 pub a-step : (k : ℕ) → NoOther k → bodyLength narrow k < noSuchKind → k ≡ stepKind narrow
 a-step k h small = go (eqb k (stepKind narrow)) refl

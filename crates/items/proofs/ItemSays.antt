@@ -12,7 +12,7 @@ use mir.Val.{hasKey}
 use types.Run.{OneOf, miss}
 use denote.Enum.Declared.{tagOf}
 use Rattle.items.specs.declared.item.Item.{Item}
-use Rattle.items.specs.declared.item.Item.the-variants.{Facts, Opens, Premise, Constraint, Rules, Names, Step}
+use Rattle.items.specs.declared.item.Item.the-variants.{Facts, Opens, Premise, Constraint, Rules, Names, Step, Unread}
 use Rattle.items.proofs.item.Item.{the-type}
 use Rattle.items.specs.Item.{classOf, whereSaid}
 
@@ -32,15 +32,17 @@ pub record ByTags (i : Item) : Type 0 where
   pub rules : SaidBy (4 ∷ []) i (classOf i .rules)
   pub names : SaidBy (5 ∷ []) i (classOf i .names)
   pub step : SaidBy (6 ∷ []) i (classOf i .step)
+  pub unread : SaidBy (7 ∷ []) i (classOf i .unread)
 
 pub by-tags : (i : Item) → ByTags i
-by-tags (Facts n) = record { facts = tagged refl; opens = silent refl; own = silent refl; rules = silent refl; names = silent refl; step = silent refl }
-by-tags (Opens f) = record { facts = silent refl; opens = tagged refl; own = silent refl; rules = silent refl; names = silent refl; step = silent refl }
-by-tags (Premise f) = record { facts = silent refl; opens = silent refl; own = tagged (inl refl); rules = silent refl; names = silent refl; step = silent refl }
-by-tags (Constraint f) = record { facts = silent refl; opens = silent refl; own = tagged (inr refl); rules = silent refl; names = silent refl; step = silent refl }
-by-tags (Rules n) = record { facts = silent refl; opens = silent refl; own = silent refl; rules = tagged refl; names = silent refl; step = silent refl }
-by-tags (Names r) = record { facts = silent refl; opens = silent refl; own = silent refl; rules = silent refl; names = tagged refl; step = silent refl }
-by-tags (Step f r) = record { facts = silent refl; opens = silent refl; own = silent refl; rules = silent refl; names = silent refl; step = tagged refl }
+by-tags (Facts n) = record { facts = tagged refl; opens = silent refl; own = silent refl; rules = silent refl; names = silent refl; step = silent refl; unread = silent refl }
+by-tags (Opens f) = record { facts = silent refl; opens = tagged refl; own = silent refl; rules = silent refl; names = silent refl; step = silent refl; unread = silent refl }
+by-tags (Premise f) = record { facts = silent refl; opens = silent refl; own = tagged (inl refl); rules = silent refl; names = silent refl; step = silent refl; unread = silent refl }
+by-tags (Constraint f) = record { facts = silent refl; opens = silent refl; own = tagged (inr refl); rules = silent refl; names = silent refl; step = silent refl; unread = silent refl }
+by-tags (Rules n) = record { facts = silent refl; opens = silent refl; own = silent refl; rules = tagged refl; names = silent refl; step = silent refl; unread = silent refl }
+by-tags (Names r) = record { facts = silent refl; opens = silent refl; own = silent refl; rules = silent refl; names = tagged refl; step = silent refl; unread = silent refl }
+by-tags (Step f r) = record { facts = silent refl; opens = silent refl; own = silent refl; rules = silent refl; names = silent refl; step = tagged refl; unread = silent refl }
+by-tags (Unread f) = record { facts = silent refl; opens = silent refl; own = silent refl; rules = silent refl; names = silent refl; step = silent refl; unread = tagged refl }
 
 abbrev Apart : List ℕ → List ℕ → Type 0
 Apart [] ls = Unit {0}

@@ -6,7 +6,7 @@ use mathlib.Core.List.{List, [], _∷_}
 use native.Mathlib.Omega.{arith}
 use lib.ListN.{getD}
 use lib.Dec.{eqb}
-use Rattle.items.specs.Item.{narrow, factsKind, opensKind, premiseKind, constraintKind, rulesKind, namesKind, stepKind, noSuchKind, bodyLength}
+use Rattle.items.specs.Item.{narrow, factsKind, opensKind, premiseKind, constraintKind, rulesKind, namesKind, stepKind, unreadKind, noSuchKind, bodyLength}
 
 -- A kind is a byte.
 abbrev pub kinds : ℕ
@@ -28,7 +28,7 @@ entry-of k h = from-kind 0 kinds k h ∙ ap (bodyLength narrow) (omega arith)
 
 at-most-the-mark : (k : ℕ) → bodyLength narrow k ≤ noSuchKind
 unfolding bodyLength
-at-most-the-mark k = go (eqb k (factsKind narrow) || (eqb k (opensKind narrow) || (eqb k (premiseKind narrow) || eqb k (constraintKind narrow)))) (eqb k rulesKind || eqb k namesKind) (eqb k (stepKind narrow))
+at-most-the-mark k = go (eqb k (factsKind narrow) || (eqb k (opensKind narrow) || (eqb k (premiseKind narrow) || (eqb k (constraintKind narrow) || eqb k (unreadKind narrow))))) (eqb k rulesKind || eqb k namesKind) (eqb k (stepKind narrow))
   where
     go : (a b d : Bool) → cond a 1 (cond b 2 (cond d 3 noSuchKind)) ≤ noSuchKind
     go true b d = omega arith

@@ -2,7 +2,7 @@
 use Prim.Native.Nat.{_<_}
 use native.Mathlib.Omega.{arith}
 use Rattle.items.specs.declared.refusal.Refusal.{Refusal}
-use Rattle.items.specs.declared.refusal.Refusal.the-variants.{FileTooLong, NoFactCount, FileCutOff, UnknownKind, BodyCutOff, FactTooHigh, NoRuleOpened, TooManyRules, WrongRuleCount, BytesAfterEnd, NotRuleItems, NotAnException, NamedTwice, NotAllNamed, WrongSetLength, NotZeroOrOne, NotStepItems, AskedFactTooHigh, FactMarksShort, RuleMarksShort, StepsShort, OrderShort, TooManyConstraints, NoStableSet, NotDerived, RuleTooLong, NotLayered, FactsOutOfRange, RulesOutOfRange, LoadShort}
+use Rattle.items.specs.declared.refusal.Refusal.the-variants.{FileTooLong, NoFactCount, FileCutOff, UnknownKind, BodyCutOff, FactTooHigh, NoRuleOpened, TooManyRules, WrongRuleCount, BytesAfterEnd, NotRuleItems, NotAnException, NamedTwice, NotAllNamed, WrongSetLength, NotZeroOrOne, NotStepItems, AskedFactTooHigh, FactMarksShort, RuleMarksShort, StepsShort, OrderShort, TooManyConstraints, NoStableSet, NotDerived, RuleTooLong, NotLayered, FactsOutOfRange, RulesOutOfRange, LoadShort, UnreadAfterRule}
 use Rattle.items.specs.Question.{number}
 
 pub number-above : (r : Refusal) → 0 < number r
@@ -36,3 +36,4 @@ number-above NotLayered = omega arith
 number-above FactsOutOfRange = omega arith
 number-above RulesOutOfRange = omega arith
 number-above LoadShort = omega arith
+number-above UnreadAfterRule = omega arith

@@ -9,7 +9,7 @@ use lib.Dec.{eqb, ltb}
 use Rattle.items.specs.declared.item.FactId.{FactId}
 use Rattle.items.specs.declared.item.RuleId.{RuleId}
 use Rattle.items.specs.declared.item.Item.{Item}
-use Rattle.items.specs.declared.item.Item.the-variants.{Facts, Opens, Premise, Constraint, Rules, Names, Step}
+use Rattle.items.specs.declared.item.Item.the-variants.{Facts, Opens, Premise, Constraint, Rules, Names, Step, Unread}
 
 -- Facts and rules are counted separately, each from 0: a fact number and a rule number are different types.
 abbrev pub factId : ℕ → FactId
@@ -65,10 +65,13 @@ maxRuleItems = 24
 abbrev pub maxGuessed : ℕ
 maxGuessed = 16
 
--- The kinds; each that names a fact, or counts facts, by the width. Of a file: its count of facts, a rule opened, a premise, a constraint, its count
--- of rules.
+-- The kinds; each that names a fact, or counts facts, by the width. Of a file: its count of facts, an unread fact (document 02, wish 6), a rule opened, a
+-- premise, a constraint, its count of rules.
 abbrev pub factsKind : Width → ℕ
 factsKind narrow = 0x10
+
+abbrev pub unreadKind : Width → ℕ
+unreadKind narrow = 0x07
 
 abbrev pub opensKind : Width → ℕ
 opensKind narrow = 0x01
@@ -96,7 +99,7 @@ noSuchKind = 255
 -- The length of the body that follows a kind: the one place that fixes it.
 unfoldable pub bodyLength : Width → ℕ → ℕ
 bodyLength w k =
-    cond (eqb k (factsKind w) || (eqb k (opensKind w) || (eqb k (premiseKind w) || eqb k (constraintKind w)))) (factBytes w)
+    cond (eqb k (factsKind w) || (eqb k (opensKind w) || (eqb k (premiseKind w) || (eqb k (constraintKind w) || eqb k (unreadKind w))))) (factBytes w)
     (cond (eqb k rulesKind || eqb k namesKind) ruleBytes
     (cond (eqb k (stepKind w)) (factBytes w + ruleBytes)
     noSuchKind))
@@ -126,7 +129,8 @@ itemOf w k body =
     (cond (eqb k (constraintKind w)) (Constraint (factId (bigEndian body)))
     (cond (eqb k rulesKind) (Rules (bigEndian body))
     (cond (eqb k namesKind) (Names (ruleId (bigEndian body)))
-    (Step (factId (stepFact body)) (ruleId (stepRule body))))))))
+    (cond (eqb k (unreadKind w)) (Unread (factId (bigEndian body)))
+    (Step (factId (stepFact body)) (ruleId (stepRule body)))))))))
 
 -- What a rule asks of the fact that an item of its own names: a premise asks it in, a constraint asks it out.
 pub data Sign : Type 0 where
@@ -147,8 +151,8 @@ pub record StepItem : Type 0 where
   pub fact : FactId
   pub rule : RuleId
 
--- The count of facts; the conclusion of a rule that is opened; an item of a rule's own; the count of rules; a rule that is named; a step. A field
--- is none where an item says no such thing.
+-- The count of facts; the conclusion of a rule that is opened; an item of a rule's own; the count of rules; a rule that is named; a step; an unread fact. A
+-- field is none where an item says no such thing.
 pub record Class : Type 0 where
   pub facts : Option ℕ
   pub opens : Option FactId
@@ -156,15 +160,17 @@ pub record Class : Type 0 where
   pub rules : Option ℕ
   pub names : Option RuleId
   pub step : Option StepItem
+  pub unread : Option FactId
 
 abbrev pub classOf : Item → Class
-classOf (Facts n) = record { facts = some n; opens = none; own = none; rules = none; names = none; step = none }
-classOf (Opens f) = record { facts = none; opens = some f; own = none; rules = none; names = none; step = none }
-classOf (Premise f) = record { facts = none; opens = none; own = some (record { sign = asksIn; fact = f }); rules = none; names = none; step = none }
-classOf (Constraint f) = record { facts = none; opens = none; own = some (record { sign = asksOut; fact = f }); rules = none; names = none; step = none }
-classOf (Rules n) = record { facts = none; opens = none; own = none; rules = some n; names = none; step = none }
-classOf (Names r) = record { facts = none; opens = none; own = none; rules = none; names = some r; step = none }
-classOf (Step f r) = record { facts = none; opens = none; own = none; rules = none; names = none; step = some (record { fact = f; rule = r }) }
+classOf (Facts n) = record { facts = some n; opens = none; own = none; rules = none; names = none; step = none; unread = none }
+classOf (Opens f) = record { facts = none; opens = some f; own = none; rules = none; names = none; step = none; unread = none }
+classOf (Premise f) = record { facts = none; opens = none; own = some (record { sign = asksIn; fact = f }); rules = none; names = none; step = none; unread = none }
+classOf (Constraint f) = record { facts = none; opens = none; own = some (record { sign = asksOut; fact = f }); rules = none; names = none; step = none; unread = none }
+classOf (Rules n) = record { facts = none; opens = none; own = none; rules = some n; names = none; step = none; unread = none }
+classOf (Names r) = record { facts = none; opens = none; own = none; rules = none; names = some r; step = none; unread = none }
+classOf (Step f r) = record { facts = none; opens = none; own = none; rules = none; names = none; step = some (record { fact = f; rule = r }); unread = none }
+classOf (Unread f) = record { facts = none; opens = none; own = none; rules = none; names = none; step = none; unread = some f }
 
 -- What follows from what an item says, and else what follows where it says no such thing.
 abbrev pub whereSaid : {A B : Type 0} → Option A → (A → B) → B → B

@@ -2,7 +2,7 @@
 -- of document 02): each no stops with its number.
 use Prim.Native.Nat.{ℕ}
 use Rattle.items.specs.declared.refusal.Refusal.{Refusal}
-use Rattle.items.specs.declared.refusal.Refusal.the-variants.{FileTooLong, NoFactCount, FileCutOff, UnknownKind, BodyCutOff, FactTooHigh, NoRuleOpened, TooManyRules, WrongRuleCount, BytesAfterEnd, NotRuleItems, NotAnException, NamedTwice, NotAllNamed, WrongSetLength, NotZeroOrOne, NotStepItems, AskedFactTooHigh, FactMarksShort, RuleMarksShort, StepsShort, OrderShort, TooManyConstraints, NoStableSet, NotDerived, RuleTooLong, NotLayered, FactsOutOfRange, RulesOutOfRange, LoadShort}
+use Rattle.items.specs.declared.refusal.Refusal.the-variants.{FileTooLong, NoFactCount, FileCutOff, UnknownKind, BodyCutOff, FactTooHigh, NoRuleOpened, TooManyRules, WrongRuleCount, BytesAfterEnd, NotRuleItems, NotAnException, NamedTwice, NotAllNamed, WrongSetLength, NotZeroOrOne, NotStepItems, AskedFactTooHigh, FactMarksShort, RuleMarksShort, StepsShort, OrderShort, TooManyConstraints, NoStableSet, NotDerived, RuleTooLong, NotLayered, FactsOutOfRange, RulesOutOfRange, LoadShort, UnreadAfterRule}
 use mathlib.Core.Bool.{Bool, cond}
 use mathlib.Core.List.{List, [], _∷_}
 use mathlib.Core.Option.{Option, none, some}
@@ -38,6 +38,7 @@ number NotLayered = 52
 number FactsOutOfRange = 53
 number RulesOutOfRange = 54
 number LoadShort = 55
+number UnreadAfterRule = 56
 
 -- The refusal that a no gives (`number` is its number in the documents), and the answer.
 pub record Question : Type 0 where

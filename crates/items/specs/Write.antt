@@ -3,8 +3,8 @@ use Prim.Native.Nat.{ℕ, _+_, _/_, _%_}
 use mathlib.Core.List.{List, [], _∷_, _++_}
 use lib.ListN.{length, take, drop}
 use Rattle.items.specs.declared.item.Item.{Item}
-use Rattle.items.specs.declared.item.Item.the-variants.{Facts, Opens, Premise, Constraint, Rules, Names, Step}
-use Rattle.items.specs.Item.{narrow, Width, factId, ruleId, factsKind, opensKind, premiseKind, constraintKind, rulesKind, namesKind, stepKind}
+use Rattle.items.specs.declared.item.Item.the-variants.{Facts, Opens, Premise, Constraint, Rules, Names, Step, Unread}
+use Rattle.items.specs.Item.{narrow, Width, factId, ruleId, factsKind, opensKind, premiseKind, constraintKind, rulesKind, namesKind, stepKind, unreadKind}
 
 -- A fact number in its bytes, and a rule number, high byte first.
 abbrev pub factField : Width → ℕ → List ℕ
@@ -22,6 +22,7 @@ itemBytes w (Constraint f) = constraintKind w ∷ factField w (f .0)
 itemBytes w (Rules n) = rulesKind ∷ ruleField n
 itemBytes w (Names r) = namesKind ∷ ruleField (r .0)
 itemBytes w (Step f r) = stepKind w ∷ (factField w (f .0) ++ ruleField (r .0))
+itemBytes w (Unread f) = unreadKind w ∷ factField w (f .0)
 
 -- The bytes of items one after another.
 abbrev pub bytesOf : Width → List Item → List ℕ

@@ -23,6 +23,8 @@ pub enum Item {
     Names(RuleId),
     // A step of a proof: the fact that it derives, and the rule.
     Step(FactId, RuleId),
+    // A fact that could not be read: between the first item of a file and its first rule.
+    Unread(FactId),
 }
 
 pub const FACTS_KIND: u8 = 0x10;
@@ -38,6 +40,8 @@ pub const RULES_KIND: u8 = 0x1F;
 pub const NAMES_KIND: u8 = 0x05;
 
 pub const STEP_KIND: u8 = 0x06;
+
+pub const UNREAD_KIND: u8 = 0x07;
 
 // The bytes of a kind, and of a fact number.
 pub const KIND_BYTES: usize = 1;
@@ -88,6 +92,7 @@ pub fn item_of(kind: u8, bytes: &[u8], at: usize) -> Item
         CONSTRAINT_KIND => Item::Constraint(FactId(fact_field(bytes, at))),
         RULES_KIND => Item::Rules(rule_field(bytes, at)),
         NAMES_KIND => Item::Names(RuleId(rule_field(bytes, at))),
+        UNREAD_KIND => Item::Unread(FactId(fact_field(bytes, at))),
         _ => Item::Step(
             FactId(fact_field(bytes, at)),
             RuleId(rule_field(bytes, at + FACT_BYTES)),

@@ -33,6 +33,7 @@ pub enum Refusal {
     FactsOutOfRange,
     RulesOutOfRange,
     LoadShort,
+    UnreadAfterRule,
 }
 
 impl Refusal {
@@ -71,6 +72,7 @@ impl Refusal {
             Refusal::FactsOutOfRange => 53,
             Refusal::RulesOutOfRange => 54,
             Refusal::LoadShort => 55,
+            Refusal::UnreadAfterRule => 56,
         }
     }
 }

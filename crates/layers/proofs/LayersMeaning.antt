@@ -1,5 +1,5 @@
 -- What question 52 and an answer mean: cycles, least ranks, and the order by rank.
-use Prim.Native.Nat.{ℕ, _*_}
+use Prim.Native.Nat.{ℕ, _*_, _<_}
 use native.Mathlib.Omega.{arith}
 use mathlib.Core.Path.{_≡_, refl, sym, ap, _∙_}
 use mathlib.Core.Bool.{true, false}
@@ -9,10 +9,11 @@ use mathlib.Core.Option.{Option, none, some}
 use lib.ListN.{length, take, drop}
 use lib.Seq.{take-at}
 use lib.Dec.{leb}
-use Rattle.theory.specs.Rule.{Program, inForce}
+use Rattle.theory.specs.Rule.{Program, inForce, exception, rule}
 use Rattle.theory.specs.Layers.{LeastRanks, ByRank, isLayered, ranksOf, layeredOrder}
 use Rattle.theory.proofs.Bools.{either}
-use Rattle.theory.proofs.Ranks.{layered-least, unlayered-cycle, cycle-unlayered}
+use Rattle.theory.proofs.Run.{exception-known}
+use Rattle.theory.proofs.Ranks.{layered-least, least-below, unlayered-cycle, cycle-unlayered}
 use Rattle.theory.proofs.Layered.{rank-sorted}
 use Rattle.items.specs.declared.refusal.Refusal.{Refusal}
 use Rattle.items.specs.declared.refusal.Refusal.the-variants.{OrderShort, NotLayered}
@@ -48,7 +49,7 @@ Not52 r = refusal.number r ≡ 52 → ⊥
 file-not-52 : (file : List ℕ) (r : Refusal) → fileNo file ≡ some r → Not52 r
 file-not-52 file r e =
     each-first Not52 (fileQuestions file) r
-    (each-file Not52 (record { one = λ e. omega arith; two = λ e. omega arith; three = λ e. omega arith; four = λ e. omega arith; five = λ e. omega arith; six = λ e. omega arith; seven = λ e. omega arith; eight = λ e. omega arith; nine = λ e. omega arith; ten = λ e. omega arith; fifty-one = λ e. omega arith }) file)
+    (each-file Not52 (record { one = λ e. omega arith; two = λ e. omega arith; three = λ e. omega arith; four = λ e. omega arith; five = λ e. omega arith; six = λ e. omega arith; seven = λ e. omega arith; eight = λ e. omega arith; nine = λ e. omega arith; ten = λ e. omega arith; fifty-one = λ e. omega arith; fifty-six = λ e. omega arith }) file)
     e
 
 module _ (file order : List ℕ) where
@@ -130,9 +131,15 @@ module _ (file order : List ℕ) where
     pub least : LeastRanks P (inForce P) (ranksOf P (inForce P))
     least = layered-least P (inForce P) (yeses .layered)
 
-    pub sorted : ByRank P (ranksOf P (inForce P)) (namedRules o)
+    -- no rank reaches the key of the rules that are withheld
+    low-rank : (i : ℕ) → exception P i ≡ true → ranksOf P (inForce P) (rule P i .conclusion) < P .facts
+    low-rank i e =
+        let b = bounded (accepted-file file (yeses .accepted)) in
+        least-below P (inForce P) b (ranksOf P (inForce P)) least (rule P i .conclusion) (b .conclusion-below i (exception-known P (inForce P) i e))
+
+    pub sorted : ByRank P (inForce P) (ranksOf P (inForce P)) (namedRules o)
     unfolding layeredOrder
-    sorted = rw named-are (rank-sorted P (inForce P) (ranksOf P (inForce P)) (λ i _. refl))
+    sorted = rw named-are (rank-sorted P (inForce P) (ranksOf P (inForce P)) (λ i e on. low-rank i e))
 
   pub layered-means : LayeredMeans file (layeredNo file (length order)) o
   layered-means =

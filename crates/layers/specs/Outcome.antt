@@ -50,9 +50,9 @@ count (Refused r) = 0
 abbrev pub namedRules : LayeredOutcome → List ℕ
 namedRules o = namedIn (take (nameWidth * count (o .answer)) (o .order))
 
--- What an answer means: its number is that of the first no; a result names rules by the least rank of their conclusions, then by number; and 52 says that a
--- cycle of dependencies goes through a constraint.
+-- What an answer means: its number is that of the first no; a result names rules by the least rank of their conclusions, then by number, and those that are
+-- withheld come last, ascending (document 02, wish 6); and 52 says that a cycle of dependencies goes through a constraint.
 pub record LayeredMeans (file : List ℕ) (no : Option Refusal) (o : LayeredOutcome) : Type 0 where
   pub numbered : number (o .answer) ≡ noNumber no
-  pub by-rank : number (o .answer) ≡ 0 → (rank : ℕ → ℕ) × (LeastRanks (programOf file) (inForce (programOf file)) rank × ByRank (programOf file) rank (namedRules o))
+  pub by-rank : number (o .answer) ≡ 0 → (rank : ℕ → ℕ) × (LeastRanks (programOf file) (inForce (programOf file)) rank × ByRank (programOf file) (inForce (programOf file)) rank (namedRules o))
   pub cyclic : number (o .answer) ≡ 52 → Cycle (programOf file) (inForce (programOf file))

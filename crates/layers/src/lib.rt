@@ -17,8 +17,8 @@ use reader::answer::Asked;
 use reader::answer::FileCounts;
 use tables::layout::TABLE_CELLS;
 
-// Writes the exception rules of a file by the least rank of their conclusions, then by number, over the front of the order, and answers how many they are,
-// or the first no.
+// Writes the exception rules of a file by the least rank of their conclusions, then by number, over the front of the order; those that are withheld come last,
+// ascending. Answers how many they are, or the first no.
 pub fn layered(file: &[u8], order: &mut [u8]) -> Layered
     ensures { λ r. ⌜ _≡_ {A = LayeredOutcome} (record { answer = r; order = now (order .exit) }) (layeredOutcome (now (file .entry)) (now (order .entry))) ⌝ }
     ensures { λ r. ⌜ LayeredMeans (now (file .entry)) (layeredNo (now (file .entry)) (length (now (order .entry)))) (record { answer = r; order = now (order .exit) }) ⌝ }

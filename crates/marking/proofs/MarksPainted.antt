@@ -109,6 +109,16 @@ unpainted n p j h = rw (painted-mark n p j h) (bit (p j))
     bit true = refl
     bit false = refl
 
+-- The mark at a place tells whether it is in the set.
+module _ (marks : List ℕ) (k : ℕ) where
+  pub marked-at : getD marks k 0 ≡ 1 → has marks k ≡ true
+  unfolding has
+  marked-at e = rw e refl
+
+  pub unmarked-at : (getD marks k 0 ≡ 1 → ⊥) → has marks k ≡ false
+  unfolding has
+  unmarked-at n = ne-eqb (getD marks k 0) 1 n
+
 -- A place past the end is not in the set.
 pub past-end : (l : List ℕ) (f : ℕ) → length l ≤ f → has l f ≡ false
 unfolding has

@@ -1,21 +1,23 @@
--- Marks set element by element, and rule by rule.
+-- Marks set element by element, and rule by rule, and counted.
 use Prim.Native.Nat.{ℕ, _+_, _-_, _≤_, _<_}
-use mathlib.Core.Path.{_≡_, refl, sym, ap, _∙_}
-use mathlib.Core.Bool.{Bool, true, false, not, _&&_, _||_}
-use mathlib.Core.List.{List}
+use mathlib.Core.Path.{_≡_, refl, sym, ap, ap₂, _∙_}
+use mathlib.Core.Bool.{Bool, true, false, cond, not, _&&_, _||_}
+use mathlib.Core.List.{List, _∷_}
 use mathlib.Core.Logic.{⊎-elim}
 use native.Mathlib.Omega.{arith}
+use native.Mathlib.Nat.{zero-add}
 use borrow.Author.Tests.{lt-ltb, le-ltb, ltb-true, eq-eqb, eqb-true, eqb-false}
 use lib.ListN.{length, set, replicate, length-set}
 use lib.Dec.{eqb, ltb}
-use Rattle.theory.specs.Rule.{mem, any, range, Program, inForce, null, count, rule, plain, exception, constraintFact, plainRules}
+use Rattle.theory.specs.Rule.{mem, any, range, upTo, howMany, Program, inForce, null, count, rule, plain, exception, constraintFact, plainRules}
 use Rattle.theory.proofs.Bools.{either, and-true, and-false, and-left, and-right, and-both, both-ways, false-of, or-none}
-use Rattle.theory.proofs.Lists.{range-all, range-cons, range-end}
+use Rattle.theory.proofs.Lists.{range-all, range-cons, range-end, howMany-ext, mem-upTo}
+use Rattle.theory.proofs.Withheld.{plain-rules}
 use Rattle.items.specs.Item.{maxRules, has}
 use Rattle.tables.specs.Layout.{span, programIn, Spanned, WellFormed}
 use Rattle.marking.specs.Marks.{paintAs, paint}
 use Rattle.tables.proofs.ProgramHeld.{rules-below}
-use Rattle.marking.proofs.MarksPainted.{both-tests, no-test, same-test, one-mark, has-paint, length-paint}
+use Rattle.marking.proofs.MarksPainted.{both-tests, no-test, same-test, one-mark, painted, has-paint, length-paint}
 use Rattle.tables.proofs.PartsSpanned.{span-cons, span-end}
 
 -- Marking the elements of a part: those to come from here give what all give from the start.
@@ -72,17 +74,74 @@ module _ {P : Program} {before now : List ℕ} {i : ℕ} (w : MarkingRules P bef
   rules-marked h =
       sym (w .same ∙ same-test 1 _ (λ _. false) now (λ k. ap (any (λ j. inForce P j && mem k (rule P j .constraints))) (range-end (count P) i h)) ∙ no-test 1 0 now)
 
-  pub rule-marked : i < count P → (next : List ℕ) → next ≡ paint (λ k. mem k (rule P i .constraints)) now → MarkingRules P before next (i + 1)
-  rule-marked h next e =
+  -- what rule i gives, where it is in force, and the rules behind it
+  rule-more : i < count P → (b : Bool) → inForce P i ≡ b → (k : ℕ) → constrainedFrom P i k ≡ (b && mem k (rule P i .constraints)) || constrainedFrom P (i + 1) k
+  rule-more h b on k =
+      ap (any (λ j. inForce P j && mem k (rule P j .constraints))) (range-cons (count P) i h)
+      ∙ ap (λ (o : Bool). (o && mem k (rule P i .constraints)) || constrainedFrom P (i + 1) k) on
+
+  pub rule-marked : i < count P → inForce P i ≡ true → (next : List ℕ) → next ≡ paint (λ k. mem k (rule P i .constraints)) now → MarkingRules P before next (i + 1)
+  rule-marked h on next e =
       record {
         inside = omega arith;
         places = ap length e ∙ length-paint 1 _ now ∙ w .places;
         same =
             w .same
-            ∙ same-test 1 _ (λ k. mem k (rule P i .constraints) || constrainedFrom P (i + 1) k) now (λ k. ap (any (λ j. inForce P j && mem k (rule P j .constraints))) (range-cons (count P) i h))
+            ∙ same-test 1 _ (λ k. mem k (rule P i .constraints) || constrainedFrom P (i + 1) k) now (rule-more h true on)
             ∙ both-tests 1 (λ k. mem k (rule P i .constraints)) (constrainedFrom P (i + 1)) now
             ∙ ap (paint (constrainedFrom P (i + 1))) (sym e);
       }
+
+  pub rule-passed : i < count P → inForce P i ≡ false → MarkingRules P before now (i + 1)
+  rule-passed h off =
+      record {
+        inside = omega arith;
+        places = w .places;
+        same = w .same ∙ same-test 1 _ (constrainedFrom P (i + 1)) now (rule-more h false off);
+      }
+
+-- Counting the marked facts: those counted and those to come from fact f on are all.
+pub record Counting (marks : List ℕ) (facts n f : ℕ) : Type 0 where
+  pub inside : f ≤ facts
+  pub few : n ≤ f
+  pub same : howMany (has marks) (upTo facts) ≡ n + howMany (has marks) (range f (facts - f))
+
+pub none-counted : (marks : List ℕ) (facts : ℕ) → Counting marks facts 0 0
+none-counted marks facts =
+    record {
+      inside = omega arith;
+      few = omega arith;
+      same = ap (howMany (has marks)) (range-all facts) ∙ sym (zero-add (howMany (has marks) (range 0 (facts - 0))));
+    }
+
+module _ (marks : List ℕ) (facts n f : ℕ) (w : Counting marks facts n f) where
+  pub all-counted : facts ≤ f → n ≡ howMany (has marks) (upTo facts)
+  all-counted h =
+      let none : howMany (has marks) (range f (facts - f)) ≡ 0 = ap (howMany (has marks)) (range-end facts f h) in
+      omega (arith, w .same)
+
+  -- what fact f gives, and those behind it
+  fact-more : f < facts → (b : Bool) → has marks f ≡ b → howMany (has marks) (range f (facts - f)) ≡ cond b 1 0 + howMany (has marks) (range (f + 1) (facts - (f + 1)))
+  fact-more h b e = ap (howMany (has marks)) (range-cons facts f h) ∙ bit b e
+    where
+      bit : (b : Bool) → has marks f ≡ b → howMany (has marks) (f ∷ range (f + 1) (facts - (f + 1))) ≡ cond b 1 0 + howMany (has marks) (range (f + 1) (facts - (f + 1)))
+      bit true e = rw e (omega arith)
+      bit false e = rw e (omega arith)
+
+  pub one-counted : f < facts → has marks f ≡ true → Counting marks facts (n + 1) (f + 1)
+  one-counted h e =
+      record { inside = omega arith; few = omega (arith, w .few); same = omega (arith, w .same, fact-more h true e) }
+
+  pub not-counted : f < facts → has marks f ≡ false → Counting marks facts n (f + 1)
+  not-counted h e =
+      record { inside = omega arith; few = omega (arith, w .few); same = omega (arith, w .same, fact-more h false e) }
+
+-- Of a table of zeros painted by a test as many facts are marked as pass it.
+pub painted-count : (places : ℕ) (p : ℕ → Bool) (n facts : ℕ) → n ≡ facts → facts ≤ places → (marks : List ℕ) → marks ≡ paint p (replicate places 0) → howMany (has marks) (upTo n) ≡ howMany p (upTo facts)
+unfolding has
+painted-count places p n facts s few marks e =
+    ap₂ (λ (l : List ℕ) (m : ℕ). howMany (has l) (upTo m)) e s
+    ∙ howMany-ext (has (paint p (replicate places 0))) p (upTo facts) (λ f m. painted places p f (omega (arith, mem-upTo facts f m)))
 
 -- The first n rules are painted where they pass a test.
 pub record Painting (e : ℕ → Bool) (before now : List ℕ) (n : ℕ) : Type 0 where
@@ -132,16 +191,16 @@ module _ (e : ℕ → Bool) (before now : List ℕ) (n : ℕ) (w : Painting e be
 
 -- A rule of the program is plain where it is no exception rule.
 pub plain-at : (P : Program) (i : ℕ) → i < count P → plainRules P (inForce P) i ≡ not (exception P i)
-unfolding plainRules plain exception
-plain-at P i h = rw (lt-ltb i (count P) h) (twice (null (rule P i .constraints)))
+unfolding plain exception
+plain-at P i h = plain-rules P i ∙ rw (lt-ltb i (count P) h) (twice (null (rule P i .constraints)))
   where
     twice : (x : Bool) → x ≡ not (not x)
     twice true = refl
     twice false = refl
 
 pub plain-known : (P : Program) (i : ℕ) → plainRules P (inForce P) i ≡ true → i < count P
-unfolding plainRules plain
-plain-known P i t = ltb-true i (count P) (and-left (ltb i (count P)) _ t)
+unfolding plain
+plain-known P i t = ltb-true i (count P) (and-left (ltb i (count P)) _ (sym (plain-rules P i) ∙ t))
 
 -- The marks of the plain rules show them.
 pub plain-mask : {T : List ℕ} → WellFormed T → has (paint (plainRules (programIn T) (inForce (programIn T))) (replicate maxRules 0)) ≡ plainRules (programIn T) (inForce (programIn T))

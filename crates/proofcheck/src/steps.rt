@@ -21,6 +21,7 @@ use marking::marks::BARRED;
 use tables::layout::TABLE_CELLS;
 use tables::layout::rules_of;
 use tables::rule::conclusion;
+use tables::rule::is_withheld;
 
 // Does the step hold after those before it, and no constraint so far meet a fact so far or the set? Its fact is marked.
 fn step_fits(
@@ -37,6 +38,10 @@ fn step_fits(
     ensures { λ r. ⌜ (r ≡ true → StepMarked (programOf (now (file .entry))) (record { fact = fact .0; by = rule .0 }) (now (marks .entry)) (now (marks .exit))) ⌝ }
 {
     if rules_of(tables) <= rule.0 as usize {
+        return false;
+    }
+    // A row with a step by a withheld rule "is no proof".
+    if is_withheld(tables, rule) {
         return false;
     }
     let concluded = conclusion(tables, rule);

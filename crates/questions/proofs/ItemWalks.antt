@@ -51,10 +51,10 @@ same-row s c d i row e h q = found s c d i e .row ∙ ap rowAfter q ∙ stays ro
     stays Steps k = refl
 
 abbrev pub NotNames : Item → Type 0
-NotNames i = Tagged (0 ∷ 1 ∷ 2 ∷ 3 ∷ 4 ∷ 6 ∷ []) i
+NotNames i = Tagged (0 ∷ 1 ∷ 2 ∷ 3 ∷ 4 ∷ 6 ∷ 7 ∷ []) i
 
 no-name : (i : Item) (ts : List Token) → NotNames i → namesOf (item i ∷ ts) ≡ namesOf ts
-no-name i ts k = rw (unsaid (by-tags i .names) (0 ∷ 1 ∷ 2 ∷ 3 ∷ 4 ∷ 6 ∷ []) (tt, tt) k)
+no-name i ts k = rw (unsaid (by-tags i .names) (0 ∷ 1 ∷ 2 ∷ 3 ∷ 4 ∷ 6 ∷ 7 ∷ []) (tt, tt) k)
 
 module _ (s : List ℕ) (c d : Cursor) (i : Item) (e : nextAt s c ≡ Found i d) where
   pub past-names : NotNames i → namesOf (itemsAt s c) ≡ namesOf (itemsAt s d)

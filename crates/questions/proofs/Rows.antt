@@ -21,10 +21,10 @@ abbrev pub stepsFrom : List ℕ → Cursor → List TheStep
 stepsFrom s c = stepsOf (itemsAt s c)
 
 abbrev pub NotStep : Item → Type 0
-NotStep i = Tagged (0 ∷ 1 ∷ 2 ∷ 3 ∷ 4 ∷ 5 ∷ []) i
+NotStep i = Tagged (0 ∷ 1 ∷ 2 ∷ 3 ∷ 4 ∷ 5 ∷ 7 ∷ []) i
 
 pub no-step : (i : Item) (ts : List Token) → NotStep i → stepsOf (item i ∷ ts) ≡ stepsOf ts
-no-step i ts k = rw (unsaid (by-tags i .step) (0 ∷ 1 ∷ 2 ∷ 3 ∷ 4 ∷ 5 ∷ []) (tt, tt) k)
+no-step i ts k = rw (unsaid (by-tags i .step) (0 ∷ 1 ∷ 2 ∷ 3 ∷ 4 ∷ 5 ∷ 7 ∷ []) (tt, tt) k)
 
 module _ (s : List ℕ) (c d : Cursor) where
   pub no-step-left : (r : Refusal) → nextAt s c ≡ Refused r d → stepsFrom s c ≡ []

@@ -9,7 +9,7 @@ use native.Mathlib.Omega.{arith}
 use borrow.Author.Tests.{ltb-true, leb-true, eqb-true, lt-ltb}
 use lib.ListN.{length, getD}
 use lib.Dec.{ltb, leb, eqb}
-use Rattle.theory.specs.Rule.{all, Rule, count, blank, Bounded}
+use Rattle.theory.specs.Rule.{all, Rule, FactSet, count, blank, Bounded}
 use Rattle.theory.proofs.Bools.{and-both}
 use Rattle.items.specs.declared.refusal.Refusal.{Refusal}
 use Rattle.cursors.specs.declared.cursor.Fault.the-variants.{NoByte, OtherKind, ShortBody}
@@ -31,10 +31,11 @@ pub all-asked : (r : Refusal) (b : Bool) (rest : Option Refusal) → _≡_ {A = 
 all-asked r true rest e = (refl, e)
 all-asked r false rest e = absurd (let z : _≡_ {A = ℕ} 0 1 = cc in omega arith)
 
--- The items of an accepted file after its first: rules opened, their own items, and the count of rules last.
+-- The items of an accepted file after its first: unread facts, rules opened, their own items, and the count of rules last.
 pub data GoodBody : Scan → List Token → Type 0 where
   opens : {scan : Scan} {i : Item} {f : FactId} {ts : List Token} → classOf i .opens ≡ some f → f .0 < scan .facts → scan .rules < maxRules → GoodBody (opened scan) ts → GoodBody scan (item i ∷ ts)
   own : {scan : Scan} {i : Item} {o : OwnItem} {ts : List Token} → classOf i .own ≡ some o → o .fact .0 < scan .facts → 0 < scan .rules → scan .own < maxRuleItems → GoodBody (lengthened scan) ts → GoodBody scan (item i ∷ ts)
+  unread : {scan : Scan} {i : Item} {f : FactId} {ts : List Token} → classOf i .unread ≡ some f → f .0 < scan .facts → scan .rules ≡ 0 → GoodBody scan ts → GoodBody scan (item i ∷ ts)
   last : {scan : Scan} {i : Item} {n : ℕ} → classOf i .rules ≡ some n → n ≡ scan .rules → GoodBody scan (item i ∷ [])
 
 never : {A : Type 0} {r : Refusal} → _≡_ {A = Option Refusal} (some r) none → A
@@ -64,7 +65,11 @@ good-body scan (item i ∷ ts) =
     let k = all-asked _ (ltb (scan .own) maxRuleItems) _ (b .1) in
     own s (ltb-true _ _ (a .0)) (ltb-true _ _ (b .0)) (ltb-true _ _ (k .0)) (good-body (lengthened scan) ts (k .1)))
     (λ _. either-said (λ qs. AllYes qs → GoodBody scan (item i ∷ ts)) (classOf i .rules) _ _ (λ n s e. last-item scan i n ts s e)
-    (λ _ e. never e)))
+    (λ _. either-said (λ qs. AllYes qs → GoodBody scan (item i ∷ ts)) (classOf i .unread) _ _ (λ f s e.
+    let a = all-asked _ (ltb (f .0) (scan .facts)) _ e in
+    let b = all-asked _ (eqb (scan .rules) 0) _ (a .1) in
+    unread s (ltb-true _ _ (a .0)) (eqb-true _ _ (b .0)) (good-body scan ts (b .1)))
+    (λ _ e. never e))))
 
 -- The rules and the own facts that an item begins.
 module _ (i : Item) where
@@ -83,6 +88,12 @@ module _ (i : Item) where
   pub own-opens-none : {o : OwnItem} (ts : List Token) → classOf i .own ≡ some o → rulesOf (item i ∷ ts) ≡ rulesOf ts
   own-opens-none ts s = opens-none ts (alone (by-tags i .own) s (by-tags i .opens) (tt, tt))
 
+  pub unread-opens-none : {f : FactId} (ts : List Token) → classOf i .unread ≡ some f → rulesOf (item i ∷ ts) ≡ rulesOf ts
+  unread-opens-none ts s = opens-none ts (alone (by-tags i .unread) s (by-tags i .opens) (tt, tt))
+
+  pub unread-own-none : {f : FactId} (sign : Sign) (ts : List Token) → classOf i .unread ≡ some f → ownFacts sign (item i ∷ ts) ≡ []
+  unread-own-none sign ts s = own-none sign ts (alone (by-tags i .unread) s (by-tags i .own) (tt, (tt, tt)))
+
   pub count-opens-none : {n : ℕ} → classOf i .rules ≡ some n → rulesOf (item i ∷ []) ≡ []
   count-opens-none s = opens-none [] (alone (by-tags i .rules) s (by-tags i .opens) (tt, tt))
 
@@ -90,6 +101,7 @@ module _ (i : Item) where
 pub few-rules : {scan : Scan} {ts : List Token} → GoodBody scan ts → scan .rules ≤ maxRules → scan .rules + length (rulesOf ts) ≤ maxRules
 few-rules {scan} (opens {i = i} {ts = ts} s below room g) h = rw (opens-rule i ts s) (omega (arith, few-rules g (omega arith)))
 few-rules (own {i = i} {ts = ts} s below first short g) h = rw (own-opens-none i ts s) (few-rules g h)
+few-rules (unread {i = i} {ts = ts} s below first g) h = rw (unread-opens-none i ts s) (few-rules g h)
 few-rules (last {i = i} s e) h = rw (count-opens-none i s) (omega arith)
 
 -- Every fact is below the count.
@@ -103,6 +115,7 @@ own-below {scan} sign (own {i = i} {o = o} {ts = ts} s below first short g) = rw
     go : (b : Bool) → AllBelow (scan .facts) (ownFacts sign ts) → AllBelow (scan .facts) (cond b (o .fact .0 ∷ ownFacts sign ts) (ownFacts sign ts))
     go true rest = and-both (lt-ltb _ _ below) rest
     go false rest = rest
+own-below sign (unread {i = i} {ts = ts} s below first g) = rw (unread-own-none i sign ts s) refl
 own-below sign (last {i = i} s e) = rw (own-none i sign [] (alone (by-tags i .rules) s (by-tags i .own) (tt, (tt, tt)))) refl
 
 pub record RuleBelow (n : ℕ) (r : Rule) : Type 0 where
@@ -123,10 +136,11 @@ rules-below {scan} (opens {i = i} {ts = ts} s below room g) =
     rw (opens-rule i ts s)
     (one-more (RuleBelow (scan .facts)) _ (rulesOf ts) (record { conclusion = below; premises = own-below asksIn g; constraints = own-below asksOut g }) (rules-below g))
 rules-below (own {i = i} {ts = ts} s below first short g) = rw (own-opens-none i ts s) (rules-below g)
+rules-below (unread {i = i} {ts = ts} s below first g) = rw (unread-opens-none i ts s) (rules-below g)
 rules-below (last {i = i} s e) = rw (count-opens-none i s) (λ i h. absurd (omega arith))
 
-pub body-bounded : {n : ℕ} {ts : List Token} → GoodBody (fresh n) ts → Bounded (record { facts = n; rules = rulesOf ts })
-body-bounded g =
+pub body-bounded : {n : ℕ} {ts : List Token} (u : FactSet) → GoodBody (fresh n) ts → Bounded (record { facts = n; rules = rulesOf ts; unread = u })
+body-bounded u g =
     record {
       conclusion-below = λ i h. rules-below g i h .conclusion;
       premises-below = λ i h. rules-below g i h .premises;
@@ -190,4 +204,4 @@ module _ {s : List ℕ} (a : AcceptedFile s) where
   rules-few = rw (a .rules) (omega (arith, few-rules (a .good) (omega arith)))
 
   pub bounded : Bounded (programOf s)
-  bounded = rw (a .rules) (body-bounded (a .good))
+  bounded = rw (a .rules) (body-bounded (programOf s .unread) (a .good))

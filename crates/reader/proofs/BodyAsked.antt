@@ -10,10 +10,10 @@ use borrow.Author.Tests.{lt-ltb, le-ltb, eq-eqb, ne-eqb}
 use lib.ListN.{length}
 use lib.Dec.{ltb}
 use Rattle.items.specs.declared.refusal.Refusal.{Refusal}
-use Rattle.items.specs.declared.refusal.Refusal.the-variants.{FileCutOff, UnknownKind, FactTooHigh, NoRuleOpened, TooManyRules, WrongRuleCount, BytesAfterEnd, RuleTooLong}
+use Rattle.items.specs.declared.refusal.Refusal.the-variants.{FileCutOff, UnknownKind, FactTooHigh, NoRuleOpened, TooManyRules, WrongRuleCount, BytesAfterEnd, RuleTooLong, UnreadAfterRule}
 use Rattle.items.specs.declared.item.FactId.{FactId}
 use Rattle.items.specs.declared.item.Item.{Item}
-use Rattle.items.specs.declared.item.Item.the-variants.{Opens, Premise, Constraint, Rules}
+use Rattle.items.specs.declared.item.Item.the-variants.{Opens, Premise, Constraint, Rules, Unread}
 use Rattle.cursors.specs.declared.cursor.Cursor.{Cursor}
 use Rattle.cursors.specs.declared.cursor.Row.the-variants.{Body}
 use Rattle.cursors.specs.declared.cursor.Fault.the-variants.{NoByte}
@@ -99,6 +99,17 @@ module _ {s : List ℕ} {c₀ : Cursor} {facts : ℕ} {c : Cursor} {n own : ℕ}
         pub own-read : own < maxRuleItems → Along s c₀ facts d n (own + 1)
         own-read h =
             record { body = body-after r; same = on r ∙ (asked (seen facts n own) (itemsAt s d) ∙ rw (lt-ltb (f .0) facts below, some-opened, lt-ltb own maxRuleItems h)) }
+
+  module _ {f : FactId} {d : Cursor} (r : ReadAt s c (Unread f) d) where
+    pub unread-too-high : facts ≤ f .0 → bodyNo facts s c₀ ≡ some FactTooHigh
+    unread-too-high h = on r ∙ rw (le-ltb (f .0) facts h)
+
+    module _ (below : f .0 < facts) where
+      pub unread-late : (n ≡ 0 → ⊥) → bodyNo facts s c₀ ≡ some UnreadAfterRule
+      unread-late h = on r ∙ rw (lt-ltb (f .0) facts below, ne-eqb n 0 h)
+
+      pub unread-read : n ≡ 0 → Along s c₀ facts d n own
+      unread-read h = record { body = body-after r; same = on r ∙ rw (lt-ltb (f .0) facts below, eq-eqb n 0 h) }
 
   module _ {k : ℕ} {d : Cursor} (r : ReadAt s c (Rules k) d) where
     pub wrong-count : (k ≡ n → ⊥) → bodyNo facts s c₀ ≡ some WrongRuleCount

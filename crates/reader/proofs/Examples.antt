@@ -1,8 +1,8 @@
--- The files of document 01's examples, and rules at the cap of document 02, from the definitions alone.
+-- The files of document 01's examples, and rules at the cap and unread facts of document 02, from the definitions alone.
 use Prim.Native.Nat.{ℕ, zero, suc}
 use mathlib.Core.Path.{_≡_, refl}
 use mathlib.Core.List.{List, [], _∷_}
-use Rattle.theory.specs.Rule.{exception, constraintFact}
+use Rattle.theory.specs.Rule.{exception, constraintFact, withheld, inForce}
 use Rattle.reader.specs.declared.answer.Accept.the-variants.{Accepted}
 use Rattle.items.specs.Item.{bodyLength, itemOf}
 use Rattle.cursors.specs.Cursor.{front, itemsAt}
@@ -37,9 +37,16 @@ pub record Files : Type 0 where
   pub a-constraint-more : number (acceptOf (0x10 ∷ 0x01 ∷ withPremises 24 (0x03 ∷ 0x00 ∷ []))) ≡ 51
   pub too-high-first : number (acceptOf (0x10 ∷ 0x01 ∷ withPremises 24 (0x03 ∷ 0x01 ∷ []))) ≡ 6
   pub no-rule-first : number (acceptOf (0x10 ∷ 0x01 ∷ repeated 25 [])) ≡ 7
+  -- unread facts: 1 is unread, once and twice; 0 < !1, !2 is withheld, so neither 1 nor 2 is a constraint fact; 0 < 1 is plain
+  pub unread-withholds : acceptOf (0x10 ∷ 0x03 ∷ 0x07 ∷ 0x01 ∷ 0x01 ∷ 0x00 ∷ 0x03 ∷ 0x02 ∷ 0x03 ∷ 0x01 ∷ 0x1F ∷ 0x00 ∷ 0x01 ∷ []) ≡ Accepted 3 1 1 0
+  pub unread-twice : acceptOf (0x10 ∷ 0x02 ∷ 0x07 ∷ 0x01 ∷ 0x07 ∷ 0x01 ∷ 0x01 ∷ 0x00 ∷ 0x02 ∷ 0x01 ∷ 0x1F ∷ 0x00 ∷ 0x01 ∷ []) ≡ Accepted 2 1 0 0
+  pub unread-late : number (acceptOf (0x10 ∷ 0x02 ∷ 0x01 ∷ 0x00 ∷ 0x07 ∷ 0x01 ∷ [])) ≡ 56
+  pub unread-too-high-first : number (acceptOf (0x10 ∷ 0x02 ∷ 0x01 ∷ 0x00 ∷ 0x07 ∷ 0x02 ∷ [])) ≡ 6
+  pub unread-last : number (acceptOf (0x10 ∷ 0x02 ∷ 0x07 ∷ 0x01 ∷ [])) ≡ 3
+  pub unread-no-body : number (acceptOf (0x10 ∷ 0x02 ∷ 0x07 ∷ [])) ≡ 5
 
 pub files : Files
-unfolding acceptOf exceptions constraintFacts exception constraintFact fileQuestions itemsAt front bodyLength itemOf
+unfolding acceptOf exceptions constraintFacts exception constraintFact fileQuestions itemsAt front bodyLength itemOf inForce withheld
 files =
     record {
       nothing = refl;
@@ -58,4 +65,10 @@ files =
       a-constraint-more = refl;
       too-high-first = refl;
       no-rule-first = refl;
+      unread-withholds = refl;
+      unread-twice = refl;
+      unread-late = refl;
+      unread-too-high-first = refl;
+      unread-last = refl;
+      unread-no-body = refl;
     }

@@ -40,11 +40,11 @@ counts-told s counts a e =
       facts = ap (λ (x : FileCounts). x .facts) e;
       rules = ap (λ (x : FileCounts). x .rules) e;
       exceptions = ap (λ (x : FileCounts). x .exceptions) e;
-      constraints = ap (λ (x : FileCounts). x .constraints) e;
+      constrained = ap (λ (x : FileCounts). x .constrained) e;
     }
 
 pub told-counts : {s : List ℕ} {counts : FileCounts} → Accepted s counts → counts ≡ countsOf (programOf s)
-told-counts a = λ j. record { facts = a .facts j; rules = a .rules j; exceptions = a .exceptions j; constraints = a .constraints j }
+told-counts a = λ j. record { facts = a .facts j; rules = a .rules j; exceptions = a .exceptions j; constrained = a .constrained j }
 
 module _ (s : List ℕ) where
   pub file-no : (r : Refusal) → fileAsked s ≡ No r → fileNo s ≡ some r

@@ -6,7 +6,7 @@ use mathlib.Core.Bool.{Bool, true, false, cond}
 use mathlib.Core.List.{List, [], _∷_, _++_}
 use mathlib.Core.Option.{some}
 use Rattle.items.specs.declared.refusal.Refusal.{Refusal}
-use Rattle.items.specs.declared.refusal.Refusal.the-variants.{FileTooLong, NoFactCount, FileCutOff, UnknownKind, BodyCutOff, FactTooHigh, NoRuleOpened, TooManyRules, WrongRuleCount, BytesAfterEnd, RuleTooLong}
+use Rattle.items.specs.declared.refusal.Refusal.the-variants.{FileTooLong, NoFactCount, FileCutOff, UnknownKind, BodyCutOff, FactTooHigh, NoRuleOpened, TooManyRules, WrongRuleCount, BytesAfterEnd, RuleTooLong, UnreadAfterRule}
 use Rattle.reader.specs.declared.answer.Scan.{Scan}
 use Rattle.items.specs.Question.{Question, firstNo}
 use Rattle.items.specs.Item.{classOf}
@@ -31,7 +31,7 @@ pub each-append : (Q : Refusal → Type 0) (xs ys : List Question) → Each Q xs
 each-append Q [] ys a b = b
 each-append Q (x ∷ xs) ys a b = (a .0, each-append Q xs ys (a .1) b)
 
--- The refusals of questions 1 to 10 and 51.
+-- The refusals of questions 1 to 10, 51 and 56.
 pub record FileRefusals (Q : Refusal → Type 0) : Type 0 where
   pub one : Q FileTooLong
   pub two : Q NoFactCount
@@ -44,6 +44,7 @@ pub record FileRefusals (Q : Refusal → Type 0) : Type 0 where
   pub nine : Q WrongRuleCount
   pub ten : Q BytesAfterEnd
   pub fifty-one : Q RuleTooLong
+  pub fifty-six : Q UnreadAfterRule
 
 module _ (Q : Refusal → Type 0) (a : FileRefusals Q) where
   each-body : (scan : Scan) (ts : List Token) → Each Q (bodyQuestions scan ts)
@@ -53,7 +54,8 @@ module _ (Q : Refusal → Type 0) (a : FileRefusals Q) where
       either-said (Each Q) (classOf i .opens) _ _ (λ f _. (a .three, (a .four, (a .five, (a .six, (a .eight, each-body (opened scan) ts))))))
       (λ _. either-said (Each Q) (classOf i .own) _ _ (λ o _. (a .three, (a .four, (a .five, (a .six, (a .seven, (a .fifty-one, each-body (lengthened scan) ts)))))))
       (λ _. either-said (Each Q) (classOf i .rules) _ _ (λ n _. (a .three, (a .four, (a .five, (a .nine, (a .ten, tt))))))
-      (λ _. (a .three, (a .four, (a .five, tt))))))
+      (λ _. either-said (Each Q) (classOf i .unread) _ _ (λ f _. (a .three, (a .four, (a .five, (a .six, (a .fifty-six, each-body scan ts))))))
+      (λ _. (a .three, (a .four, (a .five, tt)))))))
 
   each-opening : (ts : List Token) → Each Q (openingQuestions ts)
   each-opening [] = (a .two, tt)

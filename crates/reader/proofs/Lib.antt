@@ -4,10 +4,11 @@ pub mod Tags
 pub mod BodyAsked
 pub mod OpeningAsked
 pub mod PartsFilled
-pub mod CellsStored
+pub mod UnreadMarked
 pub mod RulesStored
 pub mod ConstraintsCounted
 pub mod Accepted
+pub mod UnreadFacts
 pub mod RuleLengths
 pub mod BodyRead
 pub mod AnswerNumbers

@@ -6,7 +6,7 @@ use mathlib.Core.Logic.{⊎-elim}
 use mathlib.Core.Option.{Option, some}
 use borrow.Author.Tests.{le-leb, lt-leb}
 use lib.ListN.{length}
-use Rattle.theory.specs.Rule.{Program, count, rule}
+use Rattle.theory.specs.Rule.{mem, Program, count, rule}
 use Rattle.items.specs.declared.refusal.Refusal.{Refusal}
 use Rattle.items.specs.declared.refusal.Refusal.the-variants.{FileTooLong, NoFactCount}
 use Rattle.items.specs.declared.item.Item.{Item}
@@ -19,7 +19,7 @@ use Rattle.cursors.specs.Cursor.{Token, item, bad, nextAt, itemsAt, fileStart}
 use Rattle.items.specs.Item.{maxBytes}
 use Rattle.tables.specs.Layout.{placeIn}
 use Rattle.reader.specs.declared.answer.Asked.{Asked}
-use Rattle.reader.specs.Questions.{rulesOf, factCount, programOf, openingQuestions, fileQuestions, fileNo}
+use Rattle.reader.specs.Questions.{rulesOf, unreadOf, factCount, programOf, openingQuestions, fileQuestions, fileNo}
 use Rattle.reader.specs.Asked.{askedOf, countsOf, fileAsked}
 use Rattle.reader.specs.Scanned.{OwnAt, Tabled, Scanned}
 use Rattle.reader.specs.BodyScanned.{programFrom, bodyNo, BodyTabled, BodyScanned}
@@ -64,7 +64,7 @@ module _ (s : List ℕ) where
       body-no = sym (after-first (item (Facts n) ∷ itemsAt s d) (r .items))
 
       body-program : programFrom n s d ≡ programOf s
-      body-program = λ j. record { facts = sym (ap factCount (r .items)) j; rules = sym (ap rulesOf (r .items)) j }
+      body-program = λ j. record { facts = sym (ap factCount (r .items)) j; rules = sym (ap rulesOf (r .items)) j; unread = λ f. mem f (sym (ap unreadOf (r .items)) j) }
 
       body-asked : askedOf (bodyNo n s d) (countsOf (programFrom n s d)) ≡ fileAsked s
       body-asked = ap₂ (λ (o : Option Refusal) (P : Program). askedOf o (countsOf P)) body-no body-program

@@ -19,8 +19,12 @@ span-agree row row′ a b h = go (b - a) a (λ j l u. h j (omega arith))
     go zero a g = refl
     go (suc m) a g = ap₂ (λ (x : ℕ) (xs : List ℕ). x ∷ xs) (g a (omega arith) (omega arith)) (go m (suc a) (λ j l u. g j (omega arith) (omega arith)))
 
-pub none-filled : (part : ℕ → List ℕ) (start row : ℕ → ℕ) (ahead : List ℕ) → Filled part start row 0 0 ahead
-none-filled part start row ahead =
+pub last-or-before : (i n : ℕ) → i < n + 1 → (i < n) ⊎ (i ≡ n)
+last-or-before i n h = ⊎-elim (λ t. inl (ltb-true i n t)) (λ t. let over : n ≤ i = ltb-false i n t in inr (omega arith)) (either (ltb i n))
+
+-- nothing is known of a row before the first rule
+pub none-begun : (part : ℕ → List ℕ) (start row : ℕ → ℕ) {n : ℕ} (at : ℕ) (ahead : List ℕ) → n ≡ 0 → Filled part start row n at ahead
+none-begun part start row at ahead none-opened =
     record {
       low = λ i h. absurd (omega arith);
       high = λ i h. absurd (omega arith);
@@ -69,9 +73,9 @@ module _ {part : ℕ → List ℕ} {start row : ℕ → ℕ} {n at : ℕ} {ahead
   pub next-rule : (ahead′ : List ℕ) → ahead ≡ [] → start n ≡ at → part n ≡ ahead′ → Filled part start row (n + 1) at ahead′
   next-rule ahead′ e begins own =
       record {
-        low = λ i h. ⊎-elim (λ l. w .low i l) (λ q. ends i q) (earlier i h);
-        high = λ i h. ⊎-elim (λ l. w .high i l) (λ q. inside i q) (earlier i h);
-        done = λ i h. ⊎-elim (λ l. w .done i l) (λ q. whole i q) (earlier i h);
+        low = λ i h. ⊎-elim (λ l. w .low i l) (λ q. ends i q) (last-or-before (i + 1) n h);
+        high = λ i h. ⊎-elim (λ l. w .high i l) (λ q. inside i q) (last-or-before (i + 1) n h);
+        done = λ i h. ⊎-elim (λ l. w .done i l) (λ q. whole i q) (last-or-before (i + 1) n h);
         last-low = λ i h. let same : i ≡ n = omega arith in let here : start i ≡ at = ap start same ∙ begins in omega arith;
         last = λ i h. newly i (omega arith);
       }
@@ -80,9 +84,6 @@ module _ {part : ℕ → List ℕ} {start row : ℕ → ℕ} {n at : ℕ} {ahead
       newly i q =
           ap (λ (a : ℕ). span row a at ++ ahead′) (ap start q ∙ begins)
           ∙ (ap (λ (xs : List ℕ). xs ++ ahead′) (span-end row at at (omega arith)) ∙ (sym own ∙ ap part (sym q)))
-
-      earlier : (i : ℕ) → i + 1 < n + 1 → (i + 1 < n) ⊎ (i + 1 ≡ n)
-      earlier i h = ⊎-elim (λ t. inl (ltb-true (i + 1) n t)) (λ t. let over : n ≤ i + 1 = ltb-false (i + 1) n t in inr (omega arith)) (either (ltb (i + 1) n))
 
       inside : (i : ℕ) → i + 1 ≡ n → start (i + 1) ≤ at
       inside i q = let here : start (i + 1) ≡ at = ap start q ∙ begins in omega arith

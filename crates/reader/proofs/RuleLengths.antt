@@ -15,7 +15,7 @@ use Rattle.tables.specs.Layout.{maxOwn}
 use Rattle.reader.specs.declared.answer.Scan.{Scan}
 use Rattle.reader.specs.Questions.{ownFacts, rulesOf, programOf}
 use Rattle.reader.specs.RuleLength.{ruleLength, allLengths, WithinCap}
-use Rattle.reader.proofs.Accepted.{GoodBody, opens, own, last, EachRule, one-more, opens-rule, own-none, own-first, own-opens-none, count-opens-none, AcceptedFile, rules-few}
+use Rattle.reader.proofs.Accepted.{GoodBody, opens, own, unread, last, EachRule, one-more, opens-rule, own-none, own-first, own-opens-none, unread-opens-none, unread-own-none, count-opens-none, AcceptedFile, rules-few}
 
 -- the own items that stand before an item of another class
 abbrev pub ownAhead : List Token → ℕ
@@ -35,6 +35,7 @@ ahead-short (opens {i = i} {ts = ts} s below room g) h =
     let none = alone (by-tags i .opens) s (by-tags i .own) (tt, (tt, tt)) in
     rw (own-none i asksIn ts none, own-none i asksOut ts none) (omega arith)
 ahead-short (own {i = i} {ts = ts} s below first short g) h = omega (arith, own-ahead i ts s, ahead-short g (omega arith))
+ahead-short (unread {i = i} {ts = ts} s below first g) h = rw (unread-own-none i asksIn ts s, unread-own-none i asksOut ts s) (omega arith)
 ahead-short (last {i = i} s e) h =
     let none = alone (by-tags i .rules) s (by-tags i .own) (tt, (tt, tt)) in
     rw (own-none i asksIn [] none, own-none i asksOut [] none) (omega arith)
@@ -47,6 +48,7 @@ all-short : {scan : Scan} {ts : List Token} → GoodBody scan ts → EachRule Sh
 all-short (opens {i = i} {ts = ts} s below room g) =
     rw (opens-rule i ts s) (one-more Short _ (rulesOf ts) (omega (arith, ahead-short g (omega arith))) (all-short g))
 all-short (own {i = i} {ts = ts} s below first short g) = rw (own-opens-none i ts s) (all-short g)
+all-short (unread {i = i} {ts = ts} s below first g) = rw (unread-opens-none i ts s) (all-short g)
 all-short (last {i = i} s e) = rw (count-opens-none i s) (λ i h. absurd (omega arith))
 
 -- Rules within the cap, all together.

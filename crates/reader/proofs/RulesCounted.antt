@@ -1,17 +1,15 @@
 -- Counts over rules, by number and by list.
-use Prim.Native.Nat.{ℕ, zero, suc, _<_, _≤_}
-use mathlib.Core.Path.{_≡_, refl, ap, _∙_}
-use mathlib.Core.Bool.{Bool, cond, not, _&&_, _||_}
+use Prim.Native.Nat.{ℕ, zero, suc}
+use mathlib.Core.Path.{_≡_, refl, sym, ap, _∙_, fun-ext}
+use mathlib.Core.Bool.{Bool, true, false, cond, not, _&&_, _||_}
 use mathlib.Core.List.{List, [], _∷_}
-use native.Mathlib.Omega.{arith}
 use borrow.Author.Tests.{lt-ltb}
-use lib.ListN.{length, getD, replicate}
-use lib.Dec.{eqb}
-use Rattle.theory.specs.Rule.{mem, any, howMany, range, upTo, Rule, Program, count, rule, blank, null, exception, constraintFact, inForce}
+use lib.ListN.{length, getD}
+use Rattle.theory.specs.Rule.{mem, any, howMany, range, upTo, Rule, Program, count, rule, blank, null, exception, constraintFact, everyRule, inForce}
 use Rattle.theory.proofs.Lists.{howMany-ext, mem-upTo}
-use Rattle.marking.specs.Marks.{paint}
-use Rattle.marking.proofs.MarksPainted.{painted}
+use Rattle.theory.proofs.Withheld.{all-in-force}
 use Rattle.reader.specs.Questions.{exceptions, constraintFacts}
+use Rattle.reader.specs.Asked.{constrainedFacts}
 use Rattle.reader.specs.Scanning.{constrained, withConstraint}
 
 any-shift : (q : ℕ → Bool) (a n : ℕ) → any q (range (suc a) n) ≡ any (λ i. q (suc i)) (range a n)
@@ -28,9 +26,16 @@ some-rule k (r ∷ rs) =
     ap (λ (b : Bool). mem k (r .constraints) || b)
     (any-shift (λ i. mem k (getD (r ∷ rs) i blank .constraints)) 0 (length rs) ∙ some-rule k rs)
 
-pub constraint-fact : (P : Program) (k : ℕ) → constraintFact P (inForce P) k ≡ constrained (P .rules) k
+pub constraint-fact : (P : Program) (k : ℕ) → constraintFact P everyRule k ≡ constrained (P .rules) k
 unfolding constraintFact
 constraint-fact P k = some-rule k (P .rules)
+
+-- Where every fact is read, the facts that are a constraint of some rule are the constraint facts.
+pub constrained-are : (P : Program) → ((f : ℕ) → P .unread f ≡ false) → constrainedFacts P ≡ constraintFacts P
+unfolding constrainedFacts constraintFacts
+constrained-are P read =
+    ap (λ (S : ℕ → Bool). howMany (λ k. not (S k) && constraintFact P everyRule k) (upTo (P .facts))) (fun-ext read)
+    ∙ ap (λ (on : ℕ → Bool). howMany (constraintFact P on) (upTo (P .facts))) (sym (fun-ext (all-in-force P read)))
 
 counted-rules : (rs : List Rule) → howMany (λ i. not (null (getD rs i blank .constraints))) (upTo (length rs)) ≡ withConstraint rs
 counted-rules [] = refl
@@ -44,13 +49,3 @@ exceptions-of P =
     howMany-ext (exception P) (λ i. not (null (rule P i .constraints))) (upTo (count P))
     (λ i m. ap (λ (b : Bool). b && not (null (rule P i .constraints))) (lt-ltb i (count P) (mem-upTo (count P) i m)))
     ∙ counted-rules (P .rules)
-
--- The count of the marks painted by the constraint facts.
-pub painted-count : (P : Program) (n : ℕ) → P .facts ≤ n → howMany (λ k. eqb (getD (paint (constraintFact P (inForce P)) (replicate n 0)) k 0) 1) (upTo (P .facts)) ≡ constraintFacts P
-unfolding constraintFacts
-painted-count P n h =
-    howMany-ext _ (constraintFact P (inForce P)) (upTo (P .facts))
-    (λ k m. painted n (constraintFact P (inForce P)) k (below k (mem-upTo (P .facts) k m)))
-  where
-    below : (k : ℕ) → k < P .facts → k < n
-    below k l = omega arith

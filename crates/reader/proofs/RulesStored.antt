@@ -9,23 +9,25 @@ use borrow.Author.Tests.{ltb-true, ltb-false}
 use lib.ListN.{length, getD, set, drop, length-set}
 use lib.Seq.{getD-set-same, getD-set-other, getD-drop, drop-drop}
 use lib.Dec.{ltb}
-use Rattle.theory.specs.Rule.{Rule, range, upTo, blank, count, Bounded}
+use Rattle.theory.specs.Rule.{Rule, Program, range, upTo, blank, count, withheld, Bounded}
+use Rattle.theory.proofs.Withheld.{withheld-any}
 use Rattle.theory.proofs.Bools.{either}
 use Rattle.items.specs.declared.item.FactId.{FactId}
-use Rattle.items.specs.declared.item.Item.the-variants.{Opens, Premise, Constraint, Rules}
+use Rattle.items.specs.declared.item.Item.the-variants.{Opens, Premise, Constraint, Rules, Unread}
 use Rattle.cursors.specs.declared.cursor.Cursor.{Cursor}
 use Rattle.cursors.specs.declared.cursor.Row.the-variants.{Body}
 use Rattle.items.specs.Item.{narrow, maxFacts, maxRules, maxRuleItems}
 use Rattle.cursors.specs.Cursor.{itemsAt, bodyAt}
 use Rattle.cursors.proofs.Items.{ReadAt}
-use Rattle.tables.specs.Layout.{maxOwn, conclusionsFrom, placesFrom, premiseStartsFrom, constraintStartsFrom, ownFrom, tableCells, lastCell, rulesIn, conclusionIn, placeIn, premiseStart, constraintStart, premiseAt, constraintAt, ruleIn, programIn}
+use Rattle.tables.specs.Layout.{maxOwn, conclusionsFrom, placesFrom, premiseStartsFrom, constraintStartsFrom, ownFrom, tableCells, lastCell, rulesIn, conclusionIn, placeIn, premiseStart, constraintStart, premiseAt, constraintAt, ruleIn, factsIn, unreadIn, withheldIn, programIn}
 use Rattle.reader.specs.Questions.{premisesOf, constraintsOf, ruleOf, rulesOf}
 use Rattle.reader.specs.Scanned.{OwnAt}
 use Rattle.reader.specs.BodyScanned.{programFrom, BodyTabled}
-use Rattle.reader.specs.Scanning.{Filled, ruleFrom, Storing}
-use Rattle.reader.specs.Stores.{withRule, withCounts}
-use Rattle.reader.proofs.PartsFilled.{none-filled, kept, same-ahead, one-read, next-rule}
-use Rattle.reader.proofs.CellsStored.{RuleStored, rule-stored, CountsStored, counts-stored}
+use Rattle.reader.specs.Scanning.{Filled, ruleFrom, Storing, Holding}
+use Rattle.stores.specs.Stores.{withRule, withCounts}
+use Rattle.reader.proofs.PartsFilled.{last-or-before, none-begun, kept, same-ahead, one-read, next-rule}
+use Rattle.stores.proofs.CellsStored.{RuleStored, rule-stored, CountsStored, counts-stored, counts-marks, MarksOnly, MarksKept}
+use Rattle.reader.proofs.UnreadMarked.{unread-told, withheld-told}
 
 pub none-stored : (s : List ℕ) (c : Cursor) (T : List ℕ) → length T ≡ tableCells → Storing s c c T 0 0 0 0
 none-stored s c T size =
@@ -36,13 +38,10 @@ none-stored s c T size =
       size = size;
       conclusions = λ i h. absurd (omega arith);
       places = λ i h. absurd (omega arith);
-      premises = none-filled _ _ _ _;
-      constraints = none-filled _ _ _ _;
+      premises = none-begun _ _ _ _ _ refl;
+      constraints = none-begun _ _ _ _ _ refl;
       within = omega arith;
     }
-
-last-or-before : (i n : ℕ) → i < n + 1 → (i < n) ⊎ (i ≡ n)
-last-or-before i n h = ⊎-elim (λ t. inl (ltb-true i n t)) (λ t. let over : n ≤ i = ltb-false i n t in inr (omega arith)) (either (ltb i n))
 
 -- the first of the rules to come, and the others
 to-come : (rs : List Rule) (n : ℕ) (r : Rule) (rest : List Rule) → drop n rs ≡ r ∷ rest → (getD rs n blank ≡ r) × (drop (n + 1) rs ≡ rest)
@@ -52,7 +51,7 @@ to-come rs n r rest e =
 module _ {s : List ℕ} {c₀ c : Cursor} {T : List ℕ} {n allowance filled barred : ℕ} (w : Storing s c₀ c T n allowance filled barred) where
   -- a rule
   module _ {f : FactId} {d : Cursor} (r : ReadAt s c (Opens f) d) (body : d .row ≡ Body) (few : n < maxRules) where
-    opened-rule : getD (rulesOf (itemsAt s c₀)) n blank ≡ ruleOf f (itemsAt s d)
+    pub opened-rule : getD (rulesOf (itemsAt s c₀)) n blank ≡ ruleOf f (itemsAt s d)
     opened-rule = to-come (rulesOf (itemsAt s c₀)) n _ _ (w .passed ∙ ap rulesOf (r .items)) .0
 
     pub rule-kept : Storing s c₀ d (withRule T n (f .0) (d .at) filled barred) (n + 1) maxRuleItems filled barred
@@ -109,6 +108,41 @@ module _ {s : List ℕ} {c₀ c : Cursor} {T : List ℕ} {n allowance filled bar
 
             at-last : (i : ℕ) → i ≡ n → OwnAt s (placeIn T′ i) (ruleFrom s c₀ i)
             at-last i q = subst (λ (j : ℕ). OwnAt s (placeIn T′ j) (ruleFrom s c₀ j)) (sym q) (subst (λ (p : ℕ). OwnAt s p (ruleFrom s c₀ n)) (sym (t .place)) own-here)
+
+  -- marks alone are stored
+  pub storing-kept : {T′ : List ℕ} → MarksOnly T T′ → Storing s c₀ c T′ n allowance filled barred
+  storing-kept {T′} m =
+      record {
+        passed = w .passed;
+        total = w .total;
+        few = w .few;
+        size = m .size;
+        conclusions = λ i h. m .others (conclusionsFrom + i) (λ l. omega (arith, w .few)) ∙ w .conclusions i h;
+        places = λ i h. rw (m .others (placesFrom + i) (λ l. omega (arith, w .few))) (w .places i h);
+        premises = kept (w .premises) (premiseStart T′) (premiseAt T′) (λ i h. m .others (premiseStartsFrom + i) (λ l. omega (arith, w .few))) (λ j h. m .others (ownFrom + j) (λ l. omega arith));
+        constraints =
+            kept (w .constraints) (constraintStart T′) (constraintAt T′) (λ i h. m .others (constraintStartsFrom + i) (λ l. omega (arith, w .few)))
+            (λ j h. m .others (lastCell - j) (λ l. omega (arith, fits)));
+        within = w .within;
+      }
+    where
+      fits : filled + barred ≤ maxOwn
+      fits = omega (arith, w .within, w .few)
+
+  -- an unread fact, before the first rule
+  pub unread-kept : {f : FactId} {d : Cursor} → ReadAt s c (Unread f) d → n ≡ 0 → Storing s c₀ d T n allowance filled barred
+  unread-kept r none-opened =
+      record {
+        passed = w .passed ∙ ap rulesOf (r .items);
+        total = w .total ∙ ap (λ ts. n + length (rulesOf ts)) (r .items);
+        few = w .few;
+        size = w .size;
+        conclusions = w .conclusions;
+        places = w .places;
+        premises = none-begun _ _ _ _ _ none-opened;
+        constraints = none-begun _ _ _ _ _ none-opened;
+        within = w .within;
+      }
 
   -- a premise
   module _ {f : FactId} {d : Cursor} (r : ReadAt s c (Premise f) d) (some-left : allowance ≡ 0 → ⊥) where
@@ -207,36 +241,51 @@ module _ {s : List ℕ} {c₀ c : Cursor} {T : List ℕ} {n allowance filled bar
         same-conclusion : conclusionIn T′ i ≡ ruleFrom s c₀ i .conclusion
         same-conclusion = t .kept (conclusionsFrom + i) (omega arith) (λ e. omega (arith, w .few)) (λ e. omega (arith, w .few)) ∙ w .conclusions i h
 
-    program-there : programIn T′ ≡ programFrom facts s c₀
+    program-there : unreadIn T′ facts ≡ programFrom facts s c₀ .unread → programIn T′ ≡ programFrom facts s c₀
     unfolding programIn
-    program-there = λ j. record { facts = t .facts j; rules = rules-there j }
+    program-there u = λ j. record { facts = t .facts j; rules = rules-there j; unread = unread-there j }
       where
+        unread-there : unreadIn T′ (factsIn T′) ≡ programFrom facts s c₀ .unread
+        unread-there = ap (unreadIn T′) (t .facts) ∙ u
+
         rules-there : map (ruleIn T′) (upTo (rulesIn T′)) ≡ rulesOf (itemsAt s c₀)
         rules-there =
             ap (λ (m : ℕ). map (ruleIn T′) (upTo m)) (t .rules ∙ sym all-read)
             ∙ same-rules (ruleIn T′) 0 (rulesOf (itemsAt s c₀)) (λ i h. ap (ruleIn T′) (zero-add i) ∙ rule-there i (rw all-read at h))
 
-    tabled : facts < maxFacts narrow → Bounded (programFrom facts s c₀) → BodyTabled facts s c₀ T′
-    tabled few bounded =
+    tabled : facts < maxFacts narrow → Bounded (programFrom facts s c₀) → Holding facts s c₀ c T n → BodyTabled facts s c₀ T′
+    tabled few bounded held =
         record {
-          program = program-there;
+          program = same-program;
           well-formed =
               record {
                 facts-few = rw (t .facts) few;
                 rules-few = rw (t .rules) (w .few);
                 premise-spans = record { low = λ i h. premises-whole .low i (below i h); high = λ i h. omega (arith, premises-whole .high i (below i h), fit) };
                 constraint-spans = record { low = λ i h. constraints-whole .low i (below i h); high = λ i h. omega (arith, constraints-whole .high i (below i h), fit) };
-                in-bounds = rw program-there bounded;
+                in-bounds = rw same-program bounded;
+                marks-withheld = λ i h. withheld-there i (rw (t .rules) at h);
               };
           placed = λ i h.
               rw (t .kept (placesFrom + i) (omega arith) (λ e. omega (arith, w .few, in-range i h)) (λ e. omega (arith, w .few, in-range i h))) (w .places i (in-range i h));
         }
       where
+        marks-kept : MarksKept T T′
+        marks-kept = counts-marks t (w .few)
+
+        same-program : programIn T′ ≡ programFrom facts s c₀
+        same-program = program-there (unread-told few marks-kept held r ends)
+
+        withheld-there : (i : ℕ) → i < n → withheldIn T′ i ≡ withheld (programIn T′) i
+        withheld-there i h =
+            withheld-told few (w .few) marks-kept held r ends i h
+            ∙ sym (ap (λ (P : Program). withheld P i) same-program ∙ withheld-any (programFrom facts s c₀) i (rw all-read h))
+
         below : (i : ℕ) → i < rulesIn T′ → i + 1 < n + 1
         below i h = omega (arith, t .rules)
 
         in-range : (i : ℕ) → i < count (programFrom facts s c₀) → i < n
         in-range i h = rw all-read at h
 
-  pub all-stored : {facts : ℕ} → facts < maxFacts narrow → Bounded (programFrom facts s c₀) → BodyTabled facts s c₀ (withCounts T facts n filled barred)
-  all-stored {facts} few bounded = tabled (counts-stored T (w .size) facts n filled barred (w .few)) few bounded
+  pub all-stored : {facts : ℕ} → facts < maxFacts narrow → Bounded (programFrom facts s c₀) → Holding facts s c₀ c T n → BodyTabled facts s c₀ (withCounts T facts n filled barred)
+  all-stored {facts} few bounded held = tabled (counts-stored T (w .size) facts n filled barred (w .few)) few bounded held

@@ -11,10 +11,10 @@ use Rattle.reader.specs.declared.answer.Scan.{Scan}
 use Rattle.reader.specs.Questions.{bodyQuestions, openingQuestions}
 
 abbrev pub NotFacts : Item → Type 0
-NotFacts i = Tagged (1 ∷ 2 ∷ 3 ∷ 4 ∷ 5 ∷ 6 ∷ []) i
+NotFacts i = Tagged (1 ∷ 2 ∷ 3 ∷ 4 ∷ 5 ∷ 6 ∷ 7 ∷ []) i
 
 pub no-count : (i : Item) (ts : List Token) → NotFacts i → firstNo (openingQuestions (item i ∷ ts)) ≡ some NoFactCount
-no-count i ts k = rw (unsaid (by-tags i .facts) (1 ∷ 2 ∷ 3 ∷ 4 ∷ 5 ∷ 6 ∷ []) (tt, tt) k)
+no-count i ts k = rw (unsaid (by-tags i .facts) (1 ∷ 2 ∷ 3 ∷ 4 ∷ 5 ∷ 6 ∷ 7 ∷ []) (tt, tt) k)
 
 -- not an item of a file's body
 abbrev pub NotOfBody : Item → Type 0
@@ -22,8 +22,8 @@ NotOfBody i = Tagged (0 ∷ 5 ∷ 6 ∷ []) i
 
 pub not-of-body : (i : Item) (scan : Scan) (ts : List Token) → NotOfBody i → firstNo (bodyQuestions scan (item i ∷ ts)) ≡ some UnknownKind
 not-of-body i scan ts k =
-    rw (unsaid (by-tags i .opens) (0 ∷ 5 ∷ 6 ∷ []) (tt, tt) k, unsaid (by-tags i .own) (0 ∷ 5 ∷ 6 ∷ []) (tt, (tt, tt)) k, unsaid (by-tags i .rules) (0 ∷ 5 ∷ 6 ∷ []) (tt, tt) k)
+    rw (unsaid (by-tags i .opens) (0 ∷ 5 ∷ 6 ∷ []) (tt, tt) k, unsaid (by-tags i .own) (0 ∷ 5 ∷ 6 ∷ []) (tt, (tt, tt)) k, unsaid (by-tags i .rules) (0 ∷ 5 ∷ 6 ∷ []) (tt, tt) k, unsaid (by-tags i .unread) (0 ∷ 5 ∷ 6 ∷ []) (tt, tt) k)
 
 -- neither a premise nor a constraint
 abbrev pub NotOwn : Item → Type 0
-NotOwn i = Tagged (0 ∷ 1 ∷ 4 ∷ 5 ∷ 6 ∷ []) i
+NotOwn i = Tagged (0 ∷ 1 ∷ 4 ∷ 5 ∷ 6 ∷ 7 ∷ []) i

@@ -5,11 +5,12 @@ use mathlib.Core.List.{List}
 use mathlib.Core.Option.{none}
 use Rattle.theory.specs.Rule.{count}
 use Rattle.reader.specs.declared.answer.FileCounts.{FileCounts}
-use Rattle.reader.specs.Questions.{programOf, exceptions, constraintFacts, fileNo}
+use Rattle.reader.specs.Questions.{programOf, exceptions, fileNo}
+use Rattle.reader.specs.Asked.{constrainedFacts}
 
 pub record Accepted (file : List ℕ) (counts : FileCounts) : Type 0 where
   pub accepted : fileNo file ≡ none
   pub facts : counts .facts ≡ programOf file .facts
   pub rules : counts .rules ≡ count (programOf file)
   pub exceptions : counts .exceptions ≡ exceptions (programOf file)
-  pub constraints : counts .constraints ≡ constraintFacts (programOf file)
+  pub constrained : counts .constrained ≡ constrainedFacts (programOf file)

@@ -1,8 +1,8 @@
--- The program that a file's items mean, and the questions on a file: 1 to 10, in the order of document 01 ("Questions before a result"), and 51 right
--- after 7 (document 02, wish 2).
+-- The program that a file's items mean, and the questions on a file: 1 to 10, in the order of document 01 ("Questions before a result"), 51 right
+-- after 7 (document 02, wish 2), and 56 after 6 (document 02, wish 6).
 use Prim.Native.Nat.{ℕ, _+_}
 use mathlib.Core.List.{List, [], _∷_, _++_}
-use Rattle.theory.specs.Rule.{Rule, Program, howMany, upTo, count, exception, constraintFact, inForce}
+use Rattle.theory.specs.Rule.{mem, Rule, Program, howMany, upTo, count, exception, constraintFact, inForce}
 use Rattle.items.specs.declared.item.FactId.{FactId}
 use Rattle.items.specs.Item.{maxBytes, maxRules, maxRuleItems, Sign, asksIn, asksOut, sameSign, classOf, whereSaid}
 use Rattle.cursors.specs.Cursor.{Token, item, bad, itemsAt, fileStart, placeQuestions, ended}
@@ -11,7 +11,7 @@ use mathlib.Core.Option.{Option}
 use lib.ListN.{length}
 use lib.Dec.{eqb, ltb, leb}
 use Rattle.items.specs.declared.refusal.Refusal.{Refusal}
-use Rattle.items.specs.declared.refusal.Refusal.the-variants.{FileTooLong, FactTooHigh, NoRuleOpened, TooManyRules, WrongRuleCount, BytesAfterEnd, RuleTooLong}
+use Rattle.items.specs.declared.refusal.Refusal.the-variants.{FileTooLong, FactTooHigh, NoRuleOpened, TooManyRules, WrongRuleCount, BytesAfterEnd, RuleTooLong, UnreadAfterRule}
 use Rattle.cursors.specs.declared.cursor.Row.the-variants.{Opening, Body}
 use Rattle.cursors.specs.declared.cursor.Fault.the-variants.{NoByte, OtherKind}
 use Rattle.reader.specs.declared.answer.Scan.{Scan}
@@ -41,6 +41,12 @@ rulesOf [] = []
 rulesOf (bad fault ∷ ts) = []
 rulesOf (item i ∷ ts) = whereSaid (classOf i .opens) (λ f. ruleOf f ts ∷ rulesOf ts) (rulesOf ts)
 
+-- The facts that could not be read: those that some item names as such, repeats counted.
+abbrev pub unreadOf : List Token → List ℕ
+unreadOf [] = []
+unreadOf (bad fault ∷ ts) = []
+unreadOf (item i ∷ ts) = whereSaid (classOf i .unread) (λ f. f .0 ∷ unreadOf ts) (unreadOf ts)
+
 -- The count of facts that the first item gives.
 abbrev pub factCount : List Token → ℕ
 factCount [] = 0
@@ -49,13 +55,18 @@ factCount (item i ∷ ts) = whereSaid (classOf i .facts) (λ n. n) 0
 
 -- The program of an accepted file.
 abbrev pub programOf : List ℕ → Program
-programOf s = record { facts = factCount (itemsAt s fileStart); rules = rulesOf (itemsAt s fileStart) }
+programOf s =
+    record {
+      facts = factCount (itemsAt s fileStart);
+      rules = rulesOf (itemsAt s fileStart);
+      unread = λ f. mem f (unreadOf (itemsAt s fileStart));
+    }
 
 -- How many exception rules a program has.
 unfoldable pub exceptions : Program → ℕ
 exceptions P = howMany (exception P) (upTo (count P))
 
--- How many constraint facts.
+-- How many constraint facts: those of the rules in force.
 unfoldable pub constraintFacts : Program → ℕ
 constraintFacts P = howMany (constraintFact P (inForce P)) (upTo (P .facts))
 
@@ -70,10 +81,13 @@ opened scan = record { facts = scan .facts; rules = scan .rules + 1; own = 0 }
 abbrev pub lengthened : Scan → Scan
 lengthened scan = record { facts = scan .facts; rules = scan .rules; own = scan .own + 1 }
 
--- Fact below the count? Has a rule been opened? Has it fewer premises and constraints than the most before it? Fewer rules than the most before it?
--- Does it give the number of rules? Does the file end there?
+-- Fact below the count? Does it stand before the first rule? Has a rule been opened? Has it fewer premises and constraints than the most before it? Fewer
+-- rules than the most before it? Does it give the number of rules? Does the file end there?
 abbrev pub factQuestion : Scan → FactId → Question
 factQuestion scan f = ask FactTooHigh (ltb (f .0) (scan .facts))
+
+abbrev pub unreadQuestion : Scan → Question
+unreadQuestion scan = ask UnreadAfterRule (eqb (scan .rules) 0)
 
 abbrev pub ownerQuestion : Scan → Question
 ownerQuestion scan = ask NoRuleOpened (ltb 0 (scan .rules))
@@ -90,7 +104,7 @@ countQuestion scan n = ask WrongRuleCount (eqb n (scan .rules))
 abbrev pub endQuestion : List Token → Question
 endQuestion ts = ask BytesAfterEnd (ended ts)
 
--- Questions 3 to 10 and 51 of each item after the first, in a file of which so much has been seen. An item of another row's kind gets no to 4.
+-- Questions 3 to 10, 51 and 56 of each item after the first, in a file of which so much has been seen. An item of another row's kind gets no to 4.
 abbrev pub bodyQuestions : Scan → List Token → List Question
 bodyQuestions scan [] = placeQuestions Body (bad NoByte)
 bodyQuestions scan (bad fault ∷ ts) = placeQuestions Body (bad fault)
@@ -98,7 +112,8 @@ bodyQuestions scan (item i ∷ ts) =
     whereSaid (classOf i .opens) (λ f. placeQuestions Body (item i) ++ (factQuestion scan f ∷ roomQuestion scan ∷ bodyQuestions (opened scan) ts))
     (whereSaid (classOf i .own) (λ o. placeQuestions Body (item i) ++ (factQuestion scan (o .fact) ∷ ownerQuestion scan ∷ lengthQuestion scan ∷ bodyQuestions (lengthened scan) ts))
     (whereSaid (classOf i .rules) (λ n. placeQuestions Body (item i) ++ (countQuestion scan n ∷ endQuestion ts ∷ []))
-    (placeQuestions Body (bad OtherKind))))
+    (whereSaid (classOf i .unread) (λ f. placeQuestions Body (item i) ++ (factQuestion scan f ∷ unreadQuestion scan ∷ bodyQuestions scan ts))
+    (placeQuestions Body (bad OtherKind)))))
 
 -- Question 2, and the others where it gets yes.
 abbrev pub openingQuestions : List Token → List Question
@@ -107,7 +122,7 @@ openingQuestions (bad fault ∷ ts) = placeQuestions Opening (bad fault)
 openingQuestions (item i ∷ ts) =
     whereSaid (classOf i .facts) (λ n. placeQuestions Opening (item i) ++ bodyQuestions (fresh n) ts) (placeQuestions Opening (bad OtherKind))
 
--- The questions on a file, 1 to 10 and 51. A file is accepted (document 01) where each gets yes.
+-- The questions on a file, 1 to 10, 51 and 56. A file is accepted (document 01) where each gets yes.
 unfoldable pub fileQuestions : List ℕ → List Question
 fileQuestions s = ask FileTooLong (leb (length s) maxBytes) ∷ openingQuestions (itemsAt s fileStart)
 

@@ -1,19 +1,20 @@
--- Internal: what the scan has done where it stands at an item of the body: its verdict, its tables and its counts.
+-- Internal: what the scan has done where it stands at an item of the body: its verdict, its tables, its counts, and what is unread.
 use Prim.Native.Nat.{ℕ, zero, suc, _+_, _*_, _<_, _≤_}
 use mathlib.Core.Path.{_≡_}
-use mathlib.Core.Bool.{Bool, false, cond, not, _||_}
+use mathlib.Core.Bool.{Bool, false, cond, not, _&&_, _||_}
 use mathlib.Core.List.{List, [], _∷_, _++_}
 use lib.ListN.{length, getD, drop}
 use lib.Dec.{eqb}
-use Rattle.theory.specs.Rule.{mem, howMany, upTo, Rule, blank, null}
+use Rattle.theory.specs.Rule.{any, mem, howMany, upTo, Rule, FactSet, blank, null}
 use Rattle.items.specs.declared.item.Item.{Item}
 use Rattle.cursors.specs.declared.cursor.Cursor.{Cursor}
 use Rattle.cursors.specs.declared.cursor.Row.the-variants.{Body}
 use Rattle.cursors.specs.declared.cursor.Read.the-variants.{Found}
 use Rattle.items.specs.Item.{narrow, maxFacts, maxRules, maxRuleItems, maxBytes, has}
 use Rattle.items.specs.Question.{firstNo}
-use Rattle.cursors.specs.Cursor.{nextAt, itemsAt}
-use Rattle.tables.specs.Layout.{tableCells, conclusionIn, placeIn, premiseStart, constraintStart, premiseAt, constraintAt, span}
+use Rattle.cursors.specs.Cursor.{Token, nextAt, itemsAt}
+use Rattle.stores.specs.Stores.{isUnread}
+use Rattle.tables.specs.Layout.{tableCells, unreadIn, withheldIn, conclusionIn, placeIn, premiseStart, constraintStart, premiseAt, constraintAt, span}
 use Rattle.reader.specs.declared.answer.Scan.{Scan}
 use Rattle.reader.specs.declared.answer.Asked.{Asked}
 use Rattle.reader.specs.declared.answer.Asked.the-variants.{Yes, No}
@@ -23,7 +24,7 @@ use Rattle.items.specs.declared.refusal.Refusal.the-variants.{NoRuleOpened, Rul
 use Rattle.reader.specs.declared.step.Progress.{Progress}
 use Rattle.reader.specs.declared.step.Step.{Step}
 use Rattle.reader.specs.declared.step.Step.the-variants.{On, Ended, Refused}
-use Rattle.reader.specs.Questions.{premisesOf, constraintsOf, rulesOf, bodyQuestions}
+use Rattle.reader.specs.Questions.{premisesOf, constraintsOf, rulesOf, unreadOf, bodyQuestions}
 use Rattle.reader.specs.Asked.{askedOf, countsOf}
 use Rattle.reader.specs.Scanned.{OwnAt}
 use Rattle.reader.specs.BodyScanned.{programFrom, bodyNo, BodyScanned}
@@ -82,34 +83,49 @@ abbrev pub ownedBy : ℕ → List ℕ → List ℕ
 ownedBy zero fs = []
 ownedBy (suc n) fs = fs
 
-pub record Counting (facts : ℕ) (s : List ℕ) (c₀ c : Cursor) (marks : List ℕ) (n exceptions plain found : ℕ) : Type 0 where
+-- k is a constraint that is to come, of the last of n rules or of a later one
+abbrev pub toCome : ℕ → List Token → ℕ → Bool
+toCome n ts k = mem k (ownedBy n (constraintsOf ts)) || constrained (rulesOf ts) k
+
+-- What is counted where so many facts are unread: a fact that is marked is read and a constraint of some rule, withheld or not.
+pub record Counting (facts : ℕ) (s : List ℕ) (c₀ c : Cursor) (unread : FactSet) (marks : List ℕ) (n exceptions plain : ℕ) : Type 0 where
   pub rules : withConstraint (rulesOf (itemsAt s c₀)) ≡ exceptions + (cond (null (ownedBy n (constraintsOf (itemsAt s c)))) 0 plain + withConstraint (rulesOf (itemsAt s c)))
   pub few : exceptions + plain ≤ n
   pub size : length marks ≡ maxFacts narrow
-  pub marks-show : (k : ℕ) → constrained (rulesOf (itemsAt s c₀)) k ≡ has marks k || (mem k (ownedBy n (constraintsOf (itemsAt s c))) || constrained (rulesOf (itemsAt s c)) k)
-  pub counted : found ≡ howMany (has marks) (upTo facts)
+  pub marks-show : (k : ℕ) → not (unread k) && constrained (rulesOf (itemsAt s c₀)) k ≡ has marks k || not (unread k) && toCome n (itemsAt s c) k
+  pub unread-shown : (k : ℕ) → k < maxFacts narrow → isUnread marks k ≡ unread k
+  pub none-marked : n ≡ 0 → (k : ℕ) → has marks k ≡ false
 
--- The verdict, the tables and the counts go along together.
+-- What is told of the unread facts, and of the rules that are withheld, of n rules opened.
+pub record Holding (facts : ℕ) (s : List ℕ) (c₀ c : Cursor) (T : List ℕ) (n : ℕ) : Type 0 where
+  -- those marked, and those to come, are all that the file names
+  pub named : (f : ℕ) → mem f (unreadOf (itemsAt s c₀)) ≡ unreadIn T facts f || mem f (unreadOf (itemsAt s c))
+  -- each rule before the last, the last with the constraints ahead of it, and those that are not opened yet
+  pub done : (i : ℕ) → i + 1 < n → withheldIn T i ≡ any (unreadIn T facts) (ruleFrom s c₀ i .constraints)
+  pub last : (i : ℕ) → i + 1 ≡ n → withheldIn T i || any (unreadIn T facts) (constraintsOf (itemsAt s c)) ≡ any (unreadIn T facts) (ruleFrom s c₀ i .constraints)
+  pub later : (i : ℕ) → n ≤ i → i < maxRules → withheldIn T i ≡ false
+
 pub record Scanning (facts : ℕ) (s : List ℕ) (c₀ : Cursor) (T marks : List ℕ) (c : Cursor) (p : Progress) : Type 0 where
   -- the premises and constraints that the rule last opened has so far
   pub own : ℕ
   pub left : (p .rules ≡ 0 → ⊥) → own + p .allowance ≡ maxRuleItems
   pub verdict : Along s c₀ facts c (p .rules) own
   pub tables : Storing s c₀ c T (p .rules) (p .allowance) (p .filled) (p .barred)
-  pub counts : Counting facts s c₀ c marks (p .rules) (p .exceptions) (p .plain) (p .found)
+  pub counts : Counting facts s c₀ c (unreadIn T facts) marks (p .rules) (p .exceptions) (p .plain)
+  pub withheld : Holding facts s c₀ c T (p .rules)
 
 -- What the scan of the body promises.
 abbrev pub Answered : ℕ → List ℕ → Cursor → List ℕ → Asked → Type 0
 Answered facts s c₀ T r = (r ≡ askedOf (bodyNo facts s c₀) (countsOf (programFrom facts s c₀))) × BodyScanned facts s c₀ T
 
--- The counts of a file that ends where so much is read.
-abbrev pub countsRead : ℕ → Progress → FileCounts
-countsRead facts p = record { facts = facts; rules = p .rules; exceptions = p .exceptions; constraints = p .found }
+-- The counts of a file that ends where so much is read, and so many facts are marked.
+abbrev pub countsRead : ℕ → List ℕ → Progress → FileCounts
+countsRead facts marks p = record { facts = facts; rules = p .rules; exceptions = p .exceptions; constrained = howMany (has marks) (upTo facts) }
 
 -- An item is scanned: the scan stands at the next one, or it is over. p is what was read before.
 pub record Stepped (facts : ℕ) (s : List ℕ) (c₀ : Cursor) (T marks : List ℕ) (d : Cursor) (p : Progress) (r : Step) : Type 0 where
   pub on : (q : Progress) → r ≡ On q → Scanning facts s c₀ T marks d q
-  pub ended : r ≡ Ended → Answered facts s c₀ T (Yes (countsRead facts p))
+  pub ended : r ≡ Ended → Answered facts s c₀ T (Yes (countsRead facts marks p))
   pub refused : (n : Refusal) → r ≡ Refused n → Answered facts s c₀ T (No n)
 
 -- So it is in every file that has the item where the scan stands. T and marks are those before, T′ and marks′ those after.
@@ -124,4 +140,3 @@ pub record Room (facts : ℕ) (d : Cursor) (p : Progress) : Type 0 where
   pub within : p .filled + p .barred + p .allowance ≤ maxRuleItems * p .rules
   pub rules : p .rules ≤ maxRules
   pub exceptions : p .exceptions + p .plain ≤ p .rules
-  pub found : p .found ≤ facts

@@ -11,12 +11,12 @@ pub enum Accept {
     Refused(Refusal),
 }
 
-// The counts of an accepted file: its facts, rules, exception rules and constraint facts.
+// The counts of an accepted file: its facts, rules, exception rules, and the facts that are read and a constraint of some rule, withheld or not.
 pub struct FileCounts {
     pub facts: u16,
     pub rules: u16,
     pub exceptions: u16,
-    pub constraints: u16,
+    pub constrained: u16,
 }
 
 // What the questions need of the items before: the count of facts, how many rules were opened, and how many premises and constraints the last of them

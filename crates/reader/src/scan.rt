@@ -1,14 +1,13 @@
-// One pass over a file: asks questions 1 to 10 and 51, and fills the tables that everything above works on. Internal: `tables` is scratch of the caller,
+// One pass over a file: asks questions 1 to 10, 51 and 56, and fills the tables that everything above works on. Internal: `tables` is scratch of the caller,
 // and holds the program of the file where the answer is yes.
 ghost use mathlib.Core.Path.{_≡_};
 ghost use Prim.Native.Nat.{_<_, _≤_};
 ghost use lib.ListN.{length};
 ghost use Rattle.cursors.specs.declared.cursor.Row.the-variants.{Body};
 ghost use Rattle.items.specs.Item.{narrow, maxFacts, maxBytes};
-ghost use Rattle.tables.specs.Layout.{tableCells};
 ghost use Rattle.reader.specs.Asked.{askedOf, countsOf, fileAsked};
 ghost use Rattle.reader.specs.Scanned.{Scanned};
-ghost use Rattle.reader.specs.BodyScanned.{programFrom, bodyNo, BodyScanned, Unmarked};
+ghost use Rattle.reader.specs.BodyScanned.{programFrom, bodyNo, BodyScanned, Cleared, Unmarked};
 use crate::answer::Asked;
 use crate::answer::FileCounts;
 use crate::step::Progress;
@@ -21,9 +20,10 @@ use items::item::Item;
 use items::item::MAX_BYTES;
 use items::item::MAX_FACTS;
 use items::refusal::Refusal;
+use marking::marks::count_marked;
 use tables::layout::TABLE_CELLS;
 
-// Questions 3 to 10 and 51, of the items after the first.
+// Questions 3 to 10, 51 and 56, of the items after the first.
 fn scan_body(
     file: &[u8],
     from: Cursor,
@@ -31,7 +31,7 @@ fn scan_body(
     tables: &mut [u16; TABLE_CELLS],
     marks: &mut [u8; MAX_FACTS],
 ) -> Asked
-    requires { ⌜ (from .row ≡ Body) × (length (now file) ≤ maxBytes) × (facts < maxFacts narrow) × (length (now tables) ≡ tableCells) × Unmarked (now marks) ⌝ }
+    requires { ⌜ (from .row ≡ Body) × (length (now file) ≤ maxBytes) × (facts < maxFacts narrow) × Cleared (now tables) × Unmarked (now marks) ⌝ }
     ensures { λ r. ⌜ r ≡ askedOf (bodyNo facts (now (file .entry)) from) (countsOf (programFrom facts (now (file .entry)) from)) ⌝ }
     ensures { λ _. ⌜ BodyScanned facts (now (file .entry)) from (now (tables .exit)) ⌝ }
 {
@@ -43,7 +43,6 @@ fn scan_body(
         barred: 0,
         exceptions: 0,
         plain: 0,
-        found: 0,
     };
     loop {
         match cursor.next_in_body(file) {
@@ -59,7 +58,7 @@ fn scan_body(
                             facts,
                             rules: progress.rules as u16,
                             exceptions: progress.exceptions,
-                            constraints: progress.found,
+                            constrained: count_marked(marks, facts as usize),
                         });
                     }
                     Step::Refused(r) => return Asked::No(r),
@@ -70,9 +69,9 @@ fn scan_body(
     }
 }
 
-// Questions 1 to 10 and 51.
+// Questions 1 to 10, 51 and 56.
 pub fn scan(file: &[u8], tables: &mut [u16; TABLE_CELLS]) -> Asked
-    requires { ⌜ length (now tables) ≡ tableCells ⌝ }
+    requires { ⌜ Cleared (now tables) ⌝ }
     ensures { λ r. ⌜ r ≡ fileAsked (now (file .entry)) ⌝ }
     ensures { λ _. ⌜ Scanned (now (file .entry)) (now (tables .exit)) ⌝ }
 {

@@ -3,9 +3,8 @@ ghost use Prim.Native.Nat.{ℕ};
 ghost use mathlib.Core.Path.{_≡_};
 ghost use mathlib.Core.List.{List};
 ghost use lib.ListN.{length};
-ghost use Rattle.items.specs.declared.item.Item.the-variants.{Opens, Premise, Constraint, Rules};
+ghost use Rattle.items.specs.declared.item.Item.the-variants.{Opens, Premise, Constraint, Rules, Unread};
 ghost use Rattle.reader.specs.Scanning.{noneAllowed, Room, Scans};
-use crate::stores;
 use cursors::cursor::Cursor;
 use items::item::FactId;
 use items::item::Item;
@@ -19,7 +18,7 @@ use tables::layout::TABLE_CELLS;
 
 // What the scan has read so far: the rules opened; `allowance`, how many premises and constraints more the rule last opened may have, and 0 before one
 // is opened; the premises and the constraints of all rules, `filled` and `barred` places of their rows; the exception rules; `plain` is 1 while the rule
-// last opened has no constraint; `found` counts the facts that are marked as constraints.
+// last opened has no constraint.
 pub struct Progress {
     pub rules: usize,
     pub allowance: usize,
@@ -27,7 +26,6 @@ pub struct Progress {
     pub barred: usize,
     pub exceptions: u16,
     pub plain: u16,
-    pub found: u16,
 }
 
 // The scan goes on, the file ends as it should, or it is refused.
@@ -79,7 +77,6 @@ fn open_rule(
         barred: before.barred,
         exceptions: before.exceptions,
         plain: 1,
-        found: before.found,
     })
 }
 
@@ -107,7 +104,6 @@ fn take_premise(
         barred: before.barred,
         exceptions: before.exceptions,
         plain: before.plain,
-        found: before.found,
     })
 }
 
@@ -129,7 +125,7 @@ fn take_constraint(
         return Step::Refused(none_allowed(before.rules));
     }
     tables[LAST_CELL - before.barred] = f.0;
-    let new = stores::mark_new(marks, f.0);
+    stores::mark_constraint(tables, marks, before.rules, f.0);
     Step::On(Progress {
         rules: before.rules,
         allowance: before.allowance - 1,
@@ -137,8 +133,28 @@ fn take_constraint(
         barred: before.barred + 1,
         exceptions: before.exceptions + before.plain,
         plain: 0,
-        found: before.found + new,
     })
+}
+
+fn take_unread(
+    f: FactId,
+    next: Cursor,
+    facts: u16,
+    before: Progress,
+    tables: &mut [u16; TABLE_CELLS],
+    marks: &mut [u8; MAX_FACTS],
+) -> Step
+    requires { ⌜ Room facts next before ⌝ }
+    ensures { λ r. ⌜ ((s : List ℕ) → Scans facts s (Unread f) next before (now (tables .entry)) (now (marks .entry)) (now (tables .exit)) (now (marks .exit)) r) ⌝ }
+{
+    if facts <= f.0 {
+        return Step::Refused(Refusal::FactTooHigh);
+    }
+    if before.rules != 0 {
+        return Step::Refused(Refusal::UnreadAfterRule);
+    }
+    stores::store_unread(tables, marks, f.0);
+    Step::On(before)
 }
 
 // `end` is the length of the file.
@@ -181,6 +197,7 @@ pub fn scan_item(
         Item::Premise(f) => take_premise(f, next, facts, before, tables),
         Item::Constraint(f) => take_constraint(f, next, facts, before, tables, marks),
         Item::Rules(n) => end_file(n, next, end, facts, before, tables),
+        Item::Unread(f) => take_unread(f, next, facts, before, tables, marks),
         _ => Step::Refused(Refusal::UnknownKind),
     }
 }

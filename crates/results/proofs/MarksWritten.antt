@@ -11,7 +11,9 @@ use lib.ListN.{length, getD, set, length-set}
 use lib.Seq.{paste, paste-zero, paste-suc, take-all}
 use Rattle.theory.specs.Rule.{all, clear, mem, upTo, Program, FactSet, inForce, null, count, rule, plain, exception}
 use Rattle.theory.specs.Run.{Stand, rejected, setAside, factMark, ruleMark, factMarks}
+use Rattle.theory.proofs.Bools.{never, false-of}
 use Rattle.theory.proofs.Lists.{mapped-length, mapped-at}
+use Rattle.theory.proofs.Withheld.{aside-on}
 use Rattle.items.specs.Item.{has}
 use Rattle.items.specs.Write.{over}
 use Rattle.marking.specs.Marks.{barred, barredIn}
@@ -68,11 +70,11 @@ module _ (marks : List ℕ) (f : ℕ) where
     unfolding has barredIn
     an-open e = rw (ne-eqb _ 1 o, ne-eqb _ barred e)
 
--- The ways to the test whether a rule is set aside.
-module _ (P : Program) (i : ℕ) (h : i < count P) (D : FactSet) where
+-- The ways to the test whether a rule in force is set aside.
+module _ (P : Program) (i : ℕ) (h : i < count P) (o : inForce P i ≡ true) (D : FactSet) where
   tested : (p k f : Bool) → all D (rule P i .premises) ≡ p → clear D (rule P i .constraints) ≡ k → D (rule P i .conclusion) ≡ f → p && k && not f ≡ setAside P (inForce P) D i
   unfolding setAside
-  tested p k f a b c = rw (lt-ltb i (count P) h, a, b, c) refl
+  tested p k f a b c = rw (lt-ltb i (count P) h, o, a, b, c) refl
 
   pub a-premise-out : all D (rule P i .premises) ≡ false → false ≡ setAside P (inForce P) D i
   a-premise-out a = tested false _ _ a refl refl
@@ -86,7 +88,7 @@ module _ (P : Program) (i : ℕ) (h : i < count P) (D : FactSet) where
 
 -- The ways to the mark of one rule.
 module _ (P : Program) (s : Stand) (i : ℕ) (h : i < count P) (a : Bool) (q : a ≡ mem i (s .applied)) (D : FactSet) (d : D ≡ s .derived) where
-  rule-mark : cond (exception P i) (cond a 1 (cond (setAside P (inForce P) D i) 2 3)) 0 ≡ ruleMark P (inForce P) s i
+  rule-mark : cond (exception P i) (cond a 1 (cond (setAside P (inForce P) D i) 2 (cond (inForce P i) 3 4))) 0 ≡ ruleMark P (inForce P) s i
   unfolding ruleMark plain exception
   rule-mark = rw (q, d, lt-ltb i (count P) h) (go (null (rule P i .constraints)) _)
     where
@@ -102,8 +104,12 @@ module _ (P : Program) (s : Stand) (i : ℕ) (h : i < count P) (a : Bool) (q : a
     an-applied t = rw (e, t) at rule-mark
 
     module _ (t : a ≡ false) where
+      -- a rule that is set aside is in force
+      pub a-withheld : inForce P i ≡ false → 4 ≡ ruleMark P (inForce P) s i
+      a-withheld o = rw (e, t, false-of (setAside P (inForce P) D i) (λ u. never (aside-on P (inForce P) D i u) o), o) at rule-mark
+
       pub an-aside : setAside P (inForce P) D i ≡ true → 2 ≡ ruleMark P (inForce P) s i
       an-aside u = rw (e, t, u) at rule-mark
 
-      pub an-other : setAside P (inForce P) D i ≡ false → 3 ≡ ruleMark P (inForce P) s i
-      an-other u = rw (e, t, u) at rule-mark
+      pub an-other : inForce P i ≡ true → setAside P (inForce P) D i ≡ false → 3 ≡ ruleMark P (inForce P) s i
+      an-other o u = rw (e, t, u, o) at rule-mark

@@ -1,6 +1,7 @@
 // The marks that a run writes. Internal.
 ghost use Prim.Native.Nat.{_≤_, _<_};
 ghost use mathlib.Core.Path.{_≡_};
+ghost use mathlib.Core.Bool.{true};
 ghost use lib.ListN.{length};
 ghost use Rattle.theory.specs.Rule.{mem, Program, inForce, count};
 ghost use Rattle.theory.specs.Run.{Stand, rejected, setAside, ruleMark, factMarks, ruleMarks};
@@ -18,6 +19,7 @@ use tables::layout::rules_of;
 use tables::rule::conclusion_in;
 use tables::rule::constraints_clear;
 use tables::rule::is_exception;
+use tables::rule::is_withheld;
 use tables::rule::premises_in;
 
 // Fact marks: 1 in D, 2 in R, 0 open.
@@ -47,10 +49,13 @@ const SET_ASIDE: u8 = 2;
 
 const OTHER: u8 = 3;
 
-// Are the rule's premises in D, and none of its constraints and not its conclusion?
+const WITHHELD: u8 = 4;
+
+// Of a rule in force: are its premises in D, and none of its constraints and not its conclusion?
 fn is_set_aside(tables: &[u16; TABLE_CELLS], rule: RuleId, derived: &[u8; MAX_FACTS]) -> bool
     requires { ⌜ WellFormed (now tables) × (rule .0 < count (programIn (now tables))) ⌝ }
     requires { ⌜ programIn (now tables) .facts ≤ length (now derived) ⌝ }
+    requires { ⌜ inForce (programIn (now tables)) (rule .0) ≡ true ⌝ }
     ensures { λ r. ⌜ r ≡ setAside (programIn (now (tables .entry))) (inForce (programIn (now (tables .entry)))) (has (now (derived .entry))) (rule .0) ⌝ }
 {
     if !premises_in(tables, rule, derived) {
@@ -78,6 +83,9 @@ fn rule_mark(
     }
     if applied {
         return APPLIED;
+    }
+    if is_withheld(tables, rule) {
+        return WITHHELD;
     }
     if is_set_aside(tables, rule, derived) {
         return SET_ASIDE;

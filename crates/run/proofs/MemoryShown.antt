@@ -15,6 +15,7 @@ use Rattle.theory.proofs.Bools.{either, never, or-none}
 use Rattle.theory.proofs.Lists.{any-append}
 use Rattle.theory.proofs.Derive.{missing, fired-missing, fired-known, derive-closed}
 use Rattle.theory.proofs.Barred.{clear-meets}
+use Rattle.theory.proofs.Withheld.{plain-rules}
 use Rattle.items.specs.Item.{narrow, maxFacts, maxRules, has}
 use Rattle.items.specs.Write.{placed}
 use Rattle.items.proofs.PlacedBytes.{placed-front, placed-length}
@@ -62,8 +63,7 @@ outset-held P =
 -- The plain rules as a mask.
 module _ (P : Program) (mask : List ℕ) (q : has mask ≡ plainRules P (inForce P)) where
   at-plain : (i : ℕ) → has mask i ≡ plain P i
-  unfolding plainRules
-  at-plain i = ap (λ (on : ℕ → Bool). on i) q
+  at-plain i = ap (λ (on : ℕ → Bool). on i) q ∙ plain-rules P i
 
   pub only-plain : OnlyPlain P mask
   only-plain i t = sym (at-plain i) ∙ t

@@ -1,15 +1,15 @@
--- The marks that a run writes, read back: D, R, the plain rules, the rules applied and those set aside.
+-- The marks that a run writes, read back: D, R, the plain rules, the rules applied, those set aside and those withheld.
 use Prim.Native.Nat.{ℕ, _≤_, _<_}
 use native.Mathlib.Omega.{arith}
 use native.Mathlib.Decide.{decLt}
 use mathlib.Core.Path.{_≡_, refl, sym, _∙_, ap, fun-ext}
-use mathlib.Core.Bool.{Bool, true, false, cond, _&&_}
+use mathlib.Core.Bool.{Bool, true, false, cond, not, _&&_}
 use mathlib.Core.List.{List, map}
 use borrow.Author.Tests.{lt-ltb, le-ltb, ltb-true}
 use lib.ListN.{length, getD, take, drop, List·getD-append}
 use lib.Seq.{take-at, drop-at}
 use lib.Dec.{eqb, ltb}
-use Rattle.theory.specs.Rule.{mem, upTo, Program, Bounded, inForce, count, rule, plain}
+use Rattle.theory.specs.Rule.{mem, upTo, Program, Bounded, withheld, inForce, count, rule, plain}
 use Rattle.theory.specs.Run.{rejected, run, setAside, factMark, ruleMark, factMarks, ruleMarks}
 use Rattle.theory.proofs.Bools.{never, and-left, false-of}
 use Rattle.theory.proofs.Lists.{mapped-length, mapped-at, all-elem, any-witness}
@@ -17,6 +17,7 @@ use Rattle.theory.proofs.Run.{run-sound, run-disjoint, not-both, exception-know
 use Rattle.theory.proofs.Absent.{run-absent}
 use Rattle.theory.proofs.RunStable.{concluded-kept}
 use Rattle.theory.proofs.Marks.{aside-supported, aside-exception}
+use Rattle.theory.proofs.Withheld.{withheld-exception, plain-in-force, mark-off}
 use Rattle.items.specs.Write.{over}
 use Rattle.items.specs.Item.{marked}
 
@@ -81,46 +82,60 @@ module _ (P : Program) (b : Bounded P) (order : List ℕ) where
   unfolding ruleMark
   read-aside room =
       read-marks (ruleMark P (inForce P) (run P (inForce P) order)) (count P) 2 room (setAside P (inForce P) (run P (inForce P) order .derived))
-      (λ i _. two (plain P i) (mem i (run P (inForce P) order .applied)) (setAside P (inForce P) (run P (inForce P) order .derived) i)
+      (λ i _. two (plain P i) (mem i (run P (inForce P) order .applied)) (setAside P (inForce P) (run P (inForce P) order .derived) i) (inForce P i)
       (λ p a. not-both P (inForce P) i p (aside-exception P (inForce P) (run P (inForce P) order) (run-sound P (inForce P) order) i (aside-supported P (inForce P) (run P (inForce P) order .derived) i a)))
       (λ m a. never a (concluded-kept P (inForce P) (run P (inForce P) order .derived) i (run-sound P (inForce P) order .concluded i m))))
       (λ i l. false-of (setAside P (inForce P) (run P (inForce P) order .derived) i) (λ a. let k : i < count P = aside-supported P (inForce P) (run P (inForce P) order .derived) i a .known in absurd (omega arith)))
     where
-      two : (p a s : Bool) → (p ≡ true → s ≡ true → ⊥) → (a ≡ true → s ≡ true → ⊥) → eqb (cond p 0 (cond a 1 (cond s 2 3))) 2 ≡ s
-      two true a true n m = absurd (n refl refl)
-      two true a false n m = refl
-      two false true true n m = absurd (m refl refl)
-      two false true false n m = refl
-      two false false true n m = refl
-      two false false false n m = refl
+      two : (p a s o : Bool) → (p ≡ true → s ≡ true → ⊥) → (a ≡ true → s ≡ true → ⊥) → eqb (cond p 0 (cond a 1 (cond s 2 (cond o 3 4)))) 2 ≡ s
+      two true a true o n m = absurd (n refl refl)
+      two true a false o n m = refl
+      two false true true o n m = absurd (m refl refl)
+      two false true false o n m = refl
+      two false false true o n m = refl
+      two false false false true n m = refl
+      two false false false false n m = refl
 
   pub read-plain : (room : List ℕ) → marked (count P) 0 (over (ruleMarks P (inForce P) (run P (inForce P) order)) room) ≡ plain P
   unfolding ruleMark plain
   read-plain room =
       read-marks (ruleMark P (inForce P) (run P (inForce P) order)) (count P) 0 room (plain P)
-      (λ i _. zero-mark (plain P i) (mem i (run P (inForce P) order .applied)) (setAside P (inForce P) (run P (inForce P) order .derived) i))
+      (λ i _. zero-mark (plain P i) (mem i (run P (inForce P) order .applied)) (setAside P (inForce P) (run P (inForce P) order .derived) i) (inForce P i))
       (λ i l. false-of (plain P i) (λ a. let k : i < count P = ltb-true i (count P) (and-left (ltb i (count P)) _ a) in absurd (omega arith)))
     where
-      zero-mark : (p a s : Bool) → eqb (cond p 0 (cond a 1 (cond s 2 3))) 0 ≡ p
-      zero-mark true a s = refl
-      zero-mark false true s = refl
-      zero-mark false false true = refl
-      zero-mark false false false = refl
+      zero-mark : (p a s o : Bool) → eqb (cond p 0 (cond a 1 (cond s 2 (cond o 3 4)))) 0 ≡ p
+      zero-mark true a s o = refl
+      zero-mark false true s o = refl
+      zero-mark false false true o = refl
+      zero-mark false false false true = refl
+      zero-mark false false false false = refl
 
   pub read-applied : (room : List ℕ) → marked (count P) 1 (over (ruleMarks P (inForce P) (run P (inForce P) order)) room) ≡ (λ i. mem i (run P (inForce P) order .applied))
   unfolding ruleMark
   read-applied room =
       read-marks (ruleMark P (inForce P) (run P (inForce P) order)) (count P) 1 room (λ i. mem i (run P (inForce P) order .applied))
-      (λ i _. one (plain P i) (mem i (run P (inForce P) order .applied)) (setAside P (inForce P) (run P (inForce P) order .derived) i)
+      (λ i _. one (plain P i) (mem i (run P (inForce P) order .applied)) (setAside P (inForce P) (run P (inForce P) order .derived) i) (inForce P i)
       (λ p m. not-both P (inForce P) i p (run-sound P (inForce P) order .excepted i m)))
       (λ i l. false-of (mem i (run P (inForce P) order .applied)) (λ m. let k : i < count P = exception-known P (inForce P) i (run-sound P (inForce P) order .excepted i m) in absurd (omega arith)))
     where
-      one : (p a s : Bool) → (p ≡ true → a ≡ true → ⊥) → eqb (cond p 0 (cond a 1 (cond s 2 3))) 1 ≡ a
-      one true true s n = absurd (n refl refl)
-      one true false s n = refl
-      one false true s n = refl
-      one false false true n = refl
-      one false false false n = refl
+      one : (p a s o : Bool) → (p ≡ true → a ≡ true → ⊥) → eqb (cond p 0 (cond a 1 (cond s 2 (cond o 3 4)))) 1 ≡ a
+      one true true s o n = absurd (n refl refl)
+      one true false s o n = refl
+      one false true s o n = refl
+      one false false true o n = refl
+      one false false false true n = refl
+      one false false false false n = refl
+
+  pub read-withheld : (room : List ℕ) → marked (count P) 4 (over (ruleMarks P (inForce P) (run P (inForce P) order)) room) ≡ withheld P
+  unfolding inForce
+  read-withheld room =
+      read-marks (ruleMark P (inForce P) (run P (inForce P) order)) (count P) 4 room (withheld P)
+      (λ i _. mark-off P (inForce P) order i (λ o. false-of (plain P i) (λ p. never (plain-in-force P i p) o)) ∙ twice (withheld P i))
+      (λ i l. false-of (withheld P i) (λ w. let k : i < count P = exception-known P (inForce P) i (withheld-exception P i w) in absurd (omega arith)))
+    where
+      twice : (b : Bool) → not (not b) ≡ b
+      twice true = refl
+      twice false = refl
 
 -- what is past the front of a buffer keeps its contents
 pub over-kept : (xs ys : List ℕ) (n : ℕ) → length xs ≡ n → drop n (over xs ys) ≡ drop n ys

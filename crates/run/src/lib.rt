@@ -13,7 +13,7 @@ use reader::answer::Asked;
 use tables::layout::TABLE_CELLS;
 
 // Runs a file under an order: writes the fact marks (0 open, 1 in D, 2 in R), the rule marks (0 plain, 1 applied at a stage, 2 set aside,
-// 3 other) and the steps, and answers the counts of stages and of steps, or the first no.
+// 3 other, 4 withheld) and the steps, and answers the counts of stages and of steps, or the first no.
 pub fn run(
     file: &[u8],
     order: &[u8],

@@ -29,6 +29,7 @@ file-early =
       nine = (omega arith, λ e. omega arith);
       ten = (omega arith, λ e. omega arith);
       fifty-one = (omega arith, λ e. omega arith);
+      fifty-six = (omega arith, λ e. omega arith);
     }
 
 pub early-numbers : (file : List ℕ) (facts rules steps order : ℕ) (r : Refusal) → earlyNo file facts rules steps order ≡ some r → Early r

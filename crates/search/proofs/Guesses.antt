@@ -9,15 +9,15 @@ use Rattle.theory.specs.Search.{guessed}
 use Rattle.theory.proofs.Lists.{mem-downFrom, keep-same}
 use Rattle.items.specs.Item.{narrow, maxFacts, has}
 use Rattle.reader.specs.Questions.{constraintFacts}
-use Rattle.reader.proofs.RulesCounted.{painted-count}
 use Rattle.marking.specs.Marks.{paint}
 use Rattle.marking.proofs.MarksPainted.{painted}
+use Rattle.marking.proofs.RulesMarked.{painted-count}
 
 -- The constraint facts, as marked.
 module _ (P : Program) (h : P .facts ≤ maxFacts narrow) (marks : List ℕ) (m : marks ≡ paint (constraintFact P (inForce P)) (replicate (maxFacts narrow) 0)) (n : ℕ) (f : n ≡ P .facts) where
   pub guesses-counted : howMany (has marks) (upTo n) ≡ constraintFacts P
-  unfolding has
-  guesses-counted = ap₂ (λ (l : List ℕ) (k : ℕ). howMany (has l) (upTo k)) m f ∙ painted-count P (maxFacts narrow) h
+  unfolding constraintFacts
+  guesses-counted = painted-count (maxFacts narrow) (constraintFact P (inForce P)) n (P .facts) f h marks m
 
   pub guesses-listed : keep (has marks) (downFrom n) ≡ guessed P (inForce P)
   unfolding has guessed

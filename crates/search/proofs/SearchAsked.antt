@@ -1,12 +1,16 @@
 -- The questions before a search, and what a yes to all of them tells.
 use Prim.Native.Nat.{ℕ, _*_, _≤_, _<_}
 use mathlib.Core.Path.{_≡_, sym, ap, _∙_}
+use mathlib.Core.Bool.{true, false, _&&_}
 use mathlib.Core.List.{List, _++_}
 use mathlib.Core.Option.{Option, none, some}
 use native.Mathlib.Omega.{arith}
-use borrow.Author.Tests.{le-leb, lt-leb, leb-true}
-use lib.Dec.{leb}
-use Rattle.theory.specs.Rule.{Program}
+use borrow.Author.Tests.{le-leb, lt-leb, leb-true, ltb-true, ltb-false, le-ltb}
+use lib.Dec.{leb, ltb}
+use Rattle.theory.specs.Rule.{mem, upTo, Program, count, rule, constraintFact, everyRule, inForce}
+use Rattle.theory.proofs.Bools.{and-left, and-right, and-both, not-of-false}
+use Rattle.theory.proofs.Lists.{howMany-mono, any-witness, any-of, clear-elem, mem-upTo}
+use Rattle.theory.proofs.Withheld.{in-force-read}
 use Rattle.items.specs.declared.refusal.Refusal.{Refusal}
 use Rattle.items.specs.declared.refusal.Refusal.the-variants.{OrderShort, TooManyConstraints}
 use Rattle.items.specs.Item.{narrow, nameWidth, maxGuessed}
@@ -16,7 +20,7 @@ use Rattle.tables.specs.Layout.{programIn}
 use Rattle.reader.specs.declared.answer.FileCounts.{FileCounts}
 use Rattle.reader.specs.Questions.{programOf, fileQuestions, fileNo, exceptions, constraintFacts}
 use Rattle.reader.specs.declared.answer.Asked.the-variants as asked
-use Rattle.reader.specs.Asked.{countsOf, fileAsked}
+use Rattle.reader.specs.Asked.{constrainedFacts, countsOf, fileAsked}
 use Rattle.reader.proofs.Accepted.{all-asked}
 use Rattle.questions.specs.declared.answer.Answer.the-variants.{Yes, No}
 use Rattle.questions.specs.Answer.{answerOf}
@@ -24,26 +28,38 @@ use Rattle.questions.specs.Questions.{bufferQuestions, buffersNo, limitQuestion
 use Rattle.questions.proofs.NamesAsked.{said-yes, said-no}
 use Rattle.questions.proofs.OperationAsked.{file-refused, file-accepted}
 
+-- A constraint fact is read and a constraint of some rule.
+few-constrained : (P : Program) → constraintFacts P ≤ constrainedFacts P
+unfolding constraintFacts constrainedFacts constraintFact
+few-constrained P =
+    howMany-mono _ (constraintFact P (inForce P)) (upTo (P .facts)) (λ k t.
+    let (i, m, q) = any-witness (λ i. inForce P i && mem k (rule P i .constraints)) (upTo (count P)) t in
+    let named : mem k (rule P i .constraints) ≡ true = and-right (inForce P i) _ q in
+    and-both
+    (not-of-false (clear-elem (P .unread) (rule P i .constraints) (in-force-read P i (mem-upTo (count P) i m) (and-left _ _ q)) k named))
+    (any-of (λ i. everyRule i && mem k (rule P i .constraints)) (upTo (count P)) i m named))
+
+-- So where these are few enough there are not too many constraint facts.
+pub few-enough : (P : Program) (constrained : ℕ) → constrained ≡ constrainedFacts P → constrained ≤ maxGuessed → false ≡ ltb maxGuessed (constraintFacts P)
+few-enough P constrained e h = sym (le-ltb maxGuessed (constraintFacts P) (omega (arith, few-constrained P)))
+
 -- The ways of the questions on the order's length and on the constraint facts, by the counts of the file.
 module _ (P : Program) (counts : FileCounts) (order : ℕ) (e : counts ≡ countsOf P) where
   named : counts .exceptions ≡ exceptions P
   named = ap (λ (c : FileCounts). c .exceptions) e
-
-  guessed : counts .constraints ≡ constraintFacts P
-  guessed = ap (λ (c : FileCounts). c .constraints) e
 
   pub order-short : order < nameWidth * counts .exceptions → No OrderShort ≡ answerOf (limitsNo P order)
   unfolding limitQuestions
   order-short h = rw (lt-leb (nameWidth * exceptions P) order (omega (arith, named)))
 
   module _ (l : nameWidth * counts .exceptions ≤ order) where
-    pub too-many : maxGuessed < counts .constraints → No TooManyConstraints ≡ answerOf (limitsNo P order)
+    pub too-many : ltb maxGuessed (constraintFacts P) ≡ true → No TooManyConstraints ≡ answerOf (limitsNo P order)
     unfolding limitQuestions
-    too-many h = rw (le-leb (nameWidth * exceptions P) order (omega (arith, named)), lt-leb (constraintFacts P) maxGuessed (omega (arith, guessed)))
+    too-many h = rw (le-leb (nameWidth * exceptions P) order (omega (arith, named)), lt-leb (constraintFacts P) maxGuessed (ltb-true _ _ h))
 
-    pub within-limits : counts .constraints ≤ maxGuessed → Yes ≡ answerOf (limitsNo P order)
+    pub within-limits : ltb maxGuessed (constraintFacts P) ≡ false → Yes ≡ answerOf (limitsNo P order)
     unfolding limitQuestions
-    within-limits h = rw (le-leb (nameWidth * exceptions P) order (omega (arith, named)), le-leb (constraintFacts P) maxGuessed (omega (arith, guessed)))
+    within-limits h = rw (le-leb (nameWidth * exceptions P) order (omega (arith, named)), le-leb (constraintFacts P) maxGuessed (ltb-false _ _ h))
 
 -- The questions of the buffers, then of the limits.
 module _ (P : Program) (facts rules steps order : ℕ) where

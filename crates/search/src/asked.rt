@@ -1,28 +1,42 @@
 // The questions of a search on an accepted file, but for the last. Internal.
 ghost use mathlib.Core.Path.{_≡_};
 ghost use mathlib.Core.List.{_++_};
-ghost use Rattle.theory.specs.Rule.{Program};
+ghost use lib.Dec.{ltb};
 ghost use Rattle.items.specs.Question.{firstNo};
-ghost use Rattle.items.specs.Item.{narrow};
+ghost use Rattle.items.specs.Item.{narrow, maxGuessed};
 ghost use Rattle.tables.specs.Layout.{programIn, WellFormed};
-ghost use Rattle.reader.specs.Asked.{countsOf};
+ghost use Rattle.reader.specs.Questions.{constraintFacts};
+ghost use Rattle.reader.specs.Asked.{constrainedFacts, countsOf};
 ghost use Rattle.questions.specs.Answer.{answerOf};
 ghost use Rattle.questions.specs.Questions.{limitsNo, bufferQuestions, limitQuestions};
 use earliest::guessed::MAX_GUESSED;
 use items::lengths::NAME_WIDTH;
 use items::refusal::Refusal;
+use marking::marks::count_constraint_facts;
 use questions::answer::Answer;
 use reader::answer::FileCounts;
 use tables::layout::TABLE_CELLS;
 
+// Are there more constraint facts than are guessed? Each of them is read and a constraint of some rule, so where there are few of these nothing is counted.
+fn too_many_guesses(tables: &[u16; TABLE_CELLS], constrained: u16) -> bool
+    requires { ⌜ WellFormed (now tables) × (constrained ≡ constrainedFacts (programIn (now tables))) ⌝ }
+    ensures { λ r. ⌜ r ≡ ltb maxGuessed (constraintFacts (programIn (now (tables .entry)))) ⌝ }
+{
+    if constrained as usize <= MAX_GUESSED {
+        return false;
+    }
+    MAX_GUESSED < count_constraint_facts(tables) as usize
+}
+
 // Questions 34 and 40, by the counts of the file and the length of the order's buffer.
-fn ask_limits(counts: FileCounts, order: usize) -> Answer
-    ensures { λ r. ⌜ ((P : Program) → counts ≡ countsOf P → r ≡ answerOf (limitsNo P order)) ⌝ }
+fn ask_limits(tables: &[u16; TABLE_CELLS], counts: FileCounts, order: usize) -> Answer
+    requires { ⌜ WellFormed (now tables) × (counts ≡ countsOf (programIn (now tables))) ⌝ }
+    ensures { λ r. ⌜ r ≡ answerOf (limitsNo (programIn (now (tables .entry))) order) ⌝ }
 {
     if order < NAME_WIDTH * (counts.exceptions as usize) {
         return Answer::No(Refusal::OrderShort);
     }
-    if MAX_GUESSED < counts.constraints as usize {
+    if too_many_guesses(tables, counts.constrained) {
         return Answer::No(Refusal::TooManyConstraints);
     }
     Answer::Yes
@@ -42,6 +56,6 @@ pub fn ask_search(
 {
     match questions::buffers::ask_buffers(tables, facts, rules, steps) {
         Answer::No(r) => Answer::No(r),
-        Answer::Yes => ask_limits(counts, order),
+        Answer::Yes => ask_limits(tables, counts, order),
     }
 }

@@ -10,12 +10,13 @@ use borrow.Author.Tests.{eqb-true, eq-eqb, ne-eqb}
 use lib.ListN.{length, getD, take, drop}
 use lib.Seq.{getD-take, drop-at, length-take-le}
 use lib.Dec.{eqb}
-use Rattle.theory.specs.Rule.{all, clear, mem, Program, Mask, FactSet, inForce, count, rule, exception, plainRules}
+use Rattle.theory.specs.Rule.{all, clear, mem, Program, Mask, FactSet, withheld, inForce, count, rule, exception, plainRules}
 use Rattle.theory.specs.Run.{Stand, rejected, eligible, firstEligible}
 use Rattle.theory.proofs.Bools.{never, or-right, and-right, false-of}
 use Rattle.theory.proofs.Lists.{getD-mem, clear-anti, seek-at, none-passes}
 use Rattle.theory.proofs.Run.{eligible-parts, exception-known, trial-above}
 use Rattle.theory.proofs.Barred.{conclusion-barred}
+use Rattle.theory.proofs.Withheld.{withheld-off}
 use Rattle.items.specs.declared.item.FactId.{FactId}
 use Rattle.items.specs.Item.{narrow, maxFacts, factId, has}
 use Rattle.marking.specs.Marks.{barred, barredIn}
@@ -136,7 +137,11 @@ module _ (marks : List ℕ) {f : FactId} {g : ℕ} (e : f ≡ factId g) where
   unfolding barredIn
   mark-barred t = eq-eqb _ _ (ap (λ (h : FactId). getD marks (h .0) 0) (sym e) ∙ t)
 
--- What refuses a rule before a trial.
+-- What refuses a rule before a trial: it is withheld,
+pub passed-over : (P : Program) (s : Stand) (i : ℕ) → withheld P i ≡ true → eligible P (inForce P) s i ≡ false
+passed-over P s i h = false-of _ (λ u. never (eligible-parts P (inForce P) s i u .in-force) (withheld-off P i h))
+
+-- or the memory shows it refused.
 module _ {P : Program} {s : Stand} {marks fired : List ℕ} {n : ℕ} (w : Holds P s marks fired n) (i : ℕ) where
   pub concluded : has marks (rule P i .conclusion) ≡ true → eligible P (inForce P) s i ≡ false
   concluded t =

@@ -142,7 +142,7 @@ module _ (P : Program) (bounds : Bounded P) (few : P .facts < maxFacts narrow) (
               ∙ take-take n (n + 1) (set fired n i) (omega arith)
               ∙ take-set-le n fired n i (omega arith)
 
-      module _ (m : Meets ≡ false) (prem : all (s .derived) (rule P i .premises) ≡ true) (x : exception P i ≡ true) (marks′ fired′ : List ℕ) (d : marks′ ≡ paint (derive P on (has entered)) entered) (r : fired′ ≡ placed (firedFrom P on (has entered)) (n + 1) (set fired n i)) where
+      module _ (m : Meets ≡ false) (prem : all (s .derived) (rule P i .premises) ≡ true) (x : exception P i ≡ true) (o : inForce P i ≡ true) (marks′ fired′ : List ℕ) (d : marks′ ≡ paint (derive P on (has entered)) entered) (r : fired′ ≡ placed (firedFrom P on (has entered)) (n + 1) (set fired n i)) where
         abbrev more : List ℕ
         more = firedFrom P (plainRules P (inForce P)) (conclude P (s .derived) i)
 
@@ -221,7 +221,7 @@ module _ (P : Program) (bounds : Bounded P) (few : P .facts < maxFacts narrow) (
         closure-passes {missing′} c =
             rw same-more
             (record {
-              is-eligible = trial-eligible P (inForce P) s i (barredIn bars) barred-both apart free unmet-any x refl (ap (λ (S : FactSet). S (rule P i .conclusion)) (sym (w .shows .d)) ∙ out) prem;
+              is-eligible = trial-eligible P (inForce P) s i (barredIn bars) barred-both apart free unmet-any x o (ap (λ (S : FactSet). S (rule P i .conclusion)) (sym (w .shows .d)) ∙ out) prem;
               holds =
                   record {
                     shows = record { d = shows-d; r = shows-r };
@@ -247,7 +247,7 @@ pub record Trying (P : Program) (i : ℕ) (index marks missing : List ℕ) (n : 
   pub poised : (counts ready : List ℕ) → Enters (f .0) index missing (replicate rowWords 0) counts ready → Poised P (maskIn index) (has (set copy (f .0) 1)) counts ready
   pub refused : getD copy (f .0) 0 ≡ barred → (fired : List ℕ) (s : Stand) → Holds P s marks fired n → Fails P s i n marks missing fired
   pub fails : (getD copy (f .0) 0 ≡ barred → ⊥) → (fired marks′ counts fired′ : List ℕ) (r : Derivation) → Derived P (maskIn index) (set copy (f .0) 1) (set fired n i) (n + 1) r marks′ counts fired′ → r ≡ Barred → (s : Stand) → Holds P s marks fired n → Fails P s i n marks missing fired′
-  pub passes : (getD copy (f .0) 0 ≡ barred → ⊥) → (fired marks′ counts fired′ : List ℕ) (r : Derivation) → Derived P (maskIn index) (set copy (f .0) 1) (set fired n i) (n + 1) r marks′ counts fired′ → (m : ℕ) → r ≡ Closed m → (s : Stand) → Holds P s marks fired n → all (s .derived) (rule P i .premises) ≡ true → exception P i ≡ true → Passes P s i fired n marks′ counts fired′ m
+  pub passes : (getD copy (f .0) 0 ≡ barred → ⊥) → (fired marks′ counts fired′ : List ℕ) (r : Derivation) → Derived P (maskIn index) (set copy (f .0) 1) (set fired n i) (n + 1) r marks′ counts fired′ → (m : ℕ) → r ≡ Closed m → (s : Stand) → Holds P s marks fired n → all (s .derived) (rule P i .premises) ≡ true → exception P i ≡ true → inForce P i ≡ true → Passes P s i fired n marks′ counts fired′ m
 
 pub trying : (P : Program) → Bounded P → P .facts < maxFacts narrow → (i : ℕ) → i < count P → (index : List ℕ) → PlainIndexed P index → maskIn index ≡ plainRules P (inForce P) → (marks : List ℕ) (n : ℕ) → Room P marks n → has marks (rule P i .conclusion) ≡ false → clear (has marks) (rule P i .constraints) ≡ true → (missing : List ℕ) → AtRest P (maskIn index) (has marks) missing → (copy : List ℕ) → copy ≡ paintAs barred (λ k. mem k (rule P i .constraints)) marks → (f : FactId) → f ≡ factId (rule P i .conclusion) → Trying P i index marks missing n copy f
 unfolding barredIn
@@ -264,10 +264,10 @@ trying P b few i known index ix p marks n room out own-out missing rest copy e f
       fails = λ t fired marks′ counts fired′ r d a s w.
           let v : Derived P (maskIn index) (entered P b few i known marks n room out own-out) (set fired n i) (n + 1) r marks′ counts fired′ = rw concludes at d in
           closure-fails P b few i known marks n room out own-out fired s w (rw (← concludes) (ne-eqb _ _ t)) (maskIn index) p fired′ (met _ _ (sym a ∙ v .answer)) (v .cells) (v .kept) (rests-at s w);
-      passes = λ t fired marks′ counts fired′ r d m a s w prem x.
+      passes = λ t fired marks′ counts fired′ r d m a s w prem x o.
           let v : Derived P (maskIn index) (entered P b few i known marks n room out own-out) (set fired n i) (n + 1) r marks′ counts fired′ = rw concludes at d in
           let u = unmet _ _ m (sym a ∙ v .answer) in
-          rw (u .1) (closure-passes P b few i known marks n room out own-out fired s w (rw (← concludes) (ne-eqb _ _ t)) (maskIn index) p (u .0) prem x marks′ fired′ (v .facts (u .0)) (v .rules (u .0)) (v .counted (u .0)));
+          rw (u .1) (closure-passes P b few i known marks n room out own-out fired s w (rw (← concludes) (ne-eqb _ _ t)) (maskIn index) p (u .0) prem x o marks′ fired′ (v .facts (u .0)) (v .rules (u .0)) (v .counted (u .0)));
     })
   where
     concludes : f .0 ≡ rule P i .conclusion

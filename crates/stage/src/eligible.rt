@@ -24,6 +24,7 @@ use tables::layout::TABLE_CELLS;
 use tables::own::constraint_at;
 use tables::own::constraint_span;
 use tables::rule::conclusion;
+use tables::rule::is_withheld;
 
 // Takes the awake places of the order in turn, up to the first whose rule is eligible, and makes its stage.
 pub fn first_eligible(
@@ -47,6 +48,10 @@ pub fn first_eligible(
             break 'rules Staged::Nothing;
         };
         let rule = RuleId(row[place]);
+        // A withheld rule of the order: "the run passes over them".
+        if is_withheld(tables, rule) {
+            continue 'rules;
+        }
         let fact = conclusion(tables, rule);
         let f = fact.0 as usize;
         if marks[f] == IN {

@@ -42,7 +42,7 @@ pub fn trial(
     requires { ⌜ Room (programIn (now tables)) (now marks) count × (length (now fired) ≡ maxFacts narrow) ⌝ }
     requires { ⌜ (has (now marks) (ruleOf (programIn (now tables)) (rule .0) .conclusion) ≡ false) × (clear (has (now marks)) (ruleOf (programIn (now tables)) (rule .0) .constraints) ≡ true) ⌝ }
     requires { ⌜ AtRest (programIn (now tables)) (maskIn (now index)) (has (now marks)) (now missing) ⌝ }
-    ensures { λ r. ⌜ ((s : Stand) → Holds (programIn (now (tables .entry))) s (now (marks .entry)) (now (fired .entry)) count → all (s .derived) (ruleOf (programIn (now (tables .entry))) (rule .0) .premises) ≡ true → exception (programIn (now (tables .entry))) (rule .0) ≡ true → Tried (programIn (now (tables .entry))) s (rule .0) (now (fired .entry)) count r (now (marks .exit)) (now (missing .exit)) (now (fired .exit))) ⌝ }
+    ensures { λ r. ⌜ ((s : Stand) → Holds (programIn (now (tables .entry))) s (now (marks .entry)) (now (fired .entry)) count → all (s .derived) (ruleOf (programIn (now (tables .entry))) (rule .0) .premises) ≡ true → exception (programIn (now (tables .entry))) (rule .0) ≡ true → inForce (programIn (now (tables .entry))) (rule .0) ≡ true → Tried (programIn (now (tables .entry))) s (rule .0) (now (fired .entry)) count r (now (marks .exit)) (now (missing .exit)) (now (fired .exit))) ⌝ }
 {
     let mut set = *marks;
     mark_own(tables, rule, BARRED, &mut set);

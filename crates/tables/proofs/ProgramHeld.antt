@@ -3,10 +3,10 @@ use Prim.Native.Nat.{ℕ, _-_, _<_, _≤_}
 use mathlib.Core.Path.{_≡_, refl}
 use mathlib.Core.List.{List}
 use native.Mathlib.Omega.{arith}
-use Rattle.theory.specs.Rule.{blank, count, rule}
+use Rattle.theory.specs.Rule.{blank, count, rule, withheld}
 use Rattle.theory.proofs.Lists.{mapped-length, mapped-at}
 use Rattle.items.specs.Item.{narrow, maxFacts, maxRules}
-use Rattle.tables.specs.Layout.{factsIn, rulesIn, ruleIn, programIn, WellFormed}
+use Rattle.tables.specs.Layout.{factsIn, rulesIn, ruleIn, withheldIn, programIn, WellFormed}
 
 -- its counts
 pub facts-held : (T : List ℕ) → programIn T .facts ≡ factsIn T
@@ -35,6 +35,10 @@ module _ {T : List ℕ} (w : WellFormed T) where
 
     pub in-table : i < maxRules
     in-table = omega (arith, h, rules-below)
+
+    -- the mark of a withheld rule tells it
+    pub withheld-marked : withheldIn T i ≡ withheld (programIn T) i
+    withheld-marked = w .marks-withheld i known
 
     pub conclusion-below : rule (programIn T) i .conclusion < programIn T .facts
     conclusion-below = w .in-bounds .conclusion-below i h

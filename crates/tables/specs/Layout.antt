@@ -2,13 +2,15 @@
 -- above it no operation but the view of a rule looks at a byte of the file.
 --
 -- First the counts of facts and of rules; then for each rule its conclusion, the place in the file behind the item that opens it, where its
--- premises start, and where its constraints start; then one row for the premises of all rules, from the front, and the constraints of all
--- rules, from the back.
+-- premises start, and where its constraints start; then for each fact whether it is unread, and for each rule whether it is withheld; then one row for the
+-- premises of all rules, from the front, and the constraints of all rules, from the back.
 use Prim.Native.Nat.{ℕ, zero, suc, _+_, _-_, _*_, _<_, _≤_}
 use mathlib.Core.Path.{_≡_}
+use mathlib.Core.Bool.{Bool, _&&_}
 use mathlib.Core.List.{List, [], _∷_, map}
 use lib.ListN.{getD}
-use Rattle.theory.specs.Rule.{upTo, Rule, Program, Bounded}
+use lib.Dec.{eqb, ltb}
+use Rattle.theory.specs.Rule.{upTo, Rule, Program, FactSet, Bounded, withheld}
 use Rattle.items.specs.Item.{narrow, maxFacts, maxRules, maxRuleItems}
 
 -- The most premises and constraints of all rules of a file together, repeats counted.
@@ -34,8 +36,14 @@ premiseStartsFrom = placesFrom + maxRules
 abbrev pub constraintStartsFrom : ℕ
 constraintStartsFrom = premiseStartsFrom + (maxRules + 1)
 
+abbrev pub unreadFrom : ℕ
+unreadFrom = constraintStartsFrom + (maxRules + 1)
+
+abbrev pub withheldFrom : ℕ
+withheldFrom = unreadFrom + maxFacts narrow
+
 abbrev pub ownFrom : ℕ
-ownFrom = constraintStartsFrom + (maxRules + 1)
+ownFrom = withheldFrom + maxRules
 
 abbrev pub tableCells : ℕ
 tableCells = ownFrom + maxOwn
@@ -61,6 +69,13 @@ premiseStart T i = getD T (premiseStartsFrom + i) 0
 
 abbrev pub constraintStart : List ℕ → ℕ → ℕ
 constraintStart T i = getD T (constraintStartsFrom + i) 0
+
+-- the facts that are marked as unread, of so many facts, and the rules that are marked as withheld
+abbrev pub unreadIn : List ℕ → ℕ → FactSet
+unreadIn T facts f = ltb f facts && eqb (getD T (unreadFrom + f) 0) 1
+
+abbrev pub withheldIn : List ℕ → ℕ → Bool
+withheldIn T i = eqb (getD T (withheldFrom + i) 0) 1
 
 -- the premise, and the constraint, at place j of their row
 abbrev pub premiseAt : List ℕ → ℕ → ℕ
@@ -88,7 +103,7 @@ ruleIn T i =
     }
 
 unfoldable pub programIn : List ℕ → Program
-programIn T = record { facts = factsIn T; rules = map (ruleIn T) (upTo (rulesIn T)) }
+programIn T = record { facts = factsIn T; rules = map (ruleIn T) (upTo (rulesIn T)); unread = unreadIn T (factsIn T) }
 
 -- The premises of a rule, or its constraints, are the elements of their row from one place up to another, each a fact of the program.
 pub record Spanned (facts : ℕ) (row : ℕ → ℕ) (elements : List ℕ) (from end : ℕ) : Type 0 where
@@ -109,3 +124,4 @@ pub record WellFormed (T : List ℕ) : Type 0 where
   pub premise-spans : Spans (premiseStart T) (rulesIn T)
   pub constraint-spans : Spans (constraintStart T) (rulesIn T)
   pub in-bounds : Bounded (programIn T)
+  pub marks-withheld : (i : ℕ) → i < rulesIn T → withheldIn T i ≡ withheld (programIn T) i

@@ -2,6 +2,7 @@
 ghost use mathlib.Core.Path.{_≡_};
 ghost use Rattle.theory.specs.Rule.{count};
 ghost use Rattle.tables.specs.Layout.{programIn};
+use items::item::MAX_FACTS;
 use items::item::MAX_RULE_ITEMS;
 use items::item::MAX_RULES;
 
@@ -20,8 +21,13 @@ pub const PREMISE_STARTS: usize = PLACES + MAX_RULES;
 
 pub const CONSTRAINT_STARTS: usize = PREMISE_STARTS + (MAX_RULES + 1);
 
+// 1 for each fact that is unread, and for each rule that is withheld.
+pub const UNREAD: usize = CONSTRAINT_STARTS + (MAX_RULES + 1);
+
+pub const WITHHELD: usize = UNREAD + MAX_FACTS;
+
 // The premises of all rules from the front, the constraints of all rules from the back.
-pub const OWN: usize = CONSTRAINT_STARTS + (MAX_RULES + 1);
+pub const OWN: usize = WITHHELD + MAX_RULES;
 
 pub const TABLE_CELLS: usize = OWN + MAX_OWN;
 

@@ -2,11 +2,12 @@
 ghost use Prim.Native.Nat.{_<_, _≤_};
 ghost use mathlib.Core.Path.{_≡_};
 ghost use lib.ListN.{length};
-ghost use Rattle.theory.specs.Rule.{all, clear, count, exception, rule as ruleOf};
+ghost use Rattle.theory.specs.Rule.{all, clear, count, exception, withheld, rule as ruleOf};
 ghost use Rattle.items.specs.Item.{factId, has};
 ghost use Rattle.tables.specs.Layout.{programIn, WellFormed};
 use crate::layout::CONCLUSIONS;
 use crate::layout::TABLE_CELLS;
+use crate::layout::WITHHELD;
 use crate::own::constraint_at;
 use crate::own::constraint_span;
 use crate::own::premise_at;
@@ -41,6 +42,15 @@ pub fn is_exception(tables: &[u16; TABLE_CELLS], rule: RuleId) -> bool
 {
     let own = constraint_span(tables, rule);
     own.from < own.end
+}
+
+// Is it withheld?
+pub fn is_withheld(tables: &[u16; TABLE_CELLS], rule: RuleId) -> bool
+    requires { ⌜ WellFormed (now tables) × (rule .0 < count (programIn (now tables))) ⌝ }
+    ensures { λ r. ⌜ r ≡ withheld (programIn (now (tables .entry))) (rule .0) ⌝ }
+{
+    let number = rule.0 as usize;
+    tables[WITHHELD + number] == 1
 }
 
 // Are its premises in the set?

@@ -46,15 +46,16 @@ mark-one : (P : Program) (on : Mask) (s : Stand) → Sound P on s → (i : ℕ) 
 unfolding ruleMark
 mark-one P on s v i = go (plain P i) refl (mem i (s .applied)) refl
   where
-    other : (b : Bool) → eqb (cond b 2 3) 1 ≡ false
-    other true = refl
-    other false = refl
+    other : (b o : Bool) → eqb (cond b 2 (cond o 3 4)) 1 ≡ false
+    other true o = refl
+    other false true = refl
+    other false false = refl
 
-    go : (p : Bool) → plain P i ≡ p → (m : Bool) → mem i (s .applied) ≡ m → eqb (cond p 0 (cond m 1 (cond (setAside P on (s .derived) i) 2 3))) 1 ≡ m
+    go : (p : Bool) → plain P i ≡ p → (m : Bool) → mem i (s .applied) ≡ m → eqb (cond p 0 (cond m 1 (cond (setAside P on (s .derived) i) 2 (cond (on i) 3 4)))) 1 ≡ m
     go true e true m = absurd (not-both P on i e (v .excepted i m))
     go true e false m = refl
     go false e true m = refl
-    go false e false m = other (setAside P on (s .derived) i)
+    go false e false m = other (setAside P on (s .derived) i) (on i)
 
 -- The stage count is the number of rule marks 1.
 pub run-stages : (P : Program) (on : Mask) (order : List ℕ) → howMany (λ m. eqb m 1) (ruleMarks P on (run P on order)) ≡ stageCount (run P on order)

@@ -14,7 +14,7 @@ use Rattle.theory.specs.Walk.{picks, after}
 use Rattle.theory.specs.Layers.{Ranks, Link, Depends, Chain, barred, Cycle}
 use Rattle.theory.proofs.Bools.{either, never, and-left, and-right, and-both, or-left, or-right, or-cases, or-assoc, not-of-false, false-of}
 use Rattle.theory.proofs.Lists.{Found, seek-some, seek-none, all-elem, any-witness, any-of, upTo-mem, mem-upTo, howMany-mono, howMany-less}
-use Rattle.theory.proofs.Counted.{counted-most}
+use Rattle.theory.proofs.Counted.{counted-most, counted-below}
 use Rattle.theory.proofs.Derive.{missing, adjoin-above, adjoin-has, out-below}
 use Rattle.theory.proofs.Stable.{constraint-of}
 use Rattle.theory.proofs.Walk as walk
@@ -220,11 +220,11 @@ module _ (P : Program) (on : Mask) where
             let barred-by : bars (rule P i .conclusion) f ≡ true = bars-of (rule P i .conclusion) f i u o (reach-self (rule P i .conclusion)) m in
             howMany-less _ _ (upTo (P .facts)) (bars-link (rule P i .conclusion) (link i f true) d) f (upTo-mem (P .facts) f low) barred-by (free f low)
 
-    pub cycle-or-ranks : Cycle P on ⊎ ((rank : ℕ → ℕ) × Ranks P on rank × ((f : ℕ) → rank f ≤ howMany (constraintFact P on) (upTo (P .facts))))
+    pub cycle-or-ranks : Cycle P on ⊎ ((rank : ℕ → ℕ) × Ranks P on rank × ((f : ℕ) → rank f ≤ howMany (constraintFact P on) (upTo (P .facts))) × ((f : ℕ) → f < P .facts → rank f < P .facts))
     cycle-or-ranks =
         ⊎-elim
         (λ e. let (k, _, t) = any-witness (λ k. bars k k) (upTo (P .facts)) e in inl (bars-cycle k t))
-        (λ e. inr (barCount, bar-ranks (none-below (λ k. bars k k) (P .facts) e), few))
+        (λ e. let free = none-below (λ k. bars k k) (P .facts) e in inr (barCount, bar-ranks free, few, λ f l. counted-below (bars f) (P .facts) f l (free f l)))
         (either (any (λ k. bars k k) (upTo (P .facts))))
       where
         few : (f : ℕ) → barCount f ≤ howMany (constraintFact P on) (upTo (P .facts))

@@ -5,7 +5,7 @@ use mathlib.Core.Path.{_≡_, refl}
 use mathlib.Core.Bool.{Bool, true, false, false≢true}
 use mathlib.Core.List.{List, [], _∷_, map}
 use mathlib.Core.Option.{Option, none, some, Option·map}
-use Rattle.theory.specs.Rule.{upTo, Program, nothing, adjoin, inForce, plain, exception, constraintFact, Step, Closed, plainRules}
+use Rattle.theory.specs.Rule.{upTo, Program, nothing, adjoin, withheld, inForce, plain, exception, constraintFact, Step, Closed, plainRules}
 use Rattle.theory.specs.Derive.{fired, derive, steps}
 use Rattle.theory.specs.Run.{rejected, spares, eligible, run, setAside, factMark, ruleMark, factMarks, ruleMarks, stageCount}
 use Rattle.theory.specs.Check.{leastOf}
@@ -35,7 +35,7 @@ pub runs-of-a :
     Marks A (1 ∷ 2 ∷ []) (1 ∷ 1 ∷ 2 ∷ 0 ∷ []) (0 ∷ 1 ∷ 3 ∷ 0 ∷ []) 1
     × Marks A (2 ∷ 1 ∷ []) (1 ∷ 2 ∷ 1 ∷ 1 ∷ []) (0 ∷ 3 ∷ 1 ∷ 0 ∷ []) 1
     × (run A (inForce A) (2 ∷ 1 ∷ []) .trace ≡ step 0 0 ∷ step 2 2 ∷ step 3 3 ∷ [])
-unfolding run eligible rejected spares setAside factMark ruleMark fired derive steps plainRules plain exception
+unfolding run eligible rejected spares setAside factMark ruleMark fired derive steps plainRules plain exception inForce withheld
 runs-of-a = ((refl, refl, refl), (refl, refl, refl), refl)
 
 pub runs-of-others :
@@ -44,7 +44,7 @@ pub runs-of-others :
     × Marks C (1 ∷ 0 ∷ []) (0 ∷ 1 ∷ 2 ∷ []) (3 ∷ 1 ∷ []) 1
     × Marks D (1 ∷ []) (0 ∷ 0 ∷ []) (0 ∷ 2 ∷ []) 0
     × Marks E [] [] [] 0
-unfolding run eligible rejected spares setAside factMark ruleMark fired derive steps plainRules plain exception
+unfolding run eligible rejected spares setAside factMark ruleMark fired derive steps plainRules plain exception inForce withheld
 runs-of-others = ((refl, refl, refl), (refl, refl, refl), (refl, refl, refl), (refl, refl, refl), (refl, refl, refl))
 
 pub searches :
@@ -54,7 +54,7 @@ pub searches :
     × (taken D ≡ none)
     × (taken E ≡ some [])
     × (orderTaken E ≡ some [])
-unfolding search guessed fits leastOf reduct fired derive exception constraintFact orderFor
+unfolding search guessed fits leastOf reduct fired derive exception constraintFact orderFor inForce withheld
 searches = (refl, refl, refl, refl, refl, refl)
 
 -- F: closed is not stable

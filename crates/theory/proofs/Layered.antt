@@ -13,7 +13,7 @@ use Rattle.theory.specs.Rule.{all, mem, upTo, howMany, byKey, Program, M
 use Rattle.theory.specs.Run.{Stand, trial, eligible, firstEligible, run, setAside}
 use Rattle.theory.specs.Stable.{reduct, Stable, upheld}
 use Rattle.theory.specs.Check.{leastOf}
-use Rattle.theory.specs.Layers.{Ranks, ByRank, highest, rankKey}
+use Rattle.theory.specs.Layers.{Ranks, RankedBefore, ByRank, highest, rankKey}
 use Rattle.theory.proofs.Bools.{either, never, and-both, or-left, or-right, or-cases, false-of, both-ways}
 use Rattle.theory.proofs.Lists.{all-elem, all-of, all-mono, clear-elem, clear-of, getD-mem, upTo-mem, seek-some}
 use Rattle.theory.proofs.ByKey.{ByKeyBefore, key-member, key-rising, key-sorted, key-once, key-only, key-length, key-names, rising-first}
@@ -27,18 +27,22 @@ abbrev pub orderByRank : Program → Mask → (ℕ → ℕ) → List ℕ
 orderByRank P on rank = byKey (exception P) (rankKey P on rank) (count P) 0 (suc (P .facts))
 
 module _ (P : Program) (on : Mask) (rank : ℕ → ℕ) where
-  -- Where every exception rule is in force, the order is by rank, then by number.
-  pub rank-sorted : ((i : ℕ) → exception P i ≡ true → on i ≡ true) → ByRank P rank (orderByRank P on rank)
-  rank-sorted every j k l h =
-      go (key-sorted (exception P) (rankKey P on rank) (count P) (suc (P .facts)) j k l h)
+  -- Of two rules by key, the first stands before the second by rank where the ranks of conclusions are below the key of the rules not in force.
+  key-ranked : (i j : ℕ) → (on j ≡ true → rank (rule P j .conclusion) < P .facts) → ByKeyBefore (rankKey P on rank) i j → RankedBefore P on rank i j
+  key-ranked i j low = go (on i) refl (on j) refl low
     where
-      key-at : (n : ℕ) → n < length (orderByRank P on rank) → rankKey P on rank (getD (orderByRank P on rank) n 0) ≡ rank (rule P (getD (orderByRank P on rank) n 0) .conclusion)
-      key-at n b =
-          rw (every (getD (orderByRank P on rank) n 0) (key-member (exception P) (rankKey P on rank) (count P) 0 (suc (P .facts)) (getD (orderByRank P on rank) n 0) (getD-mem (orderByRank P on rank) n b) .0))
+      go : (a : Bool) → on i ≡ a → (b : Bool) → on j ≡ b → (on j ≡ true → rank (rule P j .conclusion) < P .facts) → ByKeyBefore (rankKey P on rank) i j → RankedBefore P on rank i j
+      go true e true f s t = inl ((e, f), rw (e, f) at t)
+      go true e false f s t = inr (inl (e, f))
+      go false e true f s t = absurd (⊎-elim (λ q. omega (arith, s f, rw (e, f) at q)) (λ q. omega (arith, s f, rw (e, f) at (q .0))) t)
+      go false e false f s t = inr (inr ((e, f), ⊎-elim (λ q. absurd (omega (arith, rw (e, f) at q))) (λ q. q .1) t))
 
-      go : ByKeyBefore (rankKey P on rank) (getD (orderByRank P on rank) j 0) (getD (orderByRank P on rank) k 0) → ByKeyBefore (λ i. rank (rule P i .conclusion)) (getD (orderByRank P on rank) j 0) (getD (orderByRank P on rank) k 0)
-      go (inl t) = inl (omega (arith, t, key-at j (omega arith), key-at k h))
-      go (inr t) = inr (sym (key-at j (omega arith)) ∙ t .0 ∙ key-at k h, t .1)
+  -- The order is by rank, then by number, with the rules that are not in force behind all others.
+  pub rank-sorted : ((i : ℕ) → exception P i ≡ true → on i ≡ true → rank (rule P i .conclusion) < P .facts) → ByRank P on rank (orderByRank P on rank)
+  rank-sorted low j k l h =
+      key-ranked (getD (orderByRank P on rank) j 0) (getD (orderByRank P on rank) k 0)
+      (low (getD (orderByRank P on rank) k 0) (key-member (exception P) (rankKey P on rank) (count P) 0 (suc (P .facts)) (getD (orderByRank P on rank) k 0) (getD-mem (orderByRank P on rank) k h) .0))
+      (key-sorted (exception P) (rankKey P on rank) (count P) (suc (P .facts)) j k l h)
 
   module _ (small : (f : ℕ) → rank f ≤ P .facts) where
     key-small : (i : ℕ) → rankKey P on rank i < suc (P .facts)

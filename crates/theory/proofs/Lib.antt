@@ -13,6 +13,7 @@ pub mod Rows
 pub mod Counted
 pub mod Counts
 pub mod Order
+pub mod Withheld
 pub mod Stages
 pub mod Chaining
 pub mod Marks
@@ -20,6 +21,7 @@ pub mod Stable
 pub mod Cycles
 pub mod Ranks
 pub mod Layered
+pub mod OffLast
 pub mod Search
 pub mod Repeats
 pub mod Absent

@@ -121,13 +121,14 @@ module _ (P : Program) (on : Mask) where
           same X Z S x z = fun-ext (λ f. both-ways (X f) (Z f) (λ t. z f .1 (x f .0 t)) (λ t. x f .1 (z f .0 t)))
 
           mark-says : ruleMark P on (run P on order) c ≡ 2 → setAside P on (run P on order .derived) c ≡ true
-          mark-says e = two (plain P c) (mem c (run P on order .applied)) (setAside P on (run P on order .derived) c) e
+          mark-says e = two (plain P c) (mem c (run P on order .applied)) (setAside P on (run P on order .derived) c) (on c) e
             where
-              two : (p a b : Bool) → _≡_ {A = ℕ} (cond p 0 (cond a 1 (cond b 2 3))) 2 → b ≡ true
-              two true a b e = absurd (omega arith)
-              two false true b e = absurd (omega arith)
-              two false false true e = refl
-              two false false false e = absurd (omega arith)
+              two : (p a b o : Bool) → _≡_ {A = ℕ} (cond p 0 (cond a 1 (cond b 2 (cond o 3 4)))) 2 → b ≡ true
+              two true a b o e = absurd (omega arith)
+              two false true b o e = absurd (omega arith)
+              two false false true o e = refl
+              two false false false true e = absurd (omega arith)
+              two false false false false e = absurd (omega arith)
 
           aside-mark : setAside P on (run P on order .derived) c ≡ true → ruleMark P on (run P on order) c ≡ 2
           aside-mark e =

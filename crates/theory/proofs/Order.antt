@@ -124,11 +124,12 @@ module _ (P : Program) (on : Mask) (M : FactSet) (m : Stable P on M) where
   later = byKey (exception P) (groupFor P on M) (count P) 1 (orderGroups - 1)
 
   first-upheld : (i : ℕ) → eqb (groupFor P on M i) 0 ≡ upheld P on M i
-  first-upheld i = go (upheld P on M i)
+  first-upheld i = go (upheld P on M i) (on i)
     where
-      go : (u : Bool) → eqb (firstCase ((u, 0) ∷ []) 1) 0 ≡ u
-      go true = refl
-      go false = refl
+      go : (u o : Bool) → eqb (firstCase ((u, 0) ∷ (o, 1) ∷ []) 2) 0 ≡ u
+      go true o = refl
+      go false true = refl
+      go false false = refl
 
   first-member : (i : ℕ) → exception P i ≡ true → upheld P on M i ≡ true → mem i first ≡ true
   unfolding first

@@ -172,6 +172,11 @@ module _ (P : Program) (on : Mask) where
   pub least-ranks-same : (rank other : ℕ → ℕ) → LeastRanks P on rank → LeastRanks P on other → (f : ℕ) → rank f ≡ other f
   least-ranks-same rank other l m f = omega (arith, l .least other (m .ranks) f, m .least rank (l .ranks) f)
 
+  -- The rank of a fact is below the count of facts: no fact bars itself.
+  pub least-below : Bounded P → (rank : ℕ → ℕ) → LeastRanks P on rank → (f : ℕ) → f < P .facts → rank f < P .facts
+  least-below b rank l f h =
+      ⊎-elim (λ c. absurd (no-cycle P on rank (l .ranks) c)) (λ t. omega (arith, l .least (t .0) (t .1) f, t .3 f h)) (cycle-or-ranks P on b)
+
   pub least-few : Bounded P → (rank : ℕ → ℕ) → LeastRanks P on rank → (f : ℕ) → rank f ≤ howMany (constraintFact P on) (upTo (P .facts))
   least-few b rank l f =
       ⊎-elim (λ c. absurd (no-cycle P on rank (l .ranks) c)) (λ t. omega (arith, l .least (t .0) (t .1) f, t .2 f)) (cycle-or-ranks P on b)

@@ -11,7 +11,7 @@ use mathlib.Core.Option.{Option, none, some}
 use borrow.Author.Tests.{eqb-true}
 use lib.ListN.{take, length-map, List·getD-map, List·getD-eq-default}
 use lib.Dec.{eqb, ltb}
-use Rattle.theory.specs.Rule.{all, any, clear, mem, keep, seek, upTo, downFrom, howMany, Rule, Program, Mask, FactSet, nothing, adjoin, count, rule, blank, null, plain, exception, constraintFact, Step, Closed, Least, plainRules, Alike, byKey, firstCase}
+use Rattle.theory.specs.Rule.{all, any, clear, mem, keep, seek, upTo, downFrom, howMany, Rule, Program, Mask, FactSet, nothing, adjoin, count, rule, blank, null, plain, exception, constraintFact, Step, Closed, Least, plainRules, withheld, inForce, Alike, byKey, firstCase}
 use Rattle.theory.specs.Walk.{picks, after}
 use Rattle.theory.specs.Derive.{lowest, conclude, fired, derive, stepBy, steps, closure}
 use Rattle.theory.specs.Run.{Stand, rejected, spares, trial, eligible, stage, start, run, setAside, factMark, ruleMark, factMarks, ruleMarks}
@@ -22,7 +22,7 @@ use Rattle.theory.specs.Search.{guessed, fits, hunt, search}
 use Rattle.theory.specs.Layers.{higher, highest, asks, lacking, raise, allZero, ranksOf, isLayered, layeredOrder}
 use Rattle.theory.specs.Repeats.{once, withoutRepeats}
 use Rattle.theory.proofs.Bools.{either, never, both-ways}
-use Rattle.theory.proofs.Lists.{all-elem, all-of, mem-cases, mem-here, mem-there, howMany-none}
+use Rattle.theory.proofs.Lists.{all-elem, all-of, any-witness, any-of, mem-cases, mem-here, mem-there, howMany-none}
 use Rattle.theory.proofs.Ranks.{highest-above, highest-below}
 
 -- lists with the same elements pass the same tests
@@ -31,6 +31,12 @@ all-elements p xs ys e =
     both-ways _ _
     (λ a. all-of p ys (λ x m. all-elem p xs a x (e x ∙ m)))
     (λ a. all-of p xs (λ x m. all-elem p ys a x (sym (e x) ∙ m)))
+
+any-elements : (p q : ℕ → Bool) (xs ys : List ℕ) → ((x : ℕ) → p x ≡ q x) → ((x : ℕ) → mem x xs ≡ mem x ys) → any p xs ≡ any q ys
+any-elements p q xs ys s e =
+    both-ways _ _
+    (λ a. let (x, m, t) = any-witness p xs a in any-of q ys x (sym (e x) ∙ m) (sym (s x) ∙ t))
+    (λ a. let (x, m, t) = any-witness q ys a in any-of p xs x (e x ∙ m) (s x ∙ t))
 
 highest-elements : (value : ℕ → ℕ) (xs ys : List ℕ) → ((x : ℕ) → mem x xs ≡ mem x ys) → highest value xs ≡ highest value ys
 highest-elements value xs ys e =
@@ -52,6 +58,7 @@ alike-sym a =
       same-conclusion = λ i l. sym (a .same-conclusion i (rw (a .same-count) l));
       same-premises = λ i l f. sym (a .same-premises i (rw (a .same-count) l) f);
       same-constraints = λ i l f. sym (a .same-constraints i (rw (a .same-count) l) f);
+      same-unread = λ f. sym (a .same-unread f);
     }
 
 -- Each equation below is the definition itself, with the parts of the rules on their way from P to Q.
@@ -90,6 +97,15 @@ module _ {P Q : Program} (a : Alike P Q) where
   pub alike-exception : exception P ≡ exception Q
   unfolding exception
   alike-exception t i = ltb i (a .same-count t) && not (null-elements (rule P i .constraints) (rule Q i .constraints) (constraints-same i) t)
+
+  -- The same rules are withheld, so the same are in force.
+  withheld-alike : (i : ℕ) → withheld P i ≡ withheld Q i
+  unfolding withheld
+  withheld-alike i = ap (λ (e : ℕ → Bool). e i && any (P .unread) (rule P i .constraints)) alike-exception ∙ ap (λ (b : Bool). exception Q i && b) (any-elements (P .unread) (Q .unread) (rule P i .constraints) (rule Q i .constraints) (a .same-unread) (constraints-same i))
+
+  pub alike-inForce : inForce P ≡ inForce Q
+  unfolding inForce
+  alike-inForce t i = not (withheld-alike i t)
 
   pub alike-exception-count : howMany (exception P) (upTo (count P)) ≡ howMany (exception Q) (upTo (count Q))
   alike-exception-count t = howMany (alike-exception t) (upTo (a .same-count t))
@@ -187,7 +203,7 @@ module _ {P Q : Program} (a : Alike P Q) where
   pub alike-ruleMark : (on : Mask) → ruleMark P on ≡ ruleMark Q on
   unfolding ruleMark
   alike-ruleMark on t s i =
-      firstCase ((alike-plain t i, 0) ∷ (mem i (s .applied), 1) ∷ (alike-aside on t (s .derived) i, 2) ∷ []) 3
+      firstCase ((alike-plain t i, 0) ∷ (mem i (s .applied), 1) ∷ (alike-aside on t (s .derived) i, 2) ∷ (on i, 3) ∷ []) 4
 
   pub alike-factMarks : (s : Stand) → factMarks P s ≡ factMarks Q s
   alike-factMarks s t = map (alike-factMark t s) (upTo (a .same-facts t))
@@ -233,7 +249,7 @@ module _ {P Q : Program} (a : Alike P Q) where
   pub alike-orderFor : (on : Mask) (M : FactSet) → orderFor P on M ≡ orderFor Q on M
   unfolding orderFor
   alike-orderFor on M t =
-      byKey (alike-exception t) (λ i. firstCase ((upheld-alike i t, 0) ∷ []) 1) (a .same-count t) 0 orderGroups
+      byKey (alike-exception t) (λ i. firstCase ((upheld-alike i t, 0) ∷ (on i, 1) ∷ []) 2) (a .same-count t) 0 orderGroups
     where
       upheld-alike : (i : ℕ) → upheld P on M i ≡ upheld Q on M i
       upheld-alike i t = on i && (premises-alike M i t && constraints-alike M i t)
@@ -398,6 +414,7 @@ once-alike P =
       same-conclusion = λ i _. ap (λ r. r .conclusion) (at i);
       same-premises = λ i _ f. ap (λ r. mem f (r .premises)) (at i) ∙ mem-once f (rule P i .premises);
       same-constraints = λ i _ f. ap (λ r. mem f (r .constraints)) (at i) ∙ mem-once f (rule P i .constraints);
+      same-unread = λ f. refl;
     }
   where
     bare : Rule → Rule

@@ -8,7 +8,7 @@ use mathlib.Core.Logic.{⊎-elim}
 use borrow.Author.Tests.{eqb-true}
 use lib.ListN.{length, take}
 use lib.Dec.{eqb}
-use Rattle.theory.specs.Rule.{clear, Program, Mask, Sub, nothing, rule, plain, Step, plainRules}
+use Rattle.theory.specs.Rule.{clear, Program, Mask, Sub, nothing, rule, plain, Step, plainRules, count}
 use Rattle.theory.specs.Run.{Stand, spares, run}
 use Rattle.theory.specs.Stable.{stepAt, factsOf, usedRule, Proof, Admits, rowTo}
 use Rattle.theory.proofs.Bools.{never, and-left, and-right, or-cases}
@@ -107,3 +107,9 @@ run-proof P on order f d = sound-proof P on (run P on order) (run-sound P on ord
 -- The run's set admits it.
 pub run-admits : (P : Program) (on : Mask) (order : List ℕ) (f : ℕ) → Admits P (run P on order .derived) (rowTo f (run P on order .trace))
 run-admits P on order f = sound-admits P on (run P on order) (run-sound P on order) f
+
+-- Each of its steps is by a rule of the program that is in force.
+pub run-steps-on : (P : Program) (on : Mask) (order : List ℕ) (k : ℕ) → k < length (run P on order .trace) → (stepAt (run P on order .trace) k .by < count P) × (on (stepAt (run P on order .trace) k .by) ≡ true)
+run-steps-on P on order k l =
+    let g = grounds-at P (granted P on (run P on order .applied)) (run P on order .trace) nothing (run-sound P on order .grounds) k l in
+    (g .known, granted-in-force P on (run P on order) (run-sound P on order) (stepAt (run P on order .trace) k .by) (g .granted))

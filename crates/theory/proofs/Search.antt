@@ -334,7 +334,7 @@ module _ (P : Program) (on : Mask) where
 
   -- every rule is of one of the groups of the order
   group-below : (M : FactSet) (i : ℕ) → groupFor P on M i < orderGroups
-  group-below M i = case-below orderGroups ((upheld P on M i, 0) ∷ []) 1 refl (omega arith)
+  group-below M i = case-below orderGroups ((upheld P on M i, 0) ∷ (on i, 1) ∷ []) 2 refl (omega arith)
 
   -- It names each exception rule once, and no other.
   pub order-once : (M : FactSet) (r : ℕ) → exception P r ≡ true → howMany (eqb r) (orderFor P on M) ≡ 1

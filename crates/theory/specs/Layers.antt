@@ -52,12 +52,21 @@ pub record Cycle (P : Program) (on : Mask) : Type 0 where
   pub chain : Chain P on at links at
   pub through : barred links ≡ true
 
--- A row names rules by the rank of their conclusions, then by number.
-abbrev pub ByRank : Program → (ℕ → ℕ) → List ℕ → Type 0
-ByRank P rank row =
-    (j k : ℕ) → j < k → k < length row
-    → (rank (rule P (getD row j 0) .conclusion) < rank (rule P (getD row k 0) .conclusion))
-    ⊎ ((rank (rule P (getD row j 0) .conclusion) ≡ rank (rule P (getD row k 0) .conclusion)) × (getD row j 0 < getD row k 0))
+-- Of two rules in force the first has a conclusion of lower rank, or one of the same rank and the lower number.
+abbrev pub LowerRank : Program → (ℕ → ℕ) → ℕ → ℕ → Type 0
+LowerRank P rank i j =
+    (rank (rule P i .conclusion) < rank (rule P j .conclusion))
+    ⊎ ((rank (rule P i .conclusion) ≡ rank (rule P j .conclusion)) × (i < j))
+
+-- Rule i stands before rule j: both are in force, and it has the lower rank or number; or it alone is in force; or neither is, and it has the lower number.
+abbrev pub RankedBefore : Program → Mask → (ℕ → ℕ) → ℕ → ℕ → Type 0
+RankedBefore P on rank i j =
+    (((on i ≡ true) × (on j ≡ true)) × LowerRank P rank i j)
+    ⊎ (((on i ≡ true) × (on j ≡ false)) ⊎ (((on i ≡ false) × (on j ≡ false)) × (i < j)))
+
+-- A row names the rules in force by the rank of their conclusions, then by number, and behind them the others, ascending.
+abbrev pub ByRank : Program → Mask → (ℕ → ℕ) → List ℕ → Type 0
+ByRank P on rank row = (j k : ℕ) → j < k → k < length row → RankedBefore P on rank (getD row j 0) (getD row k 0)
 
 -- Computed: the highest of some numbers, 0 where there is none.
 abbrev pub higher : ℕ → ℕ → ℕ
@@ -98,6 +107,6 @@ isLayered P on = not (any (lacking P on (ranksOf P on)) (upTo (count P)))
 abbrev pub rankKey : Program → Mask → (ℕ → ℕ) → ℕ → ℕ
 rankKey P on rank i = cond (on i) (rank (rule P i .conclusion)) (P .facts)
 
--- The order that is handed out: the exception rules by least rank of conclusion, then by number.
+-- The order that is handed out: the exception rules in force by least rank of conclusion, then by number; behind them those that are not, ascending.
 unfoldable pub layeredOrder : Program → Mask → List ℕ
 layeredOrder P on = byKey (exception P) (rankKey P on (ranksOf P on)) (count P) 0 (suc (P .facts))

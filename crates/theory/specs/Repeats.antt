@@ -18,4 +18,5 @@ withoutRepeats P =
           map
           (λ r. record { conclusion = r .conclusion; premises = once (r .premises); constraints = once (r .constraints) })
           (P .rules);
+      unread = P .unread;
     }

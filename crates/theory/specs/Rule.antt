@@ -75,10 +75,14 @@ pub record Rule : Type 0 where
   pub premises : List ℕ
   pub constraints : List ℕ
 
--- The count of facts, and the rules; a rule's number is its place.
+abbrev pub FactSet : Type 0
+FactSet = ℕ → Bool
+
+-- The count of facts, the rules, and the facts that could not be read (document 02, wish 6); a rule's number is its place.
 pub record Program : Type 0 where
   pub facts : ℕ
   pub rules : List Rule
+  pub unread : FactSet
 
 -- Which rules are in force. A rule is left out by a mask and never removed, so rule numbers never shift.
 abbrev pub Mask : Type 0
@@ -87,9 +91,6 @@ Mask = ℕ → Bool
 -- Every rule is in force.
 abbrev pub everyRule : Mask
 everyRule i = true
-
-abbrev pub FactSet : Type 0
-FactSet = ℕ → Bool
 
 abbrev pub nothing : FactSet
 nothing f = false
@@ -140,18 +141,23 @@ pub record Bounded (P : Program) : Type 0 where
   pub premises-below : (i : ℕ) → i < count P → all (λ f. ltb f (P .facts)) (rule P i .premises) ≡ true
   pub constraints-below : (i : ℕ) → i < count P → all (λ f. ltb f (P .facts)) (rule P i .constraints) ≡ true
 
--- The rules of a program that are in force for every operation: all of them.
-abbrev pub inForce : Program → Mask
-inForce P i = true
+-- A withheld rule (document 02, wish 6) is an exception rule with an unread constraint.
+unfoldable pub withheld : Program → ℕ → Bool
+withheld P i = exception P i && any (P .unread) (rule P i .constraints)
 
--- Programs that differ only in repeats, or in the order of the items, within their rules: rule by rule the same conclusion, the same premises
--- and the same constraints.
+-- The rules of a program that are in force for every operation: those that are not withheld.
+unfoldable pub inForce : Program → Mask
+inForce P i = not (withheld P i)
+
+-- Programs that differ only in repeats, or in the order of the items, within their rules: the same unread facts, and rule by rule the same conclusion, the
+-- same premises and the same constraints.
 pub record Alike (P Q : Program) : Type 0 where
   pub same-facts : P .facts ≡ Q .facts
   pub same-count : count P ≡ count Q
   pub same-conclusion : (i : ℕ) → i < count P → rule P i .conclusion ≡ rule Q i .conclusion
   pub same-premises : (i : ℕ) → i < count P → (f : ℕ) → mem f (rule P i .premises) ≡ mem f (rule Q i .premises)
   pub same-constraints : (i : ℕ) → i < count P → (f : ℕ) → mem f (rule P i .constraints) ≡ mem f (rule Q i .constraints)
+  pub same-unread : Same (P .unread) (Q .unread)
 
 -- A step: the fact, and the rule that concludes it.
 pub record Step : Type 0 where

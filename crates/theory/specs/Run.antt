@@ -75,15 +75,17 @@ kept P on D i = on i && not (setAside P on D i)
 unfoldable pub factMark : Program → Stand → ℕ → ℕ
 factMark P s f = cond (s .derived f) 1 (cond (rejected P (s .applied) f) 2 0)
 
--- Rule marks (document 01): "0 plain, 1 applied at a stage, 2 set aside, 3 other".
+-- Rule marks (document 01): "0 plain, 1 applied at a stage, 2 set aside, 3 other", and 4 on a rule that is withheld (document 02, wish 6): one that is not in
+-- force.
 unfoldable pub ruleMark : Program → Mask → Stand → ℕ → ℕ
 ruleMark P on s i =
     firstCase
     ((plain P i, 0)
     ∷ (mem i (s .applied), 1)
     ∷ (setAside P on (s .derived) i, 2)
+    ∷ (on i, 3)
     ∷ [])
-    3
+    4
 
 abbrev pub factMarks : Program → Stand → List ℕ
 factMarks P s = map (factMark P s) (upTo (P .facts))

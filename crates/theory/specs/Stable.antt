@@ -78,19 +78,20 @@ anySet M = true
 abbrev pub upheld : Program → Mask → FactSet → ℕ → Bool
 upheld P on M i = on i && (all M (rule P i .premises) && clear M (rule P i .constraints))
 
--- The group of a rule in the search's order: 0 upheld, 1 the others.
+-- The group of a rule in the search's order: 0 upheld, 1 the others in force, 2 those that are not in force.
 abbrev pub groupFor : Program → Mask → FactSet → ℕ → ℕ
 groupFor P on M i =
     firstCase
     ((upheld P on M i, 0)
+    ∷ (on i, 1)
     ∷ [])
-    1
+    2
 
 -- How many groups there are.
 abbrev pub orderGroups : ℕ
-orderGroups = 2
+orderGroups = 3
 
 -- The search's order (document 01) "names, ascending, the exception rules with premises in M and no constraint in M, then the others
--- ascending".
+-- ascending"; those that are withheld come last, ascending (document 02, wish 6).
 unfoldable pub orderFor : Program → Mask → FactSet → List ℕ
 orderFor P on M = byKey (exception P) (groupFor P on M) (count P) 0 orderGroups

@@ -32,7 +32,7 @@ use Rattle.view.specs.View.{endAt, ownBy, ownOf, ownAt, pastOwn, takenOf
 
 -- an item of another kind
 not-own : (i : Item) (ts : List Token) → NotOwn i → ownOf (item i ∷ ts) ≡ own.Ended
-not-own i ts k = rw (unsaid (by-tags i .own) (0 ∷ 1 ∷ 4 ∷ 5 ∷ 6 ∷ []) (tt, (tt, tt)) k)
+not-own i ts k = rw (unsaid (by-tags i .own) (0 ∷ 1 ∷ 4 ∷ 5 ∷ 6 ∷ 7 ∷ []) (tt, (tt, tt)) k)
 
 -- The front of a range: it is empty, or what stands there decides.
 module _ (s : List ℕ) (at end : ℕ) where

@@ -1,11 +1,14 @@
 //! Times the archive and the reference side by side on the same inputs.
 //!
-//! bench [--out path]
+//! bench [--out path] [--without-unread]
 //!
 //! Every row is one operation on one file, or a load with as many facts and rules. The
 //! growth is the time over the time at the size before, with half the rules. Nothing is
 //! written unless asked for. The load files are the reference's, which the differential
 //! holds equal to the archive's.
+//!
+//! Files with unread facts come last and are summed up by themselves. An archive that
+//! knows none, such as an older one to compare with, is timed without them.
 
 #[path = "../archive.rs"]
 mod archive;
@@ -238,6 +241,10 @@ fn wide_above_lowest() -> Draft {
     draft
 }
 
+fn with_unread(unread: &[u8], draft: Draft) -> Draft {
+    Draft { unread: unread.to_vec(), ..draft }
+}
+
 /// A file with the inputs and the buffers of all operations.
 struct Subject {
     file: Vec<u8>,
@@ -295,6 +302,10 @@ impl Subject {
         let constraint_facts =
             reference::accept(&file).expect("the file is accepted").constraint_facts;
         Subject { file, order, set, list, proof, asked, constraint_facts, buffers }
+    }
+
+    fn has_unread(&self) -> bool {
+        self.file[2] == reference::kind::UNREAD
     }
 
     /// Both sides say the same, so that the times are of the same work.
@@ -517,6 +528,8 @@ struct Table {
     text: String,
     /// Logarithms of the ratios, by operation.
     ratios: [Vec<f64>; COUNT],
+    /// The same of files with unread facts.
+    ratios_unread: [Vec<f64>; COUNT],
     /// By operation, the exponents with which the archive's times grow with the rules,
     /// from the smallest file of a family to its largest.
     exponents: [Vec<f64>; COUNT],
@@ -590,7 +603,8 @@ impl Table {
             before.map_or("-".to_string(), |before| format!("{:.2}", time / before))
         };
         let TimesRow { now, before } = rows;
-        self.ratios[operation as usize].push((now.archive / now.reference).ln());
+        let ratios = if subject.has_unread() { &mut self.ratios_unread } else { &mut self.ratios };
+        ratios[operation as usize].push((now.archive / now.reference).ln());
         self.line(&format!(
             "{:<22}{:>6}{:>6}{:>5}  {:<8}{:>12.3}{:>12.3}{:>8.2}{:>10}{:>10}",
             file,
@@ -609,13 +623,17 @@ impl Table {
     fn summary(&mut self) {
         let all = ON_FILES.into_iter().chain([Operation::Load]);
         for operation in all.clone() {
-            let logs = &self.ratios[operation as usize];
-            let mean = (logs.iter().sum::<f64>() / logs.len() as f64).exp();
-            let worst = logs.iter().copied().fold(f64::MIN, f64::max).exp();
+            let sum = mean_and_worst(&self.ratios[operation as usize]);
             let name = format!("{operation:?}").to_lowercase();
-            self.line(&format!(
-                "{name:<8} archive/reference: geometric mean {mean:>8.2}, worst {worst:>8.2}"
-            ));
+            self.line(&format!("{name:<8} archive/reference: {sum}"));
+        }
+        for operation in ON_FILES {
+            let ratios = &self.ratios_unread[operation as usize];
+            if !ratios.is_empty() {
+                let sum = mean_and_worst(ratios);
+                let name = format!("{operation:?}").to_lowercase();
+                self.line(&format!("{name:<8} with unread facts: {sum}"));
+            }
         }
         for operation in all {
             let exponents = &self.exponents[operation as usize];
@@ -626,6 +644,12 @@ impl Table {
             ));
         }
     }
+}
+
+fn mean_and_worst(logs: &[f64]) -> String {
+    let mean = (logs.iter().sum::<f64>() / logs.len() as f64).exp();
+    let worst = logs.iter().copied().fold(f64::MIN, f64::max).exp();
+    format!("geometric mean {mean:>8.2}, worst {worst:>8.2}")
 }
 
 /// The times at this size, and at the size before.
@@ -679,6 +703,26 @@ const DEEPEST_GROUNDS: [Single; 3] = [
     ("stairs, 24 premises", || stairs(255, MOST_OWN_ITEMS - 1)),
 ];
 
+/// Facts that are unread: five of the sixteen constraint facts, of two rules that exclude
+/// each other at most one.
+const FIVE_OF_SIXTEEN: [u8; 5] = [0, 3, 6, 9, 12];
+
+/// Files of which about a third of the exception rules are withheld, and one of which all.
+const WITHHELD: [Single; 5] = [
+    ("exceptions, 5 unread", || with_unread(&FIVE_OF_SIXTEEN, exceptions((512, 255), 16))),
+    ("dense, 5 unread", || with_unread(&FIVE_OF_SIXTEEN, dense())),
+    ("dense, 16 unread", || with_unread(&(0..16).collect::<Vec<_>>(), dense())),
+    ("load, 16 unread", || {
+        with_unread(&(0..64).step_by(4).collect::<Vec<_>>(), loads::draft(START, 64, 512))
+    }),
+    ("scattered, 6 unread", || {
+        with_unread(
+            &(7..255).step_by(42).collect::<Vec<_>>(),
+            layers::scattered(1, 512, MOST_OWN_ITEMS),
+        )
+    }),
+];
+
 /// So many files are read in turn, more than the processor can remember the branches of:
 /// a delivery has never been read before.
 const IN_TURN: u64 = 48;
@@ -691,9 +735,24 @@ fn agreeing(name: &str, draft: &Draft) -> Result<Subject, String> {
     if subject.agrees() { Ok(subject) } else { Err(format!("{name}: the answers differ")) }
 }
 
-fn measure() -> Result<Table, String> {
-    let mut table =
-        Table { text: String::new(), ratios: Default::default(), exponents: Default::default() };
+/// The files with unread facts.
+fn measure_withheld(table: &mut Table) -> Result<(), String> {
+    for (name, file) in WITHHELD {
+        table.rows(name, &[agreeing(name, &file())?]);
+    }
+    let unread =
+        (0..IN_TURN).map(|seed| agreeing("mixed, unread", &with_unread(&[210, 240], mixed(seed))));
+    table.rows("mixed, 2 unread", &unread.collect::<Result<Vec<_>, String>>()?);
+    Ok(())
+}
+
+fn measure(without_unread: bool) -> Result<Table, String> {
+    let mut table = Table {
+        text: String::new(),
+        ratios: Default::default(),
+        ratios_unread: Default::default(),
+        exponents: Default::default(),
+    };
     table.head();
     for family in FAMILIES {
         table.family(family, &ON_FILES)?;
@@ -723,18 +782,25 @@ fn measure() -> Result<Table, String> {
         .map(|seed| agreeing("scattered", &layers::scattered(seed, 512, MOST_OWN_ITEMS)));
     let scattered = scattered.collect::<Result<Vec<_>, String>>()?;
     table.single("scattered, in turn", &scattered, Operation::Layered);
+    if !without_unread {
+        measure_withheld(&mut table)?;
+    }
     table.summary();
     Ok(table)
 }
 
 fn run() -> Result<(), String> {
-    let arguments: Vec<String> = std::env::args().skip(1).collect();
+    let mut arguments: Vec<String> = std::env::args().skip(1).collect();
+    let without_unread = arguments.last().is_some_and(|last| last == "--without-unread");
+    if without_unread {
+        arguments.pop();
+    }
     let out = match &arguments[..] {
         [] => None,
         [option, path] if option == "--out" => Some(path),
-        _ => return Err("usage: bench [--out path]".to_string()),
+        _ => return Err("usage: bench [--out path] [--without-unread]".to_string()),
     };
-    let table = measure()?;
+    let table = measure(without_unread)?;
     match out {
         Some(path) => std::fs::write(path, table.text).map_err(|error| format!("{path}: {error}")),
         None => Ok(()),

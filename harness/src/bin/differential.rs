@@ -47,7 +47,8 @@ const FENCE_BYTES: usize = 16;
 const INPUT_FENCE: u8 = 0x01;
 const LENT_FENCE: u8 = 0xC3;
 
-/// The longest file that question 1 lets pass. None of that length is within the cap.
+/// The longest file that question 1 lets pass. One of that length is within the cap only
+/// with unread facts.
 const LONGEST: usize = 32_767;
 
 /// The kinds of the items that a rule has of its own.
@@ -307,6 +308,78 @@ fn mixed_file() -> Vec<u8> {
     draft.bytes()
 }
 
+/// The file with these facts named as unread.
+fn with_unread(unread: &[u8], file: &[u8]) -> Vec<u8> {
+    let items = unread.iter().flat_map(|&fact| [kind::UNREAD, fact]);
+    [&file[..2], &items.collect::<Vec<_>>(), &file[2..]].concat()
+}
+
+/// Every choice of unread facts of small files.
+fn all_unread() -> Vec<Case> {
+    let small = examples().into_iter().chain(layered_examples());
+    let files = small.map(|draft| draft.bytes()).chain([mixed_file()]);
+    let mut cases = Vec::new();
+    for file in files {
+        for chosen in 1..1u32 << file[1] {
+            let unread: Vec<u8> = (0..file[1]).filter(|fact| chosen >> fact & 1 == 1).collect();
+            cases.extend(all_operations(&with_unread(&unread, &file)));
+        }
+    }
+    cases
+}
+
+/// A file with a 07 item at every place, of its lowest and highest fact and of one too high.
+fn unread_at_every_place(file: &[u8]) -> Vec<Case> {
+    let mut cases = Vec::new();
+    for place in 2..=file.len() {
+        for fact in [0, file[1] - 1, file[1]] {
+            let mut file = file.to_vec();
+            file.splice(place..place, [kind::UNREAD, fact]);
+            cases.extend(all_operations(&file));
+        }
+    }
+    cases
+}
+
+/// Large files with some constraints unread, or all; as many constraint facts as may be and
+/// one more, with one of them in withheld rules alone; and unread facts that fill up the
+/// longest file, alone, before rules as long as may be, and by one item too many.
+fn large_unread_files() -> Vec<Vec<u8>> {
+    let every = |step: usize| (0..=254).step_by(step).collect::<Vec<u8>>();
+    let mut files = Vec::new();
+    for draft in [
+        large::exceptions(512, 16),
+        large::ring(512),
+        large::tangled(512),
+        large::ladder(512),
+        large::full(|rule| rule % MOST_OWN_ITEMS),
+    ] {
+        let file = draft.bytes();
+        let known = |unread: Vec<u8>| unread.into_iter().filter(|&fact| fact < file[1]).collect();
+        let few: [Vec<u8>; 6] = [vec![0], vec![1], vec![3, 250, 7], every(2), every(3), every(1)];
+        for unread in few.map(known) as [Vec<u8>; 6] {
+            files.push(with_unread(&unread, &file));
+        }
+    }
+    for (_, file) in layers::FILES {
+        let file = file(512, MOST_OWN_ITEMS).bytes();
+        files.push(with_unread(&every(5), &file));
+        files.push(with_unread(&[254], &file));
+    }
+    for constraint_facts in [17, 18] {
+        let file = large::exceptions(512, constraint_facts).bytes();
+        files.extend([[0], [16]].map(|unread| with_unread(&unread, &file)));
+    }
+    let bare = Draft::new(1).bytes();
+    let full = large::full(|rule| rule % MOST_OWN_ITEMS).bytes();
+    for (file, unread) in [(&bare, 0), (&full, 250)] {
+        let room = (LONGEST - file.len()) / 2;
+        files.push(with_unread(&vec![unread; room], file));
+        files.push(with_unread(&vec![unread; room + 1], file));
+    }
+    files
+}
+
 /// A file of 511 rules and this length, by premises repeated: its last rule is too
 /// long.
 fn lengthened_file(length: usize) -> Vec<u8> {
@@ -366,12 +439,18 @@ fn purposeful_cases() -> Vec<Case> {
     cases.extend(neighbours(&mixed_file()));
     cases.extend(neighbours_beside(&mixed_file()));
     cases.extend(neighbours(&file_at_the_cap()));
+    let mixed_unread = with_unread(&[2, 3], &mixed_file());
+    cases.extend(neighbours(&mixed_unread));
+    cases.extend(neighbours_beside(&mixed_unread));
+    cases.extend(all_unread());
+    cases.extend(unread_at_every_place(&mixed_file()));
+    cases.extend(unread_at_every_place(&mixed_unread));
     let changed = layered_examples().into_iter().flat_map(|draft| with_another_item(&draft));
     cases.extend(changed.map(|draft| layered_of(&draft)));
     cases.extend(all_dependencies());
     cases.extend(all_loads());
     cases.extend(loads_in_use());
-    for file in large_files() {
+    for file in [large_files(), large_unread_files()].concat() {
         cases.extend(all_operations(&file));
     }
     cases

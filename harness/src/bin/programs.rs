@@ -26,7 +26,8 @@ use std::process::{Command, ExitCode, Output, Stdio};
 use std::thread::sleep;
 use std::time::Duration;
 
-/// The longest file that question 1 lets pass. None of that length is within the cap.
+/// The longest file that question 1 lets pass. One of that length is within the cap only
+/// with unread facts.
 const LONGEST: usize = 32_767;
 /// Between two pieces of input, so that a read ends with the first.
 const PAUSE: Duration = Duration::from_millis(20);
@@ -287,6 +288,23 @@ fn every_fact(name: &str, file: &[u8]) -> Vec<Trial> {
     asked.map(trial).collect()
 }
 
+/// The file with this fact named as unread so many times.
+fn with_unread(fact: u8, times: usize, file: &[u8]) -> Vec<u8> {
+    [&file[..2], &[7, fact].repeat(times), &file[2..]].concat()
+}
+
+/// Files with unread facts: a rule withheld, all of them, plain rules alone; and the longest.
+fn unread_files() -> Vec<(&'static str, Vec<u8>)> {
+    let full = large::full(|rule| rule % MOST_OWN_ITEMS).bytes();
+    let room = (LONGEST - full.len()) / 2;
+    vec![
+        ("A, 2 unread", with_unread(2, 1, &example_a())),
+        ("A, 2 and 1 unread", with_unread(2, 2, &with_unread(1, 1, &example_a()))),
+        ("plain rules, 0 unread", with_unread(0, 1, &file_of(2, &[ALWAYS, (1, &[0], &[])]))),
+        ("32,767 bytes, 250 unread", with_unread(250, room, &full)),
+    ]
+}
+
 /// Files with nothing to ask for, with nothing derived, and with steps to leave out.
 fn small_files() -> Vec<(&'static str, Vec<u8>)> {
     let diamond = [ALWAYS, (1, &[0], &[]), (2, &[0], &[]), (3, &[1, 2], &[]), (4, &[0], &[])];
@@ -303,7 +321,7 @@ fn small_files() -> Vec<(&'static str, Vec<u8>)> {
     ]
 }
 
-/// The longest files that are accepted: 512 rules of 24 items.
+/// The longest files without unread facts that are accepted: 512 rules of 24 items.
 fn full_files() -> Vec<(&'static str, Vec<u8>)> {
     large::FULL.map(|(name, premises)| (name, large::full(premises).bytes())).to_vec()
 }
@@ -341,6 +359,9 @@ fn refused_files() -> Vec<(&'static str, Vec<u8>)> {
         ("25 items and nothing more", [unended, &[2, 1]].concat()),
         ("a 25th item that is cut", [unended, &[2]].concat()),
         ("a 25th item of a fact too high", [unended, &[2, 26]].concat()),
+        ("unread after a rule", vec![0x10, 1, 1, 0, 7, 0, 0x1F, 0, 1]),
+        ("unread too high after a rule", vec![0x10, 1, 1, 0, 7, 1, 0x1F, 0, 1]),
+        ("unread and cut", vec![0x10, 1, 7]),
         ("stairs of 61 items", stairs(255, 60).bytes()),
         ("32,767 bytes, a rule too long", long_file(LONGEST)),
         ("32,768 bytes", [long_file(LONGEST), vec![0]].concat()),
@@ -382,7 +403,7 @@ fn trials_of_input(file: &[u8]) -> Vec<Trial> {
     let inputs = [
         ("byte by byte", Input::in_pieces(file, 1)),
         ("two pieces", Input::in_pieces(file, file.len() - 1)),
-        ("the longest accepted file in pieces", Input::in_pieces(&accepted, 10_000)),
+        ("512 rules of 24 items in pieces", Input::in_pieces(&accepted, 10_000)),
         ("32,767 bytes in pieces", Input::in_pieces(&longest, 10_000)),
         ("32,768 bytes in pieces", Input::in_pieces(&too_long, LONGEST)),
         ("a read that fails", Input::Directory),
@@ -493,7 +514,8 @@ fn trials_of_grounds(paths: &[String]) -> Result<Vec<Trial>, String> {
         trials.extend(every_fact(path, &file));
     }
     let a = example_a();
-    for (name, file) in [small_files(), large_files(), full_files(), refused_files()].concat() {
+    let files = [small_files(), unread_files(), large_files(), full_files(), refused_files()];
+    for (name, file) in files.concat() {
         trials.extend(every_fact(name, &file));
     }
     trials.extend(trials_of_words(&a));

@@ -54,7 +54,7 @@ use random::Random;
 use std::process::ExitCode;
 
 const SEED: u64 = 1;
-const RANDOM_VECTORS: usize = 3_200;
+const RANDOM_VECTORS: usize = 2_080;
 /// The reader has some more room for the file, and this for each buffer.
 const MOST_BYTES: usize = 1_290_000;
 const MOST_LENT: usize = 16_384;

@@ -1,5 +1,5 @@
 -- `layered`: a no changes no byte; of an accepted file, what comes after its own questions.
-use mathlib.Core.Path.{sym, ap, _∙_}
+use mathlib.Core.Path.{refl, sym, ap, _∙_}
 use Rattle.reader.specs.Asked.{countsOf}
 use Rattle.reader.proofs.FileAsked.{file-yes, told-counts}
 use Rattle.questions.proofs.OperationAsked.{scan-passed}
@@ -10,7 +10,7 @@ use Rattle.layers.proofs.layered.Statement.{statement}
 use Rattle.layers.proofs.layered.Tie as tie
 
 scan-requires : tie.Need-scan-requires
-scan-requires c κs = search needs
+scan-requires c κs = record { zeros = refl }
 
 enum-known-r : tie.Need-enum-known-r
 enum-known-r c = search needs

@@ -61,7 +61,7 @@ element-copy-out-above : tie.Need-element-copy-out-above Inv-loop μ-loop
 element-copy-out-above c = small (c .before .before)
 
 add-above : tie.Need-add-above Inv-loop μ-loop
-add-above c = omega (arith, c .before .before .before .before .before .before .before .pre .1 .low (c .before .before .before .constraint-at .result))
+add-above c = omega (arith, c .before .before .before .before .before .before .before .pre .1 .0 .low (c .before .before .before .constraint-at .result))
 
 add-place : tie.Need-add-place Inv-loop μ-loop
 add-place c = omega (arith, c .before .before .before .before .before .before .before .constraint-span .ensures .high)
@@ -74,12 +74,12 @@ loop-again c =
     let inv = c .before .before .before .before .before .before .loop .inv in
     let seen-so = noted (c .before .before) in
     ⊎-elim
-    (λ w. rw (w .1) (above-found inv (c .before .before .before .before .before .loop-test .taken) _ (c .before .before .before .before .constraint-at .ensures) (c .before .before .before .before .before .before .before .before .pre .1) seen-so (w .0 .taken)))
+    (λ w. rw (w .1) (above-found inv (c .before .before .before .before .before .loop-test .taken) _ (c .before .before .before .before .constraint-at .ensures) (c .before .before .before .before .before .before .before .before .pre .1 .0) seen-so (w .0 .taken)))
     (λ w. rw (w .1) (no-more-found inv _ (c .before .before .before .before .constraint-at .ensures) seen-so (w .0 .left)))
     (c .if4 .came)
 
 returns-3 : tie.Need-returns-3 Inv-loop μ-loop
-returns-3 c = all-found (c .before .loop .inv) (c .loop-test .left) _ (c .before .before .before .pre .0 .1) (c .before .before .constraint-span .ensures)
+returns-3 c = all-found (c .before .loop .inv) (c .loop-test .left) _ (c .before .before .before .pre .0 .1) (c .before .before .before .pre .1 .1) (c .before .before .constraint-span .ensures)
 
 pub look-at-constraints-spec : {M : Type 1} → statement M
 look-at-constraints-spec =

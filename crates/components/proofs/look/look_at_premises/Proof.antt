@@ -71,12 +71,12 @@ loop-again : tie.Need-loop-again Inv-loop μ-loop
 loop-again c =
     let (noted, looking) = placed (c .before .before) in
     ⊎-elim
-    (λ w. rw (w .1) (rank-found looking (c .before .before .before .before .before .loop-test .taken) _ (c .before .before .before .before .premise-at .ensures) (c .before .before .before .before .before .before .before .before .pre .1) noted (w .0 .taken)))
+    (λ w. rw (w .1) (rank-found looking (c .before .before .before .before .before .loop-test .taken) _ (c .before .before .before .before .premise-at .ensures) (c .before .before .before .before .before .before .before .before .pre .1 .0) noted (w .0 .taken)))
     (λ w. rw (w .1) (no-more-found looking _ (c .before .before .before .before .premise-at .ensures) noted (omega (arith, w .0 .left))))
     (c .if5 .came)
 
 returns-2 : tie.Need-returns-2 Inv-loop μ-loop
-returns-2 c = all-found (c .before .loop .inv) (c .loop-test .left) _ (c .before .before .before .pre .0 .1) (c .before .before .premise-span .ensures)
+returns-2 c = all-found (c .before .loop .inv) (c .loop-test .left) _ (c .before .before .before .pre .0 .1) (c .before .before .before .pre .1 .1) (c .before .before .premise-span .ensures)
 
 pub look-at-premises-spec : {M : Type 1} → statement M
 look-at-premises-spec =

@@ -6,7 +6,7 @@ use borrow.Author.Needs.{needs}
 use denote.Ref.{now}
 use lib.ListN.{getD}
 use Rattle.tables.specs.Layout.{programIn}
-use Rattle.descent.proofs.WalkTurned.{few-open, few-roots, looked-small, may-leave, AtRule, rule-known, rule-small, may-open-it, opened, barred-look, may-merge, merged-cycle, looked-on}
+use Rattle.descent.proofs.WalkTurned.{few-open, few-roots, looked-small, may-leave, AtRule, rule-known, rule-in-force, rule-small, may-open-it, opened, barred-look, may-merge, merged-cycle, looked-on}
 use Rattle.descent.proofs.walk.take_turn.Statement.{statement}
 use Rattle.descent.proofs.walk.take_turn.Tie as tie
 
@@ -32,7 +32,7 @@ looking c =
     record { stands = p .1; some-open = p .0 .1; is-fact = c .before .before .fact-at .ensures .0; is-rule = refl; not-end = c .if1 .left }
 
 look-at-rule-requires : tie.Need-look-at-rule-requires
-look-at-rule-requires c κs = let p = c .before .before .before .before .before .before .pre in ((p .0 .0, rule-known (looking (c .before .before))), p .1 .so-far)
+look-at-rule-requires c κs = let p = c .before .before .before .before .before .before .pre in ((p .0 .0, rule-known (looking (c .before .before))), (p .1 .so-far, rule-in-force (looking (c .before .before))))
 
 enum-known-found : tie.Need-enum-known-found
 enum-known-found c = search needs

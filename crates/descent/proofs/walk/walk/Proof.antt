@@ -20,8 +20,8 @@ Inv-loop tables ranks₀ todo₀ next seen₀ stack₀ roots₀ facts f₀ ranks
 abbrev μ-loop : tie.MeasureT-loop
 μ-loop tables ranks₀ todo₀ next seen₀ stack₀ roots₀ facts f₀ ranks todo seen stack roots f = facts - f
 
-conclusions-of-requires : tie.Need-conclusions-of-requires Inv-loop μ-loop
-conclusions-of-requires c κs = c .pre .0
+keys-of-requires : tie.Need-keys-of-requires Inv-loop μ-loop
+keys-of-requires c κs = c .pre .0
 
 rules-of-requires : tie.Need-rules-of-requires Inv-loop μ-loop
 rules-of-requires c κs = search needs
@@ -35,7 +35,7 @@ facts-of-requires c κs = search needs
 loop-holds : tie.Need-loop-holds Inv-loop μ-loop
 loop-holds c =
     let k = c .before .before .before .before .before .before in
-    (c .facts-of .ensures, (rests-first _ (k .before .pre .0 .in-bounds) (facts-below (k .before .pre .0)) (rules-below (k .before .pre .0)) (k .conclusions-of .ensures) (c .before .before .before .before .rules-of .ensures) (c .before .thread .ensures) refl refl refl (k .before .pre .1), λ g l. absurd (omega arith)))
+    (c .facts-of .ensures, (rests-first _ (k .before .pre .0 .in-bounds) (facts-below (k .before .pre .0)) (rules-below (k .before .pre .0)) (k .keys-of .ensures) (c .before .before .before .before .rules-of .ensures) (c .before .thread .ensures) refl refl refl (k .before .pre .1), λ g l. absurd (omega arith)))
 
 below : (c : tie.In-loop Inv-loop μ-loop) → c .before .loop .f < programIn (now (c .before .before .before .before .before .before .before .before .before .args .tables)) .facts
 below c = omega (arith, c .before .loop .inv .0, c .loop-test .taken)
@@ -90,7 +90,7 @@ walk-spec =
     (tie.spec
     Inv-loop
     μ-loop
-    conclusions-of-requires
+    keys-of-requires
     rules-of-requires
     thread-requires
     facts-of-requires

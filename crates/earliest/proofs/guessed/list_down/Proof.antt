@@ -2,7 +2,8 @@
 use Prim.Native.Nat.{_<_}
 use native.Mathlib.Omega.{arith}
 use Rattle.items.specs.Item.{maxGuessed}
-use Rattle.earliest.proofs.FactsListed.{Down, none-listed, all-listed, passed, in-row, one-listed, no-more, marked-at, unmarked-at}
+use Rattle.marking.proofs.MarksPainted.{marked-at, unmarked-at}
+use Rattle.earliest.proofs.FactsListed.{Down, none-listed, all-listed, passed, in-row, one-listed, no-more}
 use Rattle.earliest.proofs.guessed.list_down.Statement.{statement}
 use Rattle.earliest.proofs.guessed.list_down.Tie as tie
 use Rattle.earliest.proofs.guessed.list_down.Reads as reads

@@ -1,7 +1,9 @@
 -- `index_rules`: the rules before a place are in the rows of their literals.
 use Prim.Native.Nat.{_-_, _<_, _≤_}
+use mathlib.Core.Path.{sym, _∙_}
 use native.Mathlib.Omega.{arith}
 use borrow.Author.Needs.{needs}
+use borrow.Author.Tests.{not-true, not-false}
 use denote.Ref.{now}
 use Rattle.theory.specs.Rule.{count}
 use Rattle.items.specs.Item.{maxRules}
@@ -9,7 +11,7 @@ use Rattle.tables.specs.Layout.{programIn}
 use Rattle.tables.proofs.ProgramHeld.{facts-below, rules-below}
 use Rattle.index.specs.Literal.{literals}
 use Rattle.index.specs.Index.{inForceBut}
-use Rattle.index.proofs.RulesIndexed.{Indexing, none-passed, none-there, is-off, is-on, rule-off, rule-on, all-left-out, all-indexed, all-sized}
+use Rattle.index.proofs.RulesIndexed.{Indexing, none-passed, none-there, rule-off, rule-on, all-left-out, all-indexed, all-sized}
 use Rattle.index.proofs.fill.index_rules.Statement.{statement}
 use Rattle.index.proofs.fill.index_rules.Tie as tie
 
@@ -35,8 +37,11 @@ rules-of-requires c κs = search needs
 loop-holds : tie.Need-loop-holds Inv-loop μ-loop
 loop-holds c = none-passed _ _ (c .before .pre .1)
 
-element-copy-out-if1 : tie.Need-element-copy-out-if1 Inv-loop μ-loop
-element-copy-out-if1 c = inside c
+cast-missing : tie.Need-cast-missing Inv-loop μ-loop
+cast-missing c = omega (arith, inside c)
+
+is-left-out-requires : tie.Need-is-left-out-requires Inv-loop μ-loop
+is-left-out-requires c κs = (c .before .before .before .pre .0, known c)
 
 mul-missing : tie.Need-mul-missing Inv-loop μ-loop
 mul-missing c = omega (arith, inside (c .before .before))
@@ -51,10 +56,7 @@ loop-less : tie.Need-loop-less Inv-loop μ-loop
 loop-less c = omega arith
 
 loop-again : tie.Need-loop-again Inv-loop μ-loop
-loop-again c = rule-off (rules-below (c .before .before .before .before .before .pre .0)) (c .before .before .before .loop .inv) (known (c .before .before)) (is-off (programIn (now (c .before .before .before .before .before .args .tables))) (now (c .before .before .before .before .before .args .off)) _ (c .if1 .taken))
-
-cast-missing : tie.Need-cast-missing Inv-loop μ-loop
-cast-missing c = omega (arith, inside (c .before .before))
+loop-again c = rule-off (rules-below (c .before .before .before .before .before .pre .0)) (c .before .before .before .loop .inv) (known (c .before .before)) (not-true _ (sym (c .before .is-left-out .ensures) ∙ c .if1 .taken))
 
 index-rule-requires : tie.Need-index-rule-requires Inv-loop μ-loop
 index-rule-requires c κs = (c .before .before .before .before .before .before .pre .0, known (c .before .before .before), inside (c .before .before .before), omega (arith, c .index-rule-arg .given .0))
@@ -97,7 +99,7 @@ loop-again-2 c =
     let free = none-there few w (known (c .before .before .before .before .before .before)) in
     let premises = c .before .before .index-rule .ensures .1 in
     let constraints = c .index-constraints .ensures .1 in
-    rule-on few w (known (c .before .before .before .before .before .before)) (is-on (programIn (now (c .before .before .before .before .before .before .before .before .before .args .tables))) (now (c .before .before .before .before .before .before .before .before .before .args .off)) _ (c .before .before .before .before .if1 .left)) _ _ (premises .1) (constraints .1) _
+    rule-on few w (known (c .before .before .before .before .before .before)) (not-false _ (sym (c .before .before .before .before .before .is-left-out .ensures) ∙ c .before .before .before .before .if1 .left)) _ _ (premises .1) (constraints .1) _
     (constraints .0 _ _ _ free (premises .0 literals literals _ (omega (arith, facts-below well-formed)) (omega arith) (w .rows) free))
 
 returns : tie.Need-returns Inv-loop μ-loop
@@ -115,13 +117,13 @@ index-rules-spec =
     μ-loop
     rules-of-requires
     loop-holds
-    element-copy-out-if1
+    cast-missing
+    is-left-out-requires
     mul-missing
     element-write-missing
     add-i
     loop-less
     loop-again
-    cast-missing
     index-rule-requires
     index-constraints-requires
     add-index

@@ -5,7 +5,7 @@ use native.Mathlib.Omega.{arith}
 use lib.ListN.{length}
 use denote.Ref.{now}
 use Rattle.items.specs.Item.{narrow, bodyLength, itemOf, factId, ruleId, stepKind}
-use Rattle.items.specs.declared.item.Item.the-variants.{Facts, Opens, Premise, Constraint, Rules, Names, Step}
+use Rattle.items.specs.declared.item.Item.the-variants.{Facts, Opens, Premise, Constraint, Rules, Names, Step, Unread}
 use Rattle.items.proofs.Bodies.{a-step, step-at}
 use borrow.Author.Needs.{needs}
 use Rattle.items.proofs.item.item_of.Statement.{statement}
@@ -16,7 +16,7 @@ a-step-here : (c : tie.At-match-rest) → c .before .before .args .kind ≡ step
 a-step-here c =
     let r = c .match .rest in
     a-step (c .before .before .args .kind)
-    (record { facts = r .0 .0 .0 .0 .0 .1; opens = r .0 .0 .0 .0 .1; premise = r .0 .0 .0 .1; constraint = r .0 .0 .1; rules = r .0 .1; names = r .1 })
+    (record { facts = r .0 .0 .0 .0 .0 .0 .1; opens = r .0 .0 .0 .0 .0 .1; premise = r .0 .0 .0 .0 .1; constraint = r .0 .0 .0 .1; rules = r .0 .0 .1; names = r .0 .1; unread = r .1 })
     (c .before .before .pre .0)
 
 whole-step : (c : tie.At-match-rest) → c .before .before .args .at + 3 ≤ length (now (c .before .before .args .bytes))
@@ -48,7 +48,11 @@ unfolding bodyLength
 rule-field-requires-2 c κs = rw (c .match .keys6) at (c .before .before .pre .1)
 
 fact-field-requires-5 : tie.Need-fact-field-requires-5
-fact-field-requires-5 c κs = omega (arith, whole-step c)
+unfolding bodyLength
+fact-field-requires-5 c κs = rw (c .match .keys7) at (c .before .before .pre .1)
+
+fact-field-requires-6 : tie.Need-fact-field-requires-6
+fact-field-requires-6 c κs = omega (arith, whole-step c)
 
 add-rule-field : tie.Need-add-rule-field
 add-rule-field c = search needs
@@ -82,10 +86,14 @@ returns-6 c = rw (c .before .match .keys6) (ap (λ (n : ℕ). Names (ruleId n)) 
 
 returns-7 : tie.Need-returns-7
 unfolding bodyLength itemOf
-returns-7 c =
+returns-7 c = rw (c .before .match .keys7) (ap (λ (n : ℕ). Unread (factId n)) (c .fact-field5 .ensures))
+
+returns-8 : tie.Need-returns-8
+unfolding bodyLength itemOf
+returns-8 c =
     let p = step-at (now (c .before .before .before .before .args .bytes)) (c .before .before .before .before .args .at) (whole-step (c .before .before)) in
     rw (a-step-here (c .before .before))
-    (ap₂ (λ (f r : ℕ). Step (factId f) (ruleId r)) (c .before .fact-field5 .ensures ∙ sym (p .0)) (c .rule-field3 .ensures ∙ sym (p .1)))
+    (ap₂ (λ (f r : ℕ). Step (factId f) (ruleId r)) (c .before .fact-field6 .ensures ∙ sym (p .0)) (c .rule-field3 .ensures ∙ sym (p .1)))
 
 pub item-of-spec : {M : Type 1} → statement M
 item-of-spec =
@@ -98,6 +106,7 @@ item-of-spec =
     rule-field-requires
     rule-field-requires-2
     fact-field-requires-5
+    fact-field-requires-6
     add-rule-field
     rule-field-requires-3
     returns
@@ -106,4 +115,5 @@ item-of-spec =
     returns-4
     returns-5
     returns-6
-    returns-7)
+    returns-7
+    returns-8)

@@ -77,10 +77,14 @@ enum-told c = search needs
 cast-t18 : tie.Need-cast-t18 Inv-loop μ-loop
 cast-t18 c = omega (arith, c .before .before .before .before .before .before .before .before .before .before .loop .inv .tables .few)
 
+count-marked-requires : tie.Need-count-marked-requires Inv-loop μ-loop
+count-marked-requires c κs = omega (arith, small (c .before .before .before .before .before .before .before))
+
 returns-2 : tie.Need-returns-2 Inv-loop μ-loop
 returns-2 c =
-    let k = c .before .before .before .before .before .before in
-    c .before .before .before .scan-item .ensures _ refl _ _ (short k) (small k) (k .before .before .before .before .loop .inv) (item-read k) .ended (c .before .enum-told .given .1)
+    let k = c .before .before .before .before .before .before .before .before in
+    rw (c .count-marked .ensures)
+    (c .before .before .before .before .before .scan-item .ensures _ refl _ _ (short k) (small k) (k .before .before .before .before .loop .inv) (item-read k) .ended (c .before .before .before .enum-told .given .1))
 
 enum-known-r-2 : tie.Need-enum-known-r-2 Inv-loop μ-loop
 enum-known-r-2 c = search needs
@@ -113,6 +117,7 @@ scan-body-spec =
     loop-again
     enum-told
     cast-t18
+    count-marked-requires
     returns-2
     enum-known-r-2
     returns-3

@@ -30,6 +30,12 @@ enum-known-item-4 c = search needs
 end-file-requires : tie.Need-end-file-requires
 end-file-requires c κs = search needs
 
+enum-known-item-5 : tie.Need-enum-known-item-5
+enum-known-item-5 c = search needs
+
+take-unread-requires : tie.Need-take-unread-requires
+take-unread-requires c κs = search needs
+
 returns : tie.Need-returns
 returns c = λ s len c₀ here short small w e. c .open-rule .ensures s _ c₀ here short small w (found-as e (c .before .before .before .item .given .1))
 
@@ -43,7 +49,10 @@ returns-4 : tie.Need-returns-4
 returns-4 c = λ s len c₀ here short small w e. c .end-file .ensures s _ len c₀ here short small w (found-as e (c .before .before .before .item4 .given .1))
 
 returns-5 : tie.Need-returns-5
-returns-5 c = λ s len c₀ here short small w e. refuses (other-row (w .verdict) (found _ _ _ _ e) (c .match .keys5))
+returns-5 c = λ s len c₀ here short small w e. c .take-unread .ensures s c₀ here short small w (found-as e (c .before .before .before .before .item5 .given .1))
+
+returns-6 : tie.Need-returns-6
+returns-6 c = λ s len c₀ here short small w e. refuses (other-row (w .verdict) (found _ _ _ _ e) (c .match .keys6))
 
 pub scan-item-spec : {M : Type 1} → statement M
 scan-item-spec =
@@ -57,8 +66,11 @@ scan-item-spec =
     take-constraint-requires
     enum-known-item-4
     end-file-requires
+    enum-known-item-5
+    take-unread-requires
     returns
     returns-2
     returns-3
     returns-4
-    returns-5)
+    returns-5
+    returns-6)

@@ -1,14 +1,11 @@
--- `take_constraint`: question 6, then 7 and 51 at once, then the constraint and its mark.
+-- `take_constraint`: question 6, then 7 and 51 at once, then the constraint, and its mark or that it withholds the rule.
 use mathlib.Core.Path.{sym, ap, _∙_}
 use mathlib.Core.Option.{some}
 use native.Mathlib.Omega.{arith}
 use borrow.Author.Needs.{needs}
-use denote.Ref.{now}
 use Rattle.items.specs.declared.refusal.Refusal.{Refusal}
-use Rattle.items.specs.Item.{has}
 use Rattle.cursors.proofs.Items.{found}
 use Rattle.reader.proofs.BodyAsked.{own-constraint, own-too-high}
-use Rattle.reader.proofs.ConstraintsCounted.{one-at-most}
 use Rattle.reader.proofs.BodyRead.{goes-on, refuses, none-allowed, constraint-scanned}
 use Rattle.reader.proofs.step.take_constraint.Statement.{statement}
 use Rattle.reader.proofs.step.take_constraint.Tie as tie
@@ -31,25 +28,22 @@ mul-tables c = let r = c .before .before .before .before .before .pre in omega (
 element-write-tables : tie.Need-element-write-tables
 element-write-tables c = let r = c .before .before .before .before .before .pre in omega (arith, r .within, r .rules, c .before .if2 .left)
 
-mark-new-requires : tie.Need-mark-new-requires
-mark-new-requires c κs = let r = c .before .before .before .before .before .before .pre in omega (arith, c .before .before .before .before .if1 .left, r .small)
+mark-constraint-requires : tie.Need-mark-constraint-requires
+mark-constraint-requires c κs =
+    let r = c .before .before .before .before .before .before .before .pre in
+    (omega (arith, r .within, c .before .before .before .if2 .left), r .rules, omega (arith, c .before .before .before .before .before .if1 .left, r .small))
 
-sub-t11 : tie.Need-sub-t11
-sub-t11 c = omega (arith, c .before .before .before .before .if2 .left)
+sub-t10 : tie.Need-sub-t10
+sub-t10 c = omega (arith, c .before .before .before .before .before .if2 .left)
 
-add-t12 : tie.Need-add-t12
-add-t12 c = let r = c .before .before .before .before .before .before .before .before .before .pre in omega (arith, r .within, r .rules, c .before .before .before .before .before .if2 .left)
-
-add-t16 : tie.Need-add-t16
-add-t16 c = let r = c .before .before .before .before .before .before .before .before .before .before .pre in omega (arith, r .exceptions, r .rules)
+add-t11 : tie.Need-add-t11
+add-t11 c = let r = c .before .before .before .before .before .before .before .before .before .before .pre in omega (arith, r .within, r .rules, c .before .before .before .before .before .before .if2 .left)
 
 add-t17 : tie.Need-add-t17
-add-t17 c =
-    let r = c .before .before .before .before .before .before .before .before .before .before .before .pre in
-    omega (arith, r .found, r .small, one-at-most (has (now (c .before .before .before .before .before .before .before .before .before .before .before .args .marks)) (c .before .before .before .before .before .before .before .before .before .before .before .args .f .0)) _ (c .before .before .before .before .mark-new .ensures .0))
+add-t17 c = let r = c .before .before .before .before .before .before .before .before .before .before .before .pre in omega (arith, r .exceptions, r .rules)
 
 returns-3 : tie.Need-returns-3
-returns-3 c = λ s c₀ here short small w e. goes-on (constraint-scanned w (c .before .before .before .before .before .before .before .if2 .left) small (found _ _ _ _ e) (c .before .before .before .before .before .before .before .before .before .if1 .left) _ _ (c .before .before .before .before .mark-new .ensures .1) (c .before .before .before .before .mark-new .ensures .0))
+returns-3 c = λ s c₀ here short small w e. goes-on (constraint-scanned w (c .before .before .before .before .before .before .before .if2 .left) small (found _ _ _ _ e) (c .before .before .before .before .before .before .before .before .before .if1 .left) _ _ (c .before .before .before .mark-constraint .ensures .0) (c .before .before .before .mark-constraint .ensures .1))
 
 pub take-constraint-spec : {M : Type 1} → statement M
 take-constraint-spec =
@@ -61,9 +55,8 @@ take-constraint-spec =
     sub-tables
     mul-tables
     element-write-tables
-    mark-new-requires
-    sub-t11
-    add-t12
-    add-t16
+    mark-constraint-requires
+    sub-t10
+    add-t11
     add-t17
     returns-3)

@@ -1,5 +1,7 @@
 -- `ask_limits`: by the counts of the file.
+use mathlib.Core.Path.{sym, ap, _∙_}
 use borrow.Author.Needs.{needs}
+use Rattle.reader.specs.declared.answer.FileCounts.{FileCounts}
 use Rattle.search.proofs.SearchAsked.{order-short, too-many, within-limits}
 use Rattle.search.proofs.asked.ask_limits.Statement.{statement}
 use Rattle.search.proofs.asked.ask_limits.Tie as tie
@@ -11,16 +13,16 @@ mul-if1 : tie.Need-mul-if1
 mul-if1 c = search needs
 
 returns : tie.Need-returns
-returns c = λ P e. order-short P _ _ e (c .if1 .taken)
+returns c = order-short _ _ _ (c .before .before .pre .1) (c .if1 .taken)
 
-cast-if2 : tie.Need-cast-if2
-cast-if2 c = search needs
+too-many-guesses-requires : tie.Need-too-many-guesses-requires
+too-many-guesses-requires c κs = (c .before .before .pre .0, ap (λ (x : FileCounts). x .constrained) (c .before .before .pre .1))
 
 returns-2 : tie.Need-returns-2
-returns-2 c = λ P e. too-many P _ _ e (c .before .before .if1 .left) (c .if2 .taken)
+returns-2 c = too-many _ _ _ (c .before .before .before .before .pre .1) (c .before .before .if1 .left) (sym (c .before .too-many-guesses .ensures) ∙ c .if2 .taken)
 
 returns-3 : tie.Need-returns-3
-returns-3 c = λ P e. within-limits P _ _ e (c .before .before .if1 .left) (c .if2 .left)
+returns-3 c = within-limits _ _ _ (c .before .before .before .before .pre .1) (c .before .before .if1 .left) (sym (c .before .too-many-guesses .ensures) ∙ c .if2 .left)
 
 pub ask-limits-spec : {M : Type 1} → statement M
-ask-limits-spec = tie.close (tie.spec cast-if1 mul-if1 returns cast-if2 returns-2 returns-3)
+ask-limits-spec = tie.close (tie.spec cast-if1 mul-if1 returns too-many-guesses-requires returns-2 returns-3)

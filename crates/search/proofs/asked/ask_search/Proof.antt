@@ -21,7 +21,7 @@ returns : tie.Need-returns
 returns c = buffers-refuse _ _ _ _ _ _ (sym (c .before .r .given .1) ∙ c .before .before .before .ask-buffers .ensures)
 
 returns-2 : tie.Need-returns-2
-returns-2 c = c .ask-limits .ensures _ (c .before .before .before .before .pre .1) ∙ limits-decide _ _ _ _ _ (sym (c .before .enum-told .given .1) ∙ c .before .before .before .ask-buffers .ensures)
+returns-2 c = c .ask-limits .ensures ∙ limits-decide _ _ _ _ _ (sym (c .before .enum-told .given .1) ∙ c .before .before .before .ask-buffers .ensures)
 
 pub ask-search-spec : {M : Type 1} → statement M
 ask-search-spec =

@@ -28,7 +28,7 @@ array-read-if1 : tie.Need-array-read-if1
 array-read-if1 c = one-trial (c .before) .small
 
 returns : tie.Need-returns
-returns c = λ s w _ _. one-trial (c .before .before) .refused (c .if1 .taken) _ s w
+returns c = λ s w _ _ _. one-trial (c .before .before) .refused (c .if1 .taken) _ s w
 
 array-write-set : tie.Need-array-write-set
 array-write-set c = one-trial (c .before .before) .small
@@ -55,10 +55,10 @@ enum-told : tie.Need-enum-told
 enum-told c = search needs
 
 returns-2 : tie.Need-returns-2
-returns-2 c = λ s w prem x. one-trial (c .before .before .before .before .before .before .before .before .before .before .before .before .before .before .before) .passes (c .before .before .before .before .before .before .before .before .before .before .before .before .before .if1 .left) _ _ _ _ _ (c .before .before .before .derive .ensures) _ (c .before .steps .given .1) s w prem x
+returns-2 c = λ s w prem x o. one-trial (c .before .before .before .before .before .before .before .before .before .before .before .before .before .before .before) .passes (c .before .before .before .before .before .before .before .before .before .before .before .before .before .if1 .left) _ _ _ _ _ (c .before .before .before .derive .ensures) _ (c .before .steps .given .1) s w prem x o
 
 returns-3 : tie.Need-returns-3
-returns-3 c = λ s w _ _. one-trial (c .before .before .before .before .before .before .before .before .before .before .before .before .before .before) .fails (c .before .before .before .before .before .before .before .before .before .before .before .before .if1 .left) _ _ _ _ _ (c .before .before .derive .ensures) (c .enum-told .given .1) s w
+returns-3 c = λ s w _ _ _. one-trial (c .before .before .before .before .before .before .before .before .before .before .before .before .before .before) .fails (c .before .before .before .before .before .before .before .before .before .before .before .before .if1 .left) _ _ _ _ _ (c .before .before .derive .ensures) (c .enum-told .given .1) s w
 
 pub trial-spec : {M : Type 1} → statement M
 trial-spec =

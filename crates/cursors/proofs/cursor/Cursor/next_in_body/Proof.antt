@@ -18,6 +18,9 @@ shared-slice-read-kind c = search needs
 read-kind-requires : tie.Need-read-kind-requires
 read-kind-requires c κs = search needs
 
+read-kind-requires-2 : tie.Need-read-kind-requires-2
+read-kind-requires-2 c κs = search needs
+
 stay-requires-2 : tie.Need-stay-requires-2
 stay-requires-2 c κs = search needs
 
@@ -25,11 +28,11 @@ returns-2 : tie.Need-returns-2
 returns-2 c = search needs
 
 returns-3 : tie.Need-returns-3
-returns-3 c =
-    c .stay2 .ensures ∙ unlike _ _ Body (c .before .before .before .before .before .before .pre) (c .before .before .before .before .if1 .left) (past-rule-kinds _ (c .before .before .if2 .taken) (c .before .match .rest .1))
+returns-3 c = search needs
 
-read-kind-requires-2 : tie.Need-read-kind-requires-2
-read-kind-requires-2 c κs = search needs
+returns-4 : tie.Need-returns-4
+returns-4 c =
+    c .stay2 .ensures ∙ unlike _ _ Body (c .before .before .before .before .before .before .pre) (c .before .before .before .before .if1 .left) (past-rule-kinds _ (c .before .before .if2 .taken) (c .before .match .rest .0 .1) (c .before .match .rest .1))
 
 read-kind-requires-3 : tie.Need-read-kind-requires-3
 read-kind-requires-3 c κs = search needs
@@ -37,11 +40,11 @@ read-kind-requires-3 c κs = search needs
 read-kind-requires-4 : tie.Need-read-kind-requires-4
 read-kind-requires-4 c κs = search needs
 
+read-kind-requires-5 : tie.Need-read-kind-requires-5
+read-kind-requires-5 c κs = search needs
+
 stay-requires-3 : tie.Need-stay-requires-3
 stay-requires-3 c κs = search needs
-
-returns-4 : tie.Need-returns-4
-returns-4 c = search needs
 
 returns-5 : tie.Need-returns-5
 returns-5 c = search needs
@@ -50,7 +53,10 @@ returns-6 : tie.Need-returns-6
 returns-6 c = search needs
 
 returns-7 : tie.Need-returns-7
-returns-7 c =
+returns-7 c = search needs
+
+returns-8 : tie.Need-returns-8
+returns-8 c =
     c .stay3 .ensures ∙ unlike _ _ Body (c .before .before .before .before .before .before .pre) (c .before .before .before .before .if1 .left) (no-rule-kind _ (c .before .before .if2 .left) (c .before .match2 .rest .0 .0 .1) (c .before .match2 .rest .0 .1) (c .before .match2 .rest .1))
 
 pub next-in-body-spec : {M : Type 1} → statement M
@@ -61,14 +67,16 @@ next-in-body-spec =
     returns
     shared-slice-read-kind
     read-kind-requires
+    read-kind-requires-2
     stay-requires-2
     returns-2
     returns-3
-    read-kind-requires-2
+    returns-4
     read-kind-requires-3
     read-kind-requires-4
+    read-kind-requires-5
     stay-requires-3
-    returns-4
     returns-5
     returns-6
-    returns-7)
+    returns-7
+    returns-8)

@@ -93,6 +93,9 @@ enum-told-29 c = search needs
 enum-told-30 : tie.Need-enum-told-30
 enum-told-30 c = search needs
 
+enum-told-31 : tie.Need-enum-told-31
+enum-told-31 c = search needs
+
 returns : tie.Need-returns
 returns c = rw (c .enum-told .given .1)
 
@@ -183,6 +186,9 @@ returns-29 c = rw (c .enum-told29 .given .1)
 returns-30 : tie.Need-returns-30
 returns-30 c = rw (c .enum-told30 .given .1)
 
+returns-31 : tie.Need-returns-31
+returns-31 c = rw (c .enum-told31 .given .1)
+
 pub number-spec : {M : Type 1} → statement M
 number-spec =
     tie.close
@@ -217,6 +223,7 @@ number-spec =
     enum-told-28
     enum-told-29
     enum-told-30
+    enum-told-31
     returns
     returns-2
     returns-3
@@ -246,4 +253,5 @@ number-spec =
     returns-27
     returns-28
     returns-29
-    returns-30)
+    returns-30
+    returns-31)

@@ -1,11 +1,10 @@
-// What the scan stores. Internal.
+// What the scan of a file stores: rules, counts and unread facts in the tables, and marks of facts in its scratch memory. Internal.
 ghost use mathlib.Core.Path.{_≡_};
-ghost use mathlib.Core.Bool.{cond};
 ghost use Prim.Native.Nat.{_<_, _≤_};
 ghost use lib.ListN.{set};
-ghost use Rattle.items.specs.Item.{narrow, maxFacts, maxRules, maxBytes, has};
+ghost use Rattle.items.specs.Item.{narrow, maxFacts, maxRules, maxBytes};
 ghost use Rattle.tables.specs.Layout.{maxOwn};
-ghost use Rattle.reader.specs.Stores.{withStarts, withRule, withCounts};
+ghost use Rattle.stores.specs.Stores.{withStarts, withRule, withCounts, withUnread, withholding, unreadMark, isUnread, withMark};
 use items::item::MAX_FACTS;
 use tables::layout::CONCLUSIONS;
 use tables::layout::CONSTRAINT_STARTS;
@@ -14,6 +13,8 @@ use tables::layout::PLACES;
 use tables::layout::PREMISE_STARTS;
 use tables::layout::RULES_CELL;
 use tables::layout::TABLE_CELLS;
+use tables::layout::UNREAD;
+use tables::layout::WITHHELD;
 
 // Where the premises and the constraints of a rule start; past the last rule, where they end.
 fn store_starts(tables: &mut [u16; TABLE_CELLS], rule: usize, premises: usize, constraints: usize)
@@ -57,14 +58,37 @@ pub fn store_counts(
     tables[RULES_CELL] = rules;
 }
 
-// Marks a fact with 1: 1 where it had no mark, else 0.
-pub fn mark_new(marks: &mut [u8; MAX_FACTS], fact: u16) -> u16
+// The marks of the scan's scratch memory: a fact that is a constraint of some rule, and one that is unread.
+const CONSTRAINT: u8 = 1;
+
+const UNREAD_FACT: u8 = 2;
+
+// A fact that is unread.
+pub fn store_unread(tables: &mut [u16; TABLE_CELLS], marks: &mut [u8; MAX_FACTS], fact: u16)
     requires { ⌜ fact < maxFacts narrow ⌝ }
-    ensures { λ r. ⌜ r ≡ cond (has (now (marks .entry)) fact) 0 1 ⌝ }
-    ensures { λ _. ⌜ now (marks .exit) ≡ set (now (marks .entry)) fact 1 ⌝ }
+    ensures { λ _. ⌜ now (tables .exit) ≡ withUnread (now (tables .entry)) fact ⌝ }
+    ensures { λ _. ⌜ now (marks .exit) ≡ set (now (marks .entry)) fact unreadMark ⌝ }
 {
     let number = fact as usize;
-    let before = marks[number];
-    marks[number] = 1;
-    if before == 1 { 0 } else { 1 }
+    tables[UNREAD + number] = 1;
+    marks[number] = UNREAD_FACT;
+}
+
+// A constraint of the last of so many rules: where it is unread the rule is withheld, else the fact is marked. One read of its mark tells both.
+pub fn mark_constraint(
+    tables: &mut [u16; TABLE_CELLS],
+    marks: &mut [u8; MAX_FACTS],
+    rules: usize,
+    fact: u16,
+)
+    requires { ⌜ (0 < rules) × (rules ≤ maxRules) × (fact < maxFacts narrow) ⌝ }
+    ensures { λ _. ⌜ now (tables .exit) ≡ withholding (now (tables .entry)) rules (isUnread (now (marks .entry)) fact) ⌝ }
+    ensures { λ _. ⌜ now (marks .exit) ≡ withMark (now (marks .entry)) fact ⌝ }
+{
+    let number = fact as usize;
+    if marks[number] == UNREAD_FACT {
+        tables[WITHHELD + (rules - 1)] = 1;
+        return;
+    }
+    marks[number] = CONSTRAINT;
 }

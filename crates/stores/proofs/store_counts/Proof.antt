@@ -5,8 +5,8 @@ use Prim.Native.Nat.{ℕ}
 use lib.ListN.{set}
 use Rattle.tables.specs.Layout.{factsCell, rulesCell}
 use borrow.Author.Needs.{needs}
-use Rattle.reader.proofs.stores.store_counts.Statement.{statement}
-use Rattle.reader.proofs.stores.store_counts.Tie as tie
+use Rattle.stores.proofs.store_counts.Statement.{statement}
+use Rattle.stores.proofs.store_counts.Tie as tie
 
 store-starts-requires : tie.Need-store-starts-requires
 store-starts-requires c κs = search needs

@@ -1,20 +1,20 @@
--- `conclusions_of`: the keys below i are told.
+-- `keys_of`: the keys below i are told.
 use Prim.Native.Nat.{_-_, _<_}
-use mathlib.Core.Path.{_≡_, ap}
+use mathlib.Core.Path.{_≡_}
 use native.Mathlib.Omega.{arith}
 use borrow.Author.Needs.{needs}
 use denote.Ref.{now}
-use Rattle.theory.specs.Rule.{count, rule}
-use Rattle.items.specs.declared.item.FactId.{FactId}
+use Rattle.theory.specs.Rule.{count}
 use Rattle.items.specs.Item.{maxRules}
 use Rattle.tables.specs.Layout.{programIn}
 use Rattle.tables.proofs.ProgramHeld.{rules-below}
 use Rattle.threads.proofs.KeysTold.{Keying, none-keyed, one-keyed}
-use Rattle.descent.proofs.walk.conclusions_of.Statement.{statement}
-use Rattle.descent.proofs.walk.conclusions_of.Tie as tie
+use Rattle.descent.specs.Standing.{ruleKey}
+use Rattle.descent.proofs.walk.keys_of.Statement.{statement}
+use Rattle.descent.proofs.walk.keys_of.Tie as tie
 
 abbrev Inv-loop : tie.InvT-loop
-Inv-loop tables rules keys₀ i₀ keys i = (rules ≡ count (programIn tables)) × Keying (λ j. rule (programIn tables) j .conclusion) keys i
+Inv-loop tables rules keys₀ i₀ keys i = (rules ≡ count (programIn tables)) × Keying (ruleKey (programIn tables)) keys i
 
 abbrev μ-loop : tie.MeasureT-loop
 μ-loop tables rules keys₀ i₀ keys i = rules - i
@@ -34,8 +34,8 @@ inside c = omega (arith, below c, rules-below (c .before .before .before .pre))
 cast-t7 : tie.Need-cast-t7 Inv-loop μ-loop
 cast-t7 c = omega (arith, inside c)
 
-conclusion-requires : tie.Need-conclusion-requires Inv-loop μ-loop
-conclusion-requires c κs = (c .before .before .before .pre, below c)
+rule-key-requires : tie.Need-rule-key-requires Inv-loop μ-loop
+rule-key-requires c κs = (c .before .before .before .pre, below c)
 
 mul-keys : tie.Need-mul-keys Inv-loop μ-loop
 mul-keys c = omega (arith, inside (c .before))
@@ -50,13 +50,13 @@ loop-less : tie.Need-loop-less Inv-loop μ-loop
 loop-less c = omega arith
 
 loop-again : tie.Need-loop-again Inv-loop μ-loop
-loop-again c = (c .before .before .loop .inv .0, one-keyed (c .before .before .loop .inv .1) (inside (c .before)) _ (ap (λ (f : FactId). f .0) (c .conclusion .ensures)))
+loop-again c = (c .before .before .loop .inv .0, one-keyed (c .before .before .loop .inv .1) (inside (c .before)) _ (c .rule-key .ensures))
 
 returns : tie.Need-returns Inv-loop μ-loop
 returns c i l = c .before .loop .inv .1 .shown i (omega (arith, c .before .loop .inv .0, c .loop-test .left))
 
-pub conclusions-of-spec : {M : Type 1} → statement M
-conclusions-of-spec =
+pub keys-of-spec : {M : Type 1} → statement M
+keys-of-spec =
     tie.close
     (tie.spec
     Inv-loop
@@ -64,7 +64,7 @@ conclusions-of-spec =
     rules-of-requires
     loop-holds
     cast-t7
-    conclusion-requires
+    rule-key-requires
     mul-keys
     array-write-keys
     add-i
