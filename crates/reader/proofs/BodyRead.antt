@@ -1,14 +1,15 @@
 -- The scan of the items after the first: a law for each way through its loop.
 use Prim.Native.Nat.{ℕ, _+_, _-_, _<_, _≤_}
 use mathlib.Core.Path.{_≡_, refl, sym, ap, ap₂, subst, _∙_}
-use mathlib.Core.Bool.{Bool, true, false}
+use mathlib.Core.Bool.{Bool, true, false, cond}
 use mathlib.Core.List.{List, []}
 use native.Mathlib.Omega.{arith}
 use mathlib.Core.Option.{none, some}
-use borrow.Author.Tests.{eqb-true, eqb-false}
+use borrow.Author.Tests.{eqb-true, eqb-false, leb-true, leb-false}
 use lib.ListN.{length, set, drop, length-replicate}
-use lib.Dec.{eqb}
+use lib.Dec.{eqb, leb}
 use Rattle.items.specs.declared.refusal.Refusal.{Refusal}
+use Rattle.items.specs.declared.refusal.Refusal.the-variants.{FactTooHigh, UnreadAfterRule}
 use Rattle.items.specs.declared.item.FactId.{FactId}
 use Rattle.items.specs.declared.item.Item.{Item}
 use Rattle.items.specs.declared.item.Item.the-variants.{Opens, Premise, Constraint, Rules, Unread}
@@ -26,12 +27,12 @@ use Rattle.reader.specs.declared.step.Progress.{Progress}
 use Rattle.reader.specs.declared.step.Step.the-variants.{On, Ended, Refused}
 use Rattle.reader.specs.Asked.{askedOf, countsOf}
 use Rattle.reader.specs.BodyScanned.{programFrom, bodyNo, Cleared, Unmarked}
-use Rattle.reader.specs.Scanning.{noneAllowed, Along, Counting, Scanning, Answered, countsRead, Stepped, Room}
+use Rattle.reader.specs.Scanning.{noneAllowed, Late, lateNo, Along, Counting, Scanning, Answered, countsRead, Stepped, Room}
 use Rattle.reader.specs.Questions.{fresh, rulesOf}
 use Rattle.stores.specs.Stores.{withRule, withCounts, withUnread, withholding, unreadMark, isUnread, withMark}
 use Rattle.reader.proofs.FileAsked.{said-no}
 use Rattle.reader.proofs.Accepted.{good-body, body-bounded}
-use Rattle.reader.proofs.BodyAsked.{not-begun, Own, own-premise, own-constraint, unread-read, rule-opened, no-rule-opened, rule-too-long, own-read, all-yes}
+use Rattle.reader.proofs.BodyAsked.{not-begun, Own, own-premise, own-constraint, unread-too-high, unread-late, unread-read, rule-opened, no-rule-opened, rule-too-long, own-read, all-yes}
 use Rattle.stores.proofs.CellsStored.{MarksKept, rule-stored, counts-stored, rule-marks, counts-marks, own-marks, UnreadStored, unread-stored, WithheldStored, withheld-stored}
 use Rattle.reader.proofs.UnreadMarked.{none-unread, none-held, kept-unread, held-unread, unread-more, holding-kept, rule-held, premise-held, constraint-held, unread-held, unread-told}
 use Rattle.reader.proofs.RulesStored.{none-stored, opened-rule, rule-kept, storing-kept, unread-kept, premise-kept, constraint-kept, all-stored, all-read}
@@ -53,14 +54,14 @@ another-way : {A : Type 0} → _≡_ {A = ℕ} 0 1 → A
 another-way z = absurd (omega arith)
 
 module _ {facts : ℕ} {s : List ℕ} {c₀ : Cursor} {T marks : List ℕ} {d : Cursor} {p : Progress} where
-  pub goes-on : {q : Progress} → Scanning facts s c₀ T marks d q → Stepped facts s c₀ T marks d p (On q)
-  goes-on {q} w = record { on = λ q′ e. let is : q ≡ q′ = cc in subst (Scanning facts s c₀ T marks d) is w; ended = λ e. another-way cc; refused = λ n e. another-way cc }
+  pub goes-on : {q : Progress} → (q .rules ≡ 0 → ⊥) → Scanning facts s c₀ T marks d q → Stepped facts s c₀ T marks d p (On q)
+  goes-on {q} some-rule w = record { on = λ q′ e. let is : q ≡ q′ = cc in subst (Scanning facts s c₀ T marks d) is w; opened = λ q′ e z. let is : q ≡ q′ = cc in some-rule (ap (λ (x : Progress). x .rules) is ∙ z); ended = λ e. another-way cc; refused = λ n e. another-way cc }
 
   pub ends : Answered facts s c₀ T (Yes (countsRead facts marks p)) → Stepped facts s c₀ T marks d p Ended
-  ends w = record { on = λ q e. another-way cc; ended = λ _. w; refused = λ n e. another-way cc }
+  ends w = record { on = λ q e. another-way cc; opened = λ q e. another-way cc; ended = λ _. w; refused = λ n e. another-way cc }
 
   pub refuses : {r : Refusal} → bodyNo facts s c₀ ≡ some r → Stepped facts s c₀ T marks d p (Refused r)
-  refuses {r} said = record { on = λ q e. another-way cc; ended = λ e. another-way cc; refused = λ n e. let is : r ≡ n = cc in said-no _ (said ∙ ap some is) }
+  refuses {r} said = record { on = λ q e. another-way cc; opened = λ q e. another-way cc; ended = λ e. another-way cc; refused = λ n e. let is : r ≡ n = cc in said-no _ (said ∙ ap some is) }
 
 -- an item that was read, once its kind is known
 pub found-as : {r : Read} {d : Cursor} {i j : Item} → r ≡ Found i d → i ≡ j → r ≡ Found j d
@@ -118,6 +119,16 @@ module _ {facts : ℕ} {s : List ℕ} {c₀ : Cursor} {T marks : List ℕ} {c : 
       all-ahead : rulesOf (itemsAt s c₀) ≡ rulesOf (itemsAt s c)
       all-ahead = ap (λ (n : ℕ). drop n (rulesOf (itemsAt s c₀))) (sym none-opened) ∙ w .tables .passed
 
+  -- an unread fact that is not taken
+  pub unread-refused : {f : FactId} {d : Cursor} → ReadAt s c (Unread f) d → Late facts (Unread f) p → bodyNo facts s c₀ ≡ some (lateNo facts f)
+  unread-refused {f} r late = go (leb facts (f .0)) refl
+    where
+      go : (b : Bool) → leb facts (f .0) ≡ b → bodyNo facts s c₀ ≡ some (cond b FactTooHigh UnreadAfterRule)
+      go true e = unread-too-high (w .verdict) r (leb-true _ _ e)
+      go false e =
+          let below : f .0 < facts = leb-false _ _ e in
+          unread-late (w .verdict) r below (λ z. let high : facts ≤ f .0 = late f refl z in omega arith)
+
   -- an item of a rule's own, where none is allowed
   pub none-allowed : {i : Item} {f : FactId} {d : Cursor} → Own i f → ReadAt s c i d → f .0 < facts → p .allowance ≡ 0 → bodyNo facts s c₀ ≡ some (noneAllowed (p .rules))
   none-allowed asked r below none-left = go (eqb (p .rules) 0) refl
@@ -129,7 +140,7 @@ module _ {facts : ℕ} {s : List ℕ} {c₀ : Cursor} {T marks : List ℕ} {c : 
           rw e (rule-too-long (w .verdict) asked r below opened (omega (arith, w .left opened)))
 
   module _ (some-left : p .allowance ≡ 0 → ⊥) where
-    some-opened : p .rules ≡ 0 → ⊥
+    pub some-opened : p .rules ≡ 0 → ⊥
     some-opened e = omega (arith, w .tables .within)
 
     one-more : w .own < maxRuleItems

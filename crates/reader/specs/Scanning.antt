@@ -4,9 +4,11 @@ use mathlib.Core.Path.{_≡_}
 use mathlib.Core.Bool.{Bool, false, cond, not, _&&_, _||_}
 use mathlib.Core.List.{List, [], _∷_, _++_}
 use lib.ListN.{length, getD, drop}
-use lib.Dec.{eqb}
+use lib.Dec.{eqb, leb}
 use Rattle.theory.specs.Rule.{any, mem, howMany, upTo, Rule, FactSet, blank, null}
+use Rattle.items.specs.declared.item.FactId.{FactId}
 use Rattle.items.specs.declared.item.Item.{Item}
+use Rattle.items.specs.declared.item.Item.the-variants.{Unread}
 use Rattle.cursors.specs.declared.cursor.Cursor.{Cursor}
 use Rattle.cursors.specs.declared.cursor.Row.the-variants.{Body}
 use Rattle.cursors.specs.declared.cursor.Read.the-variants.{Found}
@@ -20,7 +22,7 @@ use Rattle.reader.specs.declared.answer.Asked.{Asked}
 use Rattle.reader.specs.declared.answer.Asked.the-variants.{Yes, No}
 use Rattle.reader.specs.declared.answer.FileCounts.{FileCounts}
 use Rattle.items.specs.declared.refusal.Refusal.{Refusal}
-use Rattle.items.specs.declared.refusal.Refusal.the-variants.{NoRuleOpened, RuleTooLong}
+use Rattle.items.specs.declared.refusal.Refusal.the-variants.{FactTooHigh, NoRuleOpened, RuleTooLong, UnreadAfterRule}
 use Rattle.reader.specs.declared.step.Progress.{Progress}
 use Rattle.reader.specs.declared.step.Step.{Step}
 use Rattle.reader.specs.declared.step.Step.the-variants.{On, Ended, Refused}
@@ -114,6 +116,22 @@ pub record Scanning (facts : ℕ) (s : List ℕ) (c₀ : Cursor) (T marks : List
   pub counts : Counting facts s c₀ c (unreadIn T facts) marks (p .rules) (p .exceptions) (p .plain)
   pub withheld : Holding facts s c₀ c T (p .rules)
 
+-- No rule is opened yet.
+abbrev pub unopened : Progress
+unopened = record { rules = 0; allowance = 0; filled = 0; barred = 0; exceptions = 0; plain = 0 }
+
+-- An unread fact that the scan of the rules meets stands behind a rule, or is too high: the others are taken before it.
+abbrev pub Late : ℕ → Item → Progress → Type 0
+Late facts i p = (f : FactId) → i ≡ Unread f → p .rules ≡ 0 → facts ≤ f .0
+
+abbrev pub lateNo : ℕ → FactId → Refusal
+lateNo facts f = cond (leb facts (f .0)) FactTooHigh UnreadAfterRule
+
+-- The unread facts from c₀ up to c are taken, and no more are to come before a rule.
+pub record UnreadTaken (facts : ℕ) (s : List ℕ) (c₀ : Cursor) (T marks : List ℕ) (c : Cursor) : Type 0 where
+  pub scanned : Scanning facts s c₀ T marks c unopened
+  pub rest-late : (i : Item) (d : Cursor) → nextAt s c ≡ Found i d → Late facts i unopened
+
 -- What the scan of the body promises.
 abbrev pub Answered : ℕ → List ℕ → Cursor → List ℕ → Asked → Type 0
 Answered facts s c₀ T r = (r ≡ askedOf (bodyNo facts s c₀) (countsOf (programFrom facts s c₀))) × BodyScanned facts s c₀ T
@@ -125,6 +143,7 @@ countsRead facts marks p = record { facts = facts; rules = p .rules; exceptions 
 -- An item is scanned: the scan stands at the next one, or it is over. p is what was read before.
 pub record Stepped (facts : ℕ) (s : List ℕ) (c₀ : Cursor) (T marks : List ℕ) (d : Cursor) (p : Progress) (r : Step) : Type 0 where
   pub on : (q : Progress) → r ≡ On q → Scanning facts s c₀ T marks d q
+  pub opened : (q : Progress) → r ≡ On q → q .rules ≡ 0 → ⊥
   pub ended : r ≡ Ended → Answered facts s c₀ T (Yes (countsRead facts marks p))
   pub refused : (n : Refusal) → r ≡ Refused n → Answered facts s c₀ T (No n)
 

@@ -3,8 +3,8 @@ ghost use Prim.Native.Nat.{ℕ};
 ghost use mathlib.Core.Path.{_≡_};
 ghost use mathlib.Core.List.{List};
 ghost use lib.ListN.{length};
-ghost use Rattle.items.specs.declared.item.Item.the-variants.{Opens, Premise, Constraint, Rules, Unread};
-ghost use Rattle.reader.specs.Scanning.{noneAllowed, Room, Scans};
+ghost use Rattle.items.specs.declared.item.Item.the-variants.{Opens, Premise, Constraint, Rules};
+ghost use Rattle.reader.specs.Scanning.{noneAllowed, lateNo, Late, Room, Scans};
 use cursors::cursor::Cursor;
 use items::item::FactId;
 use items::item::Item;
@@ -136,25 +136,15 @@ fn take_constraint(
     })
 }
 
-fn take_unread(
-    f: FactId,
-    next: Cursor,
-    facts: u16,
-    before: Progress,
-    tables: &mut [u16; TABLE_CELLS],
-    marks: &mut [u8; MAX_FACTS],
-) -> Step
-    requires { ⌜ Room facts next before ⌝ }
-    ensures { λ r. ⌜ ((s : List ℕ) → Scans facts s (Unread f) next before (now (tables .entry)) (now (marks .entry)) (now (tables .exit)) (now (marks .exit)) r) ⌝ }
+// Questions 6 and 56, of an unread fact that is too high or follows a rule: the others are taken before the first rule.
+fn refuse_unread(f: FactId, facts: u16) -> Refusal
+    ensures { λ r. ⌜ r ≡ lateNo facts f ⌝ }
 {
     if facts <= f.0 {
-        return Step::Refused(Refusal::FactTooHigh);
+        Refusal::FactTooHigh
+    } else {
+        Refusal::UnreadAfterRule
     }
-    if before.rules != 0 {
-        return Step::Refused(Refusal::UnreadAfterRule);
-    }
-    stores::store_unread(tables, marks, f.0);
-    Step::On(before)
 }
 
 // `end` is the length of the file.
@@ -190,14 +180,14 @@ pub fn scan_item(
     marks: &mut [u8; MAX_FACTS],
 ) -> Step
     requires { ⌜ Room facts next before ⌝ }
-    ensures { λ r. ⌜ ((s : List ℕ) → length s ≡ end → Scans facts s item next before (now (tables .entry)) (now (marks .entry)) (now (tables .exit)) (now (marks .exit)) r) ⌝ }
+    ensures { λ r. ⌜ ((s : List ℕ) → length s ≡ end → Late facts item before → Scans facts s item next before (now (tables .entry)) (now (marks .entry)) (now (tables .exit)) (now (marks .exit)) r) ⌝ }
 {
     match item {
         Item::Opens(f) => open_rule(f, next, facts, before, tables),
         Item::Premise(f) => take_premise(f, next, facts, before, tables),
         Item::Constraint(f) => take_constraint(f, next, facts, before, tables, marks),
         Item::Rules(n) => end_file(n, next, end, facts, before, tables),
-        Item::Unread(f) => take_unread(f, next, facts, before, tables, marks),
+        Item::Unread(f) => Step::Refused(refuse_unread(f, facts)),
         _ => Step::Refused(Refusal::UnknownKind),
     }
 }

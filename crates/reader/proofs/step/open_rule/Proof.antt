@@ -21,7 +21,7 @@ add-t11 : tie.Need-add-t11
 add-t11 c = omega (arith, c .before .before .before .if2 .left)
 
 returns-3 : tie.Need-returns-3
-returns-3 c = λ s marks c₀ here short small w e. goes-on (rule-scanned w small (found _ _ _ _ e) (c .before .before .before .before .before .if1 .left) (c .before .before .before .if2 .left) _ (c .before .store-rule .ensures))
+returns-3 c = λ s marks c₀ here short small w e. goes-on (λ z. omega arith) (rule-scanned w small (found _ _ _ _ e) (c .before .before .before .before .before .if1 .left) (c .before .before .before .if2 .left) _ (c .before .store-rule .ensures))
 
 pub open-rule-spec : {M : Type 1} → statement M
 open-rule-spec = tie.close (tie.spec returns returns-2 store-rule-requires add-t11 returns-3)

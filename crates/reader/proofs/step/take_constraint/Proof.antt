@@ -6,7 +6,7 @@ use borrow.Author.Needs.{needs}
 use Rattle.items.specs.declared.refusal.Refusal.{Refusal}
 use Rattle.cursors.proofs.Items.{found}
 use Rattle.reader.proofs.BodyAsked.{own-constraint, own-too-high}
-use Rattle.reader.proofs.BodyRead.{goes-on, refuses, none-allowed, constraint-scanned}
+use Rattle.reader.proofs.BodyRead.{goes-on, refuses, none-allowed, some-opened, constraint-scanned}
 use Rattle.reader.proofs.step.take_constraint.Statement.{statement}
 use Rattle.reader.proofs.step.take_constraint.Tie as tie
 
@@ -43,7 +43,7 @@ add-t17 : tie.Need-add-t17
 add-t17 c = let r = c .before .before .before .before .before .before .before .before .before .before .before .pre in omega (arith, r .exceptions, r .rules)
 
 returns-3 : tie.Need-returns-3
-returns-3 c = λ s c₀ here short small w e. goes-on (constraint-scanned w (c .before .before .before .before .before .before .before .if2 .left) small (found _ _ _ _ e) (c .before .before .before .before .before .before .before .before .before .if1 .left) _ _ (c .before .before .before .mark-constraint .ensures .0) (c .before .before .before .mark-constraint .ensures .1))
+returns-3 c = λ s c₀ here short small w e. goes-on (some-opened w (c .before .before .before .before .before .before .before .if2 .left)) (constraint-scanned w (c .before .before .before .before .before .before .before .if2 .left) small (found _ _ _ _ e) (c .before .before .before .before .before .before .before .before .before .if1 .left) _ _ (c .before .before .before .mark-constraint .ensures .0) (c .before .before .before .mark-constraint .ensures .1))
 
 pub take-constraint-spec : {M : Type 1} → statement M
 take-constraint-spec =

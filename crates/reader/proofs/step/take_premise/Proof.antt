@@ -6,7 +6,7 @@ use borrow.Author.Needs.{needs}
 use Rattle.items.specs.declared.refusal.Refusal.{Refusal}
 use Rattle.cursors.proofs.Items.{found}
 use Rattle.reader.proofs.BodyAsked.{own-premise, own-too-high}
-use Rattle.reader.proofs.BodyRead.{goes-on, refuses, none-allowed, premise-scanned}
+use Rattle.reader.proofs.BodyRead.{goes-on, refuses, none-allowed, some-opened, premise-scanned}
 use Rattle.reader.proofs.step.take_premise.Statement.{statement}
 use Rattle.reader.proofs.step.take_premise.Tie as tie
 
@@ -35,7 +35,7 @@ add-t10 : tie.Need-add-t10
 add-t10 c = let r = c .before .before .before .before .before .before .before .pre in omega (arith, r .within, r .rules, c .before .before .before .if2 .left)
 
 returns-3 : tie.Need-returns-3
-returns-3 c = λ s marks c₀ here short small w e. goes-on (premise-scanned w (c .before .before .before .if2 .left) small (found _ _ _ _ e) (c .before .before .before .before .before .if1 .left))
+returns-3 c = λ s marks c₀ here short small w e. goes-on (some-opened w (c .before .before .before .if2 .left)) (premise-scanned w (c .before .before .before .if2 .left) small (found _ _ _ _ e) (c .before .before .before .before .before .if1 .left))
 
 pub take-premise-spec : {M : Type 1} → statement M
 take-premise-spec =
