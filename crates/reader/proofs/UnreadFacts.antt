@@ -29,18 +29,18 @@ use Rattle.reader.proofs.Accepted.{GoodBody, opens, own, unread, last, 
 
 -- What a read tells of the item at a cursor.
 module _ (s : List ℕ) (c d : Cursor) where
-  pub refused-there : {r : Refusal} → nextAt s c ≡ Refused r d → firstUnread (itemsAt s c) ≡ false
-  refused-there {r} e = ⊎-elim (λ q. ap firstUnread (q .0)) (λ q. ap firstUnread q) (not-found s c d r e .why)
+  pub no-unread-at-refusal : {r : Refusal} → nextAt s c ≡ Refused r d → firstUnread (itemsAt s c) ≡ false
+  no-unread-at-refusal {r} e = ⊎-elim (λ q. ap firstUnread (q .0)) (λ q. ap firstUnread q) (not-found s c d r e .why)
 
-  pub ended-there : nextAt s c ≡ Ended d → firstUnread (itemsAt s c) ≡ false
-  ended-there e = ap firstUnread (row-ended s c d e)
+  pub no-unread-at-end : nextAt s c ≡ Ended d → firstUnread (itemsAt s c) ≡ false
+  no-unread-at-end e = ap firstUnread (row-ended s c d e)
 
   pub unread-there : {f : FactId} → ReadAt s c (Unread f) d → firstUnread (itemsAt s c) ≡ true
   unread-there r = ap firstUnread (r .items)
 
   -- an item of another kind
-  pub other-there : {i : Item} → ReadAt s c i d → Tagged (0 ∷ 1 ∷ 2 ∷ 3 ∷ 4 ∷ 5 ∷ 6 ∷ []) i → firstUnread (itemsAt s c) ≡ false
-  other-there {i} r k = ap firstUnread (r .items) ∙ rw (unsaid (by-tags i .unread) (0 ∷ 1 ∷ 2 ∷ 3 ∷ 4 ∷ 5 ∷ 6 ∷ []) (tt, tt) k)
+  pub no-unread-at-other : {i : Item} → ReadAt s c i d → Tagged (0 ∷ 1 ∷ 2 ∷ 3 ∷ 4 ∷ 5 ∷ 6 ∷ []) i → firstUnread (itemsAt s c) ≡ false
+  no-unread-at-other {i} r k = ap firstUnread (r .items) ∙ rw (unsaid (by-tags i .unread) (0 ∷ 1 ∷ 2 ∷ 3 ∷ 4 ∷ 5 ∷ 6 ∷ []) (tt, tt) k)
 
 -- an item that names no unread fact
 not-named : (i : Item) (ts : List Token) → _≡_ {A = Option FactId} (classOf i .unread) none → unreadOf (item i ∷ ts) ≡ unreadOf ts

@@ -24,14 +24,14 @@ same-item : {r : Read} {j i : Item} {d d′ : Cursor} → r ≡ Found j d → r 
 same-item e q = cc
 
 module _ {facts : ℕ} {s : List ℕ} {c₀ : Cursor} {T marks : List ℕ} {c : Cursor} (w : Scanning facts s c₀ T marks c unopened) (d : Cursor) where
-  pub refused-there : {r : Refusal} → nextAt s c ≡ Refused r d → UnreadTaken facts s c₀ T marks c
-  refused-there e = record { scanned = w; rest-late = λ i d′ q f is z. never cc }
+  pub taken-at-refusal : {r : Refusal} → nextAt s c ≡ Refused r d → UnreadTaken facts s c₀ T marks c
+  taken-at-refusal e = record { scanned = w; rest-late = λ i d′ q f is z. never cc }
 
-  pub ended-there : nextAt s c ≡ Ended d → UnreadTaken facts s c₀ T marks c
-  ended-there e = record { scanned = w; rest-late = λ i d′ q f is z. never cc }
+  pub taken-at-end : nextAt s c ≡ Ended d → UnreadTaken facts s c₀ T marks c
+  taken-at-end e = record { scanned = w; rest-late = λ i d′ q f is z. never cc }
 
-  pub other-there : {j : Item} → nextAt s c ≡ Found j d → Tagged (0 ∷ 1 ∷ 2 ∷ 3 ∷ 4 ∷ 5 ∷ 6 ∷ []) j → UnreadTaken facts s c₀ T marks c
-  other-there {j} e k =
+  pub taken-at-other : {j : Item} → nextAt s c ≡ Found j d → Tagged (0 ∷ 1 ∷ 2 ∷ 3 ∷ 4 ∷ 5 ∷ 6 ∷ []) j → UnreadTaken facts s c₀ T marks c
+  taken-at-other {j} e k =
       record {
         scanned = w;
         rest-late = λ i d′ q f is z.
@@ -40,8 +40,8 @@ module _ {facts : ℕ} {s : List ℕ} {c₀ : Cursor} {T marks : List ℕ} {c : 
             never cc;
       }
 
-  pub high-there : {f : FactId} → nextAt s c ≡ Found (Unread f) d → facts ≤ f .0 → UnreadTaken facts s c₀ T marks c
-  high-there {f} e high =
+  pub taken-at-high : {f : FactId} → nextAt s c ≡ Found (Unread f) d → facts ≤ f .0 → UnreadTaken facts s c₀ T marks c
+  taken-at-high {f} e high =
       record {
         scanned = w;
         rest-late = λ i d′ q g is z.

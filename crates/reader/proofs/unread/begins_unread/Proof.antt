@@ -4,7 +4,7 @@ use borrow.Author.Needs.{needs}
 use Rattle.items.specs.Item.{bodyLength}
 use Rattle.cursors.proofs.Items.{found}
 use Rattle.reader.proofs.BodyRead.{read-as}
-use Rattle.reader.proofs.UnreadFacts.{refused-there, ended-there, unread-there, other-there}
+use Rattle.reader.proofs.UnreadFacts.{no-unread-at-refusal, no-unread-at-end, unread-there, no-unread-at-other}
 use Rattle.reader.proofs.unread.begins_unread.Statement.{statement}
 use Rattle.reader.proofs.unread.begins_unread.Tie as tie
 
@@ -25,7 +25,7 @@ enum-told-3 c = search needs
 
 returns : tie.Need-returns
 unfolding bodyLength
-returns c = sym (refused-there _ _ _ (sym (c .before .before .next-in-body .ensures) ∙ c .enum-told .given .1))
+returns c = sym (no-unread-at-refusal _ _ _ (sym (c .before .before .next-in-body .ensures) ∙ c .enum-told .given .1))
 
 returns-2 : tie.Need-returns-2
 unfolding bodyLength
@@ -33,11 +33,11 @@ returns-2 c = sym (unread-there _ _ _ (read-as (sym (c .before .before .before .
 
 returns-3 : tie.Need-returns-3
 unfolding bodyLength
-returns-3 c = sym (other-there _ _ _ (found _ _ _ _ (sym (c .before .before .before .before .next-in-body .ensures) ∙ c .before .before .item .given .1)) (c .match2 .keys2))
+returns-3 c = sym (no-unread-at-other _ _ _ (found _ _ _ _ (sym (c .before .before .before .before .next-in-body .ensures) ∙ c .before .before .item .given .1)) (c .match2 .keys2))
 
 returns-4 : tie.Need-returns-4
 unfolding bodyLength
-returns-4 c = sym (ended-there _ _ _ (sym (c .before .before .next-in-body .ensures) ∙ c .enum-told3 .given .1))
+returns-4 c = sym (no-unread-at-end _ _ _ (sym (c .before .before .next-in-body .ensures) ∙ c .enum-told3 .given .1))
 
 pub begins-unread-spec : {M : Type 1} → statement M
 begins-unread-spec =
