@@ -35,7 +35,7 @@
  *     and unchanged by others during the call. With length 0 it is not read or
  *     written and may be any non-null address.
  *   - Lent buffers, those that are not const, overlap neither each other nor an
- *     input.
+ *     input. Inputs may overlap, or be one.
  *
  * What a caller gets
  *
@@ -46,8 +46,9 @@
  *   - Nothing is kept between calls, and nothing is allocated for the caller.
  *   - The stack that a call needs on x86-64, as measured: retention_load less
  *     than 1 KB, retention_check 31 KB, retention_layered 36 KB,
- *     retention_accept 60 KB, retention_grounds 69 KB, retention_judge 70 KB,
- *     retention_run 71 KB, retention_panel 108 KB, retention_search 138 KB.
+ *     retention_accept 60 KB, retention_better 68 KB, retention_grounds 69 KB,
+ *     retention_judge 70 KB, retention_run 71 KB, retention_panel 108 KB,
+ *     retention_search 138 KB.
  *
  * Refusals
  *
@@ -69,7 +70,8 @@
  *    9  1F: does it give the number of rules?
  *   10  1F: does the file end there?
  *
- *   an order or a list; 12 and 13 for each item
+ *   an order or a list; 12 and 13 for each item; of two orders all are asked of
+ *   the first, then all of the second
  *   11  Whole 05 items throughout?
  *   12  Does it name an exception rule of the file, withheld or not?
  *   13  Is the rule not named before?
@@ -131,6 +133,12 @@ typedef struct {
 typedef struct {
     uint32_t refusal, verdict;
 } retention_verdict;
+
+/* A choice between two orders: which is 1 for the first, 2 for the second, 0 on
+ * a refusal. */
+typedef struct {
+    uint32_t refusal, which;
+} retention_choice;
 
 /* An accepted file: its facts, rules, exception rules and constraint facts. The
  * rules and the exception rules have the withheld ones among them; a constraint
@@ -225,6 +233,19 @@ retention_count retention_grounds(const uint8_t *file, size_t file_len,
  */
 retention_count retention_layered(const uint8_t *file, size_t file_len,
                                   uint8_t *order, size_t order_len);
+
+/*
+ * The better of two orders: the one under which the run sets aside fewer rules,
+ * the first when they are equal. These are the rules to which retention_run
+ * gives mark 2; a withheld rule, mark 4, is not among them. Each order names
+ * every exception rule once, the withheld ones too. The reply's which is 1 for
+ * the first order, 2 for the second, 0 on a refusal. Nothing is written. The
+ * two orders may overlap, or be one.
+ * Questions: the file's, 11 to 14 of the first order, 11 to 14 of the second.
+ */
+retention_choice retention_better(const uint8_t *file, size_t file_len,
+                                  const uint8_t *first, size_t first_len,
+                                  const uint8_t *second, size_t second_len);
 
 /*
  * A test load: writes a rule file with so many facts and rules, drawn from the

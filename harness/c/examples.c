@@ -142,6 +142,16 @@ static int ordered(const layers *result, const uint8_t *order, size_t len)
         && HOLDS(result->order, order, len);
 }
 
+static int chosen(retention_choice reply, uint32_t which)
+{
+    return reply.refusal == 0 && reply.which == which;
+}
+
+static int unchosen(retention_choice reply, uint32_t refusal)
+{
+    return reply.refusal == refusal && reply.which == 0;
+}
+
 static int unloaded(const loads *result, uint32_t refusal)
 {
     return result->reply.refusal == refusal && result->reply.count == 0
@@ -535,6 +545,91 @@ static void callers_by_layers(void)
     by_layers(WAITING, sizeof WAITING, "facts that wait for each other");
 }
 
+/* C beside B: 4 facts; 0<!1; 1<!2; 3<!3. Rule 2 is set aside under every order. */
+static const uint8_t C_BESIDE_B[] = {0x10, 4, 1, 0, 3, 1, 1, 1, 3, 2, 1, 3, 3, 3, 0x1F, 0, 3};
+
+/* Under 0 1 rule 1 of C is set aside, under 1 0 none is. */
+static void better_orders(void)
+{
+    expect(chosen(retention_better(C, sizeof C, BYTES(5, 0, 0, 5, 0, 1),
+                                   BYTES(5, 0, 1, 5, 0, 0)), 2),
+           "C: of 0 1 and 1 0 the second");
+    expect(chosen(retention_better(C, sizeof C, BYTES(5, 0, 1, 5, 0, 0),
+                                   BYTES(5, 0, 0, 5, 0, 1)), 1),
+           "C: of 1 0 and 0 1 the first");
+    expect(chosen(retention_better(C, sizeof C, BYTES(5, 0, 0, 5, 0, 1),
+                                   BYTES(5, 0, 0, 5, 0, 1)), 1),
+           "C: of 0 1 twice the first");
+    expect(chosen(retention_better(A, sizeof A, BYTES(5, 0, 2, 5, 0, 1),
+                                   BYTES(5, 0, 1, 5, 0, 2)), 1),
+           "A: of 2 1 and 1 2, which set nothing aside, the first");
+    expect(chosen(retention_better(C_BESIDE_B, sizeof C_BESIDE_B,
+                                   BYTES(5, 0, 0, 5, 0, 1, 5, 0, 2),
+                                   BYTES(5, 0, 2, 5, 0, 1, 5, 0, 0)), 2),
+           "C beside B: of two set aside and one the second");
+    expect(chosen(retention_better(C_BESIDE_B, sizeof C_BESIDE_B,
+                                   BYTES(5, 0, 2, 5, 0, 1, 5, 0, 0),
+                                   BYTES(5, 0, 0, 5, 0, 1, 5, 0, 2)), 1),
+           "C beside B: of one set aside and two the first");
+    expect(chosen(retention_better(C_BESIDE_B, sizeof C_BESIDE_B,
+                                   BYTES(5, 0, 0, 5, 0, 1, 5, 0, 2),
+                                   BYTES(5, 0, 2, 5, 0, 0, 5, 0, 1)), 1),
+           "C beside B: of two set aside and two the first");
+    expect(chosen(retention_better(E, sizeof E, NOTHING, NOTHING), 1),
+           "E: of two empty orders the first");
+    expect(chosen(retention_better(F, sizeof F, NOTHING, NOTHING), 1),
+           "F: of two empty orders the first");
+}
+
+/* The first order's questions come before the second's, and the file's before both. */
+static void refused_orders(void)
+{
+    expect(unchosen(retention_better(A, sizeof A, BYTES(5, 0, 1, 5, 0),
+                                     BYTES(5, 0, 1, 5, 0, 2)), 11), "A: the first is cut, 11");
+    expect(unchosen(retention_better(A, sizeof A, BYTES(5, 0, 0), BYTES(5, 0, 1, 5, 0, 2)), 12),
+           "A: the first is 0, 12");
+    expect(unchosen(retention_better(A, sizeof A, BYTES(5, 0, 1, 5, 0, 1),
+                                     BYTES(5, 0, 1, 5, 0, 2)), 13), "A: the first is 1 1, 13");
+    expect(unchosen(retention_better(A, sizeof A, BYTES(5, 0, 1), BYTES(5, 0, 1, 5, 0, 2)), 14),
+           "A: the first is 1, 14");
+    expect(unchosen(retention_better(A, sizeof A, BYTES(5, 0, 1, 5, 0, 2),
+                                     BYTES(5, 0, 1, 5, 0)), 11), "A: the second is cut, 11");
+    expect(unchosen(retention_better(A, sizeof A, BYTES(5, 0, 1, 5, 0, 2), BYTES(5, 0, 0)), 12),
+           "A: the second is 0, 12");
+    expect(unchosen(retention_better(A, sizeof A, BYTES(5, 0, 1, 5, 0, 2),
+                                     BYTES(5, 0, 1, 5, 0, 1)), 13), "A: the second is 1 1, 13");
+    expect(unchosen(retention_better(A, sizeof A, BYTES(5, 0, 1, 5, 0, 2), BYTES(5, 0, 1)), 14),
+           "A: the second is 1, 14");
+    expect(unchosen(retention_better(A, sizeof A, BYTES(5, 0, 1), BYTES(5)), 14),
+           "A: the first is 1 and the second cut, 14");
+    expect(unchosen(retention_better(A, sizeof A, BYTES(5), BYTES(5, 0, 1)), 11),
+           "A: the first is cut and the second 1, 11");
+    expect(unchosen(retention_better(A, sizeof A - 3, BYTES(5), BYTES(5, 0, 1)), 3),
+           "A without its end: 3, whatever the orders are");
+    expect(unchosen(retention_better(NOTHING, NOTHING, NOTHING), 2), "no file, no orders: 2");
+}
+
+/* The orders are read and not written, so they may share their bytes. */
+static void orders_in_one_buffer(void)
+{
+    static const uint8_t row[] = {5, 0, 0, 5, 0, 1, 5, 0, 0};
+    uint8_t lent[sizeof row];
+    memcpy(lent, row, sizeof row);
+    expect(chosen(retention_better(C, sizeof C, lent, 6, lent + 3, 6), 2),
+           "C: 0 1 0 in one buffer, of 0 1 and 1 0 the second");
+    expect(chosen(retention_better(C, sizeof C, lent + 3, 6, lent, 6), 1),
+           "C: the same exchanged, the first");
+    expect(chosen(retention_better(C, sizeof C, lent, 6, lent, 6), 1),
+           "C: 0 1 as both orders, the first");
+    expect(unchosen(retention_better(C, sizeof C, lent, sizeof lent, lent, 6), 13),
+           "C: all of the buffer and a part of it, 13");
+    expect(unchosen(retention_better(C, sizeof C, lent + 3, 6, lent + 3, 3), 14),
+           "C: 1 0 and a part of it, 14");
+    expect(unchosen(retention_better(C, sizeof C, lent, 6, lent, 0), 14),
+           "C: 0 1 and an empty part of it, 14");
+    expect(memcmp(lent, row, sizeof row) == 0, "C: the buffer is as it was");
+}
+
 static void test_loads(void)
 {
     loads made = load(0, 4, 1, sizeof made.file);
@@ -678,6 +773,8 @@ static void rules_too_long(void)
     expect(reply.refusal == 51 && reply.verdict == 0, "judge of 25 premises: 51");
     reply = retention_check(file, len, BYTES(0, 0, 0), 0, NOTHING);
     expect(reply.refusal == 51 && reply.verdict == 0, "check of 25 premises: 51");
+    expect(unchosen(retention_better(file, len, NOTHING, NOTHING), 51),
+           "better of 25 premises: 51");
     expect(prints(file, len, "E 51\n"), "panel for 25 premises");
 }
 
@@ -739,6 +836,27 @@ static void unread_facts(void)
     by_layers(A_UNREAD, sizeof A_UNREAD, "A, 2 unread");
 }
 
+/* C with fact 2 unread: rule 1, which is 1<!2, is withheld. */
+static const uint8_t C_UNREAD[] = {0x10, 3, 7, 2, 1, 0, 3, 1, 1, 1, 3, 2, 0x1F, 0, 2};
+/* 5 facts, 4 unread; 0<!1; 1<!2; 3<1,!4: the body of the withheld rule 2 holds under 1 0 2. */
+static const uint8_t C_AND_WITHHELD[] = {0x10, 5, 7, 4, 1, 0, 3, 1, 1, 1, 3,
+                                         2,    1, 3, 2, 1, 3, 4, 0x1F, 0, 3};
+
+/* A withheld rule is named by both orders, and set aside under neither. */
+static void better_orders_unread(void)
+{
+    expect(chosen(retention_better(C_UNREAD, sizeof C_UNREAD, BYTES(5, 0, 0, 5, 0, 1),
+                                   BYTES(5, 0, 1, 5, 0, 0)), 1),
+           "C, 2 unread: of 0 1 and 1 0 the first");
+    expect(unchosen(retention_better(C_UNREAD, sizeof C_UNREAD, BYTES(5, 0, 1, 5, 0, 0),
+                                     BYTES(5, 0, 0)), 14),
+           "C, 2 unread: the second without rule 1, 14");
+    expect(chosen(retention_better(C_AND_WITHHELD, sizeof C_AND_WITHHELD,
+                                   BYTES(5, 0, 0, 5, 0, 1, 5, 0, 2),
+                                   BYTES(5, 0, 1, 5, 0, 0, 5, 0, 2)), 2),
+           "C and a withheld rule: of one set aside and none the second");
+}
+
 /* All rules withheld, none, and one of the 17 constraint facts in withheld rules alone. */
 static void more_unread_facts(void)
 {
@@ -787,6 +905,8 @@ static void unread_after_a_rule(void)
     expect(reply.refusal == 56 && reply.verdict == 0, "judge of it: 56");
     reply = retention_check(file, sizeof file, BYTES(1), 0, BYTES(6, 0, 0, 0));
     expect(reply.refusal == 56 && reply.verdict == 0, "check of it: 56");
+    expect(unchosen(retention_better(file, sizeof file, NOTHING, NOTHING), 56),
+           "better of it: 56");
     expect(prints(file, sizeof file, "E 56\n"), "panel for it");
 }
 
@@ -850,11 +970,15 @@ int main(void)
     shorter_grounds();
     orders_by_rank();
     callers_by_layers();
+    better_orders();
+    refused_orders();
+    orders_in_one_buffer();
     test_loads();
     largest_loads();
     panel();
     rules_too_long();
     unread_facts();
+    better_orders_unread();
     more_unread_facts();
     unread_after_a_rule();
     kinds();

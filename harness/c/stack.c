@@ -24,6 +24,7 @@ enum {
 };
 
 static uint8_t file[MOST_BYTES], order[3 * MOST_RULES], found[3 * MOST_RULES];
+static uint8_t other[3 * MOST_RULES];
 static uint8_t fact_marks[MOST_FACTS], rule_marks[MOST_RULES], steps[4 * MOST_FACTS];
 static uint8_t set[MOST_FACTS], text[8192], loaded[5 + 6 * MOST_RULES];
 static size_t file_len, order_len, proof_len;
@@ -60,6 +61,14 @@ static uint8_t *add_rule(uint8_t *at, int conclusion, uint8_t kind, int fact)
     return at;
 }
 
+/* The next rule of the order. */
+static void name_rule(int rule)
+{
+    order[order_len++] = 0x05;
+    order[order_len++] = (uint8_t)(rule >> 8);
+    order[order_len++] = (uint8_t)rule;
+}
+
 /* Facts that exclude each other in pairs, and a chain from each of them: all constraint
    facts are guessed, one within another. No accepted file has more rules or items. */
 static void make_pairs(void)
@@ -68,9 +77,7 @@ static void make_pairs(void)
     for (int rule = 0; rule < MOST_RULES; rule++) {
         if (rule < PAIRS) {
             at = add_rule(at, rule, 0x03, rule ^ 1);
-            order[order_len++] = 0x05;
-            order[order_len++] = 0;
-            order[order_len++] = (uint8_t)rule;
+            name_rule(rule);
         } else {
             at = add_rule(at, PAIRS + rule % (MOST_FACTS - PAIRS), 0x02, rule % PAIRS);
         }
@@ -87,9 +94,7 @@ static void add_exceptions(uint8_t *at)
     for (int rule = 0; rule < MOST_RULES; rule++) {
         at = add_rule(at, rule % (MOST_FACTS - PAIRS), 0x03,
                       MOST_FACTS - PAIRS + rule % PAIRS);
-        order[order_len++] = 0x05;
-        order[order_len++] = (uint8_t)(rule >> 8);
-        order[order_len++] = (uint8_t)rule;
+        name_rule(rule);
     }
     end_file(at, MOST_RULES);
     asked = 0;
@@ -109,6 +114,17 @@ static void make_withheld(void)
         *at++ = (uint8_t)(MOST_FACTS - PAIRS + 1 + 3 * place);
     }
     add_exceptions(at);
+}
+
+/* Every rule wants its own conclusion out, and is set aside under every order. */
+static void make_set_aside(void)
+{
+    uint8_t *at = begin_file();
+    for (int rule = 0; rule < MOST_RULES; rule++) {
+        at = add_rule(at, rule % MOST_FACTS, 0x03, rule % MOST_FACTS);
+        name_rule(rule);
+    }
+    end_file(at, MOST_RULES);
 }
 
 /* Each fact from as many before it as a rule may name, the nearest as the first premise
@@ -248,6 +264,15 @@ static void *layered(void *unused)
     return unused;
 }
 
+/* The second order is the first the other way round. */
+static void *better(void *unused)
+{
+    for (size_t at = 0; at < order_len; at += 3)
+        memcpy(other + at, order + order_len - 3 - at, 3);
+    reply = retention_better(file, file_len, order, order_len, other, order_len).refusal;
+    return unused;
+}
+
 /* It takes no file: as many facts and rules as may be. */
 static void *load(void *unused)
 {
@@ -310,6 +335,7 @@ int main(void)
                             {"retention_search", search, 0}, {"retention_panel", panel, 0},
                             {"retention_grounds", grounds, 0}};
     function layers = {"retention_layered", layered, 0};
+    function orders = {"retention_better", better, 0};
     function loads = {"retention_load", load, 0};
     size_t own = used(nothing);
     for (size_t f = 0; f < COUNT(files); f++) {
@@ -317,7 +343,10 @@ int main(void)
         for (size_t n = 0; n < COUNT(functions); n++)
             measure(&functions[n], own);
         measure(&layers, own);
+        measure(&orders, own);
     }
+    make_set_aside();
+    measure(&orders, own);
     for (size_t f = 0; f < COUNT(layered_files); f++) {
         layered_files[f]();
         measure(&layers, own);
@@ -326,6 +355,7 @@ int main(void)
     for (size_t n = 0; n < COUNT(functions); n++)
         show(&functions[n]);
     show(&layers);
+    show(&orders);
     show(&loads);
     return EXIT_SUCCESS;
 }

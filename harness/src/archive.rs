@@ -30,6 +30,13 @@ struct CountReply {
     count: u32,
 }
 
+#[cfg(not(without_better))]
+#[repr(C)]
+struct ChoiceReply {
+    refusal: u32,
+    which: u32,
+}
+
 unsafe extern "C" {
     fn retention_accept(file: *const u8, file_len: usize) -> FileReply;
     fn retention_run(
@@ -100,6 +107,15 @@ unsafe extern "C" {
         out: *mut u8,
         out_len: usize,
     ) -> CountReply;
+    #[cfg(not(without_better))]
+    fn retention_better(
+        file: *const u8,
+        file_len: usize,
+        first: *const u8,
+        first_len: usize,
+        second: *const u8,
+        second_len: usize,
+    ) -> ChoiceReply;
 }
 
 // Each call below hands over slices with their own lengths. They are valid for
@@ -226,4 +242,26 @@ pub fn layered(file: &[u8], order: &mut [u8]) -> [u32; 2] {
 pub fn load(start: u32, facts: u32, rules: u32, out: &mut [u8]) -> [u32; 2] {
     let reply = unsafe { retention_load(start, facts, rules, out.as_mut_ptr(), out.len()) };
     [reply.refusal, reply.count]
+}
+
+/// The orders may overlap, or be one.
+#[cfg(not(without_better))]
+pub fn better(file: &[u8], first: &[u8], second: &[u8]) -> [u32; 2] {
+    let reply = unsafe {
+        retention_better(
+            file.as_ptr(),
+            file.len(),
+            first.as_ptr(),
+            first.len(),
+            second.as_ptr(),
+            second.len(),
+        )
+    };
+    [reply.refusal, reply.which]
+}
+
+/// An archive from before the better of two orders has no such function.
+#[cfg(without_better)]
+pub fn better(_: &[u8], _: &[u8], _: &[u8]) -> [u32; 2] {
+    unreachable!("not asked of such an archive")
 }

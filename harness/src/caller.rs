@@ -4,7 +4,8 @@
 //! does with grounds: the grounds of each fact that the run derives; the check of
 //! that row; and the check of what is left of it without any one step. And what a
 //! caller does with an order by ranks: the run under it, which sets nothing aside; the
-//! judge on where that ends; and the search, which ends there too.
+//! judge on where that ends; and the search, which ends there too. And what a caller does with
+//! two orders: the run under each, and the better of both, either way round.
 //!
 //! The inputs of the checks, of the run and of the judge come from the reference's
 //! search, grounds or order. If the engine's agree with them, they are what a caller
@@ -19,6 +20,16 @@ const MOST_GUESSED: usize = 16;
 /// The mark of a rule that is set aside.
 const SET_ASIDE: u8 = 2;
 
+/// The reply of an operation that hands nothing back.
+fn reply(numbers: Vec<u32>, buffers: Vec<Vec<u8>>) -> Reply {
+    Reply { numbers, handed_back: vec![], buffers }
+}
+
+/// The run of a file under an order, in buffers of these lengths.
+fn run_under(order: &[u8], file: &[u8], lengths: &[usize]) -> Case {
+    Case { rules: order.to_vec(), lent: lengths.to_vec(), ..Case::new(Operation::Run, file) }
+}
+
 /// The cases for a file; only the search where it is to refuse.
 pub fn cases(
     name: &str,
@@ -30,7 +41,7 @@ pub fn cases(
     let search = Case { lent: lent.lengths.clone(), ..Case::new(Operation::Search, file) };
     if let Some(refusal) = refused {
         let untouched = lent.lengths.iter().map(|&length| vec![lent.fill; length]).collect();
-        let expected = Reply { numbers: vec![refusal, 0, 0], buffers: untouched };
+        let expected = reply(vec![refusal, 0, 0], untouched);
         return Ok(vec![Named::new(title("the search"), search, lent.fill, expected)?]);
     }
     let found = search.expected(|_| lent.fill);
@@ -44,11 +55,7 @@ pub fn cases(
     for row in rows {
         cases.push(row.checked(title(&row.what), file, &answer.set)?);
     }
-    let run = Case {
-        rules: answer.order.clone(),
-        lent: lent.lengths[..3].to_vec(),
-        ..Case::new(Operation::Run, file)
-    };
+    let run = run_under(&answer.order, file, &lent.lengths[..3]);
     cases.push(Named::new(title("the run under its order"), run, lent.fill, answer.same_run)?);
     Ok(cases)
 }
@@ -61,11 +68,7 @@ pub fn grounds(
     lent: &Buffers,
 ) -> Result<Vec<Named>, String> {
     let title = |what: &str| format!("{name}, as a caller: {what}");
-    let run = Case {
-        rules: order.to_vec(),
-        lent: lent.lengths.clone(),
-        ..Case::new(Operation::Run, file)
-    };
+    let run = run_under(order, file, &lent.lengths);
     let end = run.expected(|_| lent.fill);
     let parsed = RuleFile::parse(file).map_err(|refusal| format!("{name}: {refusal:?}"))?;
     let set: Vec<u8> = end.buffers[0].iter().take(parsed.facts).map(in_set).collect();
@@ -74,7 +77,7 @@ pub fn grounds(
         let call = Case { operation: Operation::Grounds, asked: fact as u32, ..run.clone() };
         let found = call.expected(|_| lent.fill);
         let kept = found.buffers[2][..STEP_BYTES * found.numbers[1] as usize].to_vec();
-        let mut expected = Reply { numbers: found.numbers, buffers: end.buffers.clone() };
+        let mut expected = reply(found.numbers, end.buffers.clone());
         expected.buffers[2].clone_from(&found.buffers[2]);
         cases.push(Named::new(
             title(&format!("the grounds of {fact}")),
@@ -105,14 +108,14 @@ pub fn layered(name: &str, file: &[u8], lent: &Buffers) -> Result<Vec<Named>, St
         return Err(format!("{name}: the layers are refused with {}", ordered.numbers[0]));
     }
     let order = ordered.buffers[0][..RULE_NUMBER_BYTES * counts.exceptions].to_vec();
-    let run = Case { rules: order, ..with(&lent.lengths[..3], Operation::Run) };
+    let run = run_under(&order, file, &lent.lengths[..3]);
     let end = run.expected(|_| lent.fill);
     if end.buffers[1][..counts.rules].contains(&SET_ASIDE) {
         return Err(format!("{name}: the run under its order sets a rule aside"));
     }
     let set: Vec<u8> = set_in(&end.buffers[0]);
     let judge = Case { set: set.clone(), ..with(&[], Operation::Judge) };
-    let stable = Reply { numbers: vec![0, 1], buffers: vec![] };
+    let stable = reply(vec![0, 1], vec![]);
     let mut cases = vec![
         Named::new(title("the order"), layers, lent.fill, ordered)?,
         Named::new(title("the run under it"), run, lent.fill, end)?,
@@ -125,6 +128,42 @@ pub fn layered(name: &str, file: &[u8], lent: &Buffers) -> Result<Vec<Named>, St
             return Err(format!("{name}: the search does not find where the run ends"));
         }
         cases.push(Named::new(title("the search"), search, lent.fill, found)?);
+    }
+    Ok(cases)
+}
+
+/// The cases of two orders. Which is the better one is read from the marks of the runs.
+pub fn better(
+    name: &str,
+    file: &[u8],
+    orders: [&[u8]; 2],
+    lent: &Buffers,
+) -> Result<Vec<Named>, String> {
+    let title = |what: &str| format!("{name}, as a caller: {what}");
+    let counts = reference::accept(file).map_err(|refusal| format!("{name}: {refusal:?}"))?;
+    let mut cases = Vec::new();
+    let mut aside = [0; 2];
+    for (place, which) in ["first", "second"].into_iter().enumerate() {
+        let run = run_under(orders[place], file, &lent.lengths);
+        let end = run.expected(|_| lent.fill);
+        if end.numbers[0] != 0 {
+            return Err(format!("{name}: the run is refused with {}", end.numbers[0]));
+        }
+        let marks = end.buffers[1][..counts.rules].iter();
+        aside[place] = marks.filter(|&&mark| mark == SET_ASIDE).count();
+        let what = format!("the run under the {which} order, {} set aside", aside[place]);
+        cases.push(Named::new(title(&what), run, lent.fill, end)?);
+    }
+    for (what, [one, other]) in [("the better of both", [0, 1]), ("the same, exchanged", [1, 0])] {
+        let case = Case {
+            rules: orders[one].to_vec(),
+            second: orders[other].to_vec(),
+            ..Case::new(Operation::Better, file)
+        };
+        let numbers = vec![0, if aside[other] < aside[one] { 2 } else { 1 }];
+        let handed_back = case.handed_back(&numbers);
+        let expected = Reply { numbers, handed_back, buffers: vec![] };
+        cases.push(Named::new(title(what), case, lent.fill, expected)?);
     }
     Ok(cases)
 }
@@ -182,7 +221,7 @@ impl Row {
             proof: self.steps.clone(),
             ..Case::new(Operation::Check, file)
         };
-        let expected = Reply { numbers: vec![0, u32::from(self.verdict)], buffers: vec![] };
+        let expected = reply(vec![0, u32::from(self.verdict)], vec![]);
         Named::new(title, check, 0, expected)
     }
 }
@@ -196,10 +235,7 @@ impl Answer {
             set: fact_marks[..file.facts].iter().map(in_set).collect(),
             steps: steps[..STEP_BYTES * found.numbers[2] as usize].to_vec(),
             order: order[..RULE_NUMBER_BYTES * file.exceptions().count()].to_vec(),
-            same_run: Reply {
-                numbers: found.numbers.clone(),
-                buffers: found.buffers[..3].to_vec(),
-            },
+            same_run: reply(found.numbers.clone(), found.buffers[..3].to_vec()),
         }
     }
 

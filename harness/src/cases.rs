@@ -2,7 +2,9 @@
 //! buffers it is lent, and the reply that the reference gives.
 
 use crate::draft::{Draft, DraftRule};
-use crate::files::{lengthen_rule, misplace_unread, random_draft, random_layers, spoil_file};
+use crate::files::{
+    lengthen_rule, misplace_unread, random_draft, random_layers, random_rivals, spoil_file,
+};
 use crate::random::Random;
 use reference::{Counts, Lent, RULE_NUMBER_BYTES, Refusal, RuleFile, STEP_BYTES, kind, load_bytes};
 
@@ -21,10 +23,11 @@ pub enum Operation {
     Grounds,
     Layered,
     Load,
+    Better,
 }
 
 impl Operation {
-    pub const ALL: [Operation; 13] = [
+    pub const ALL: [Operation; 14] = [
         Operation::Accept,
         Operation::Run,
         Operation::Judge,
@@ -38,6 +41,7 @@ impl Operation {
         Operation::Grounds,
         Operation::Layered,
         Operation::Load,
+        Operation::Better,
     ];
 
     pub fn name(self) -> &'static str {
@@ -55,6 +59,7 @@ impl Operation {
             Operation::Grounds => "grounds",
             Operation::Layered => "layered",
             Operation::Load => "load",
+            Operation::Better => "better",
         }
     }
 
@@ -93,7 +98,7 @@ impl Operation {
             Operation::Judge => &[11, 12, 13, 21, 22],
             Operation::Check => &[21, 22, 24, 23],
             Operation::Search => &[31, 32, 33, 34, 40, 41],
-            Operation::AskOrder => &[11, 12, 13, 14],
+            Operation::AskOrder | Operation::Better => &[11, 12, 13, 14],
             Operation::AskList => &[11, 12, 13],
             Operation::AskSet => &[21, 22],
             Operation::AskRow => &[24, 23],
@@ -115,6 +120,7 @@ impl Operation {
             Operation::Grounds => &["steps left out", "all steps kept"],
             Operation::Layered => &["no rule named", "ascending order", "another order"],
             Operation::Load => &["without rules", "with rules"],
+            Operation::Better => &["first, equal", "first, fewer", "second"],
             _ => &["yes"],
         }
     }
@@ -133,8 +139,10 @@ pub struct Case {
     pub operation: Operation,
     pub load: Load,
     pub file: Vec<u8>,
-    /// The order or the list of rules.
+    /// The order or the list of rules; the first of two orders.
     pub rules: Vec<u8>,
+    /// The second of two orders.
+    pub second: Vec<u8>,
     pub set: Vec<u8>,
     pub asked: u32,
     pub proof: Vec<u8>,
@@ -143,10 +151,13 @@ pub struct Case {
 }
 
 /// What a call leaves behind: the numbers of its reply in the order of the C
-/// structure, and all bytes of the lent buffers.
+/// structure, which of its inputs it hands back, where it does, and all bytes of the lent
+/// buffers.
 #[derive(Clone, Debug, PartialEq, Eq)]
 pub struct Reply {
     pub numbers: Vec<u32>,
+    /// The bytes of the better order; empty on a refusal, and of every other operation.
+    pub handed_back: Vec<u8>,
     pub buffers: Vec<Vec<u8>>,
 }
 
@@ -177,6 +188,7 @@ impl Case {
             load: Load::default(),
             file: file.to_vec(),
             rules: Vec::new(),
+            second: Vec::new(),
             set: Vec::new(),
             asked: 0,
             proof: Vec::new(),
@@ -195,7 +207,32 @@ impl Case {
         let fill = |&length: &usize| (0..length).map(&pattern).collect();
         let mut buffers: Vec<Vec<u8>> = self.lent.iter().map(fill).collect();
         let numbers = self.call_reference(&mut buffers);
-        Reply { numbers, buffers }
+        let handed_back = match self.operation {
+            Operation::Better => reference::better(&self.file, &self.rules, &self.second).to_vec(),
+            _ => vec![],
+        };
+        Reply { numbers, handed_back, buffers }
+    }
+
+    /// The order that is handed back by the numbers of a reply: none on a refusal, and of any
+    /// other operation.
+    pub fn handed_back(&self, numbers: &[u32]) -> Vec<u8> {
+        match (self.operation, numbers) {
+            (Operation::Better, [_, 1]) => self.rules.clone(),
+            (Operation::Better, [_, 2]) => self.second.clone(),
+            _ => vec![],
+        }
+    }
+
+    /// How many rules the run under an order sets aside, of a case that is not refused.
+    fn count_set_aside(&self, order: &[u8]) -> usize {
+        let counts = reference::accept(&self.file).expect("the file is accepted");
+        let run = Case {
+            rules: order.to_vec(),
+            lent: vec![counts.facts, counts.rules, STEP_BYTES * counts.facts],
+            ..Case::new(Operation::Run, &self.file)
+        };
+        End::of(&run).expect("the order is one of the file").set_aside.len()
     }
 
     fn call_reference(&self, buffers: &mut [Vec<u8>]) -> Vec<u32> {
@@ -248,6 +285,11 @@ impl Case {
                 let Load { start, facts, rules } = self.load;
                 count_reply(reference::load(start, facts, rules, out))
             }
+            (Operation::Better, _) => {
+                let (first, second) = (&self.rules, &self.second);
+                let which = reference::choose(file, first, second).map_or(0, |which| which as u32);
+                vec![reference::better_number(file, first, second), which]
+            }
             _ => unreachable!("a case lends what its operation takes"),
         }
     }
@@ -276,6 +318,12 @@ impl Case {
                 if named == 0 { 0 } else { 1 + usize::from(!ascending) }
             }
             Operation::Load => usize::from(self.load.rules > 0),
+            Operation::Better if numbers[1] == 2 => 2,
+            Operation::Better => {
+                let [first, second] =
+                    [&self.rules, &self.second].map(|order| self.count_set_aside(order));
+                usize::from(first < second)
+            }
             _ => usize::from(numbers[1] > 0),
         };
         Met::Answer(answer, self.withheld(reply))
@@ -461,7 +509,8 @@ struct Subject {
 }
 
 /// A case of any operation, from its own random numbers. Most orders by ranks are asked
-/// of files that are made in layers.
+/// of files that are made in layers. Whether it is one of two orders is drawn last, so that all
+/// other cases are those that there were before.
 pub fn random_case(random: &mut Random) -> Case {
     let chosen = random.below(28);
     if chosen == 1 {
@@ -479,7 +528,7 @@ pub fn random_case(random: &mut Random) -> Case {
         spoil_file(random, &mut file);
     }
     let subject = Subject { draft, file };
-    match chosen {
+    let case = match chosen {
         0 => Case::new(Operation::Accept, &subject.file),
         2..7 => subject.random_run(random),
         7..11 => subject.random_judge(random),
@@ -488,8 +537,12 @@ pub fn random_case(random: &mut Random) -> Case {
         19..23 => subject.random_grounds(random),
         23..27 => subject.random_layered(random),
         _ => subject.random_panel(random),
-    }
+    };
+    if random.one_in(BETTER_ONE_IN) { subject.random_better(random) } else { case }
 }
+
+/// One case on a file in so many is of two orders.
+const BETTER_ONE_IN: usize = 8;
 
 /// With so many rules the length of a load's file is 1 at 32 bits.
 pub const LENGTH_WRAPS: u32 = 715_827_882;
@@ -567,6 +620,28 @@ impl Subject {
         let mut lent = needed(Operation::Layered, &self.draft);
         spoil_lengths(random, &mut lent);
         Case { lent, ..Case::new(Operation::Layered, &self.file) }
+    }
+
+    /// Mostly of a file made so that orders set aside more rules or fewer; at times with the same
+    /// order twice, and with either order spoilt or both.
+    fn random_better(self, random: &mut Random) -> Case {
+        let subject = if random.one_in(3) {
+            self
+        } else {
+            let draft = random_rivals(random);
+            Subject { file: draft.bytes(), draft }
+        };
+        let first = subject.shuffled_exceptions(random);
+        let second =
+            if random.one_in(8) { first.clone() } else { subject.shuffled_exceptions(random) };
+        let mut orders = [first, second].map(|order| rule_numbers(&order));
+        for order in &mut orders {
+            if random.one_in(8) {
+                subject.spoil_rule_numbers(random, order);
+            }
+        }
+        let [rules, second] = orders;
+        Case { rules, second, ..Case::new(Operation::Better, &subject.file) }
     }
 
     fn random_panel(&self, random: &mut Random) -> Case {

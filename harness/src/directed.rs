@@ -3,7 +3,7 @@
 
 use crate::cases::{Case, Operation, rule_numbers};
 use crate::draft::{Draft, MOST_OWN_ITEMS};
-use reference::{LOAD_STEP, RuleFile, STEP_BYTES, kind, load_bytes};
+use reference::{LOAD_STEP, RULE_NUMBER_BYTES, RuleFile, STEP_BYTES, kind, load_bytes};
 
 type PlainRule<'a> = (usize, &'a [usize], &'a [usize]);
 
@@ -190,8 +190,9 @@ fn refused_files() -> Vec<Vec<u8>> {
 
 /// One call of each operation on a file, answered where the file is accepted: the run in
 /// ascending order, its last set with the rules set aside judged and its whole
-/// row of steps checked, which both say yes, the grounds of its last fact, and the order
-/// by ranks, which is refused where a cycle goes through a constraint.
+/// row of steps checked, which both say yes, the grounds of its last fact, the order by
+/// ranks, which is refused where a cycle goes through a constraint, and the better of the
+/// ascending order and the descending one.
 pub fn all_operations(file: &[u8]) -> Vec<Case> {
     let run = ascending_run(file);
     let reply = run.expected(|_| 0);
@@ -205,6 +206,7 @@ pub fn all_operations(file: &[u8]) -> Vec<Case> {
     let order_bytes = vec![run.rules.len()];
     let with_order = [&run.lent[..], &order_bytes].concat();
     let panel_bytes = vec![reference::panel(file).len()];
+    let better = better_of(file, &run.rules, &descending(&run.rules));
     let bare = Case { rules: vec![], lent: vec![], ..run.clone() };
     vec![
         Case { operation: Operation::Accept, ..bare.clone() },
@@ -220,7 +222,19 @@ pub fn all_operations(file: &[u8]) -> Vec<Case> {
         Case { operation: Operation::Panel, lent: panel_bytes, ..bare.clone() },
         Case { operation: Operation::Grounds, asked, ..run },
         Case { operation: Operation::Layered, lent: order_bytes, ..bare },
+        better,
     ]
+}
+
+/// The better of two orders.
+pub fn better_of(file: &[u8], first: &[u8], second: &[u8]) -> Case {
+    let (rules, second) = (first.to_vec(), second.to_vec());
+    Case { rules, second, ..Case::new(Operation::Better, file) }
+}
+
+/// An order the other way round.
+fn descending(order: &[u8]) -> Vec<u8> {
+    order.rchunks(RULE_NUMBER_BYTES).flatten().copied().collect()
 }
 
 fn ascending_run(file: &[u8]) -> Case {
@@ -240,9 +254,9 @@ fn call_of(operation: Operation, file: &[u8]) -> Case {
     all_operations(file).into_iter().find(of_operation).expect("each operation has its call")
 }
 
-/// Runs, judges and grounds of example A with orders and lists, right and wrong.
-fn rule_number_cases(a: &[u8]) -> Vec<Case> {
-    let rows: [Vec<u8>; 13] = [
+/// Orders and lists for example A, right and wrong.
+fn rows_for_a() -> [Vec<u8>; 13] {
+    [
         rule_numbers(&[1, 2]),
         rule_numbers(&[2, 1]),
         rule_numbers(&[0]),
@@ -256,9 +270,13 @@ fn rule_number_cases(a: &[u8]) -> Vec<Case> {
         vec![5],
         vec![5, 0, 0, 5, 0],
         vec![5, 0, 0, 6, 0, 1],
-    ];
+    ]
+}
+
+/// Runs, judges and grounds of example A with orders and lists.
+fn rule_number_cases(a: &[u8]) -> Vec<Case> {
     let mut cases = Vec::new();
-    for row in rows {
+    for row in rows_for_a() {
         let right = call_of(Operation::Run, a);
         let short = vec![3, right.lent[1], right.lent[2]];
         cases.push(Case { rules: row.clone(), lent: short, ..right.clone() });
@@ -269,6 +287,60 @@ fn rule_number_cases(a: &[u8]) -> Vec<Case> {
         for set in [vec![1, 1, 0, 0], vec![1, 0, 1, 1], vec![1, 0, 2], vec![1, 2, 0, 0]] {
             cases.push(Case { rules: row.clone(), set, ..call_of(Operation::Judge, a) });
         }
+    }
+    cases
+}
+
+/// Files of which orders set aside more rules or fewer.
+pub fn rival_examples() -> Vec<Draft> {
+    let mut withheld_by_one =
+        example(6, &[(0, &[], &[1]), (1, &[], &[2]), (4, &[0], &[5]), (5, &[1], &[3])]);
+    withheld_by_one.unread = vec![3];
+    vec![
+        // Example C beside B: one rule or two.
+        example(4, &[(0, &[], &[1]), (1, &[], &[2]), (3, &[], &[3])]),
+        // C twice: none, one or two, and one in two ways.
+        example(6, &[(0, &[], &[1]), (1, &[], &[2]), (3, &[], &[4]), (4, &[], &[5])]),
+        // Equal rules are set aside together, though they conclude one fact.
+        example(5, &[(0, &[], &[1]), (1, &[], &[2]), (1, &[], &[2]), (3, &[], &[3])]),
+        // More is derived, in more stages, where a rule is set aside; and where none is.
+        example(5, &[(0, &[], &[1]), (1, &[], &[2]), (3, &[0], &[4]), (4, &[3], &[])]),
+        example(5, &[(0, &[], &[1]), (1, &[], &[2]), (3, &[1], &[0]), (4, &[3], &[])]),
+        // The body of a withheld rule holds under one order alone.
+        withheld_by_one,
+    ]
+}
+
+/// Every order of the exception rules of a file.
+pub fn all_orders(file: &[u8]) -> Vec<Vec<u8>> {
+    let mut orders = vec![vec![]];
+    for item in ascending_run(file).rules.chunks(RULE_NUMBER_BYTES) {
+        let at_each_place = |order: &Vec<u8>| {
+            let order = order.clone();
+            (0..=order.len()).step_by(RULE_NUMBER_BYTES).map(move |place| {
+                let mut longer = order.clone();
+                longer.splice(place..place, item.iter().copied());
+                longer
+            })
+        };
+        orders = orders.iter().flat_map(at_each_place).collect();
+    }
+    orders
+}
+
+/// Every order of a file and the ascending one, either way round.
+pub fn better_cases(file: &[u8]) -> Vec<Case> {
+    let ascending = ascending_run(file).rules;
+    let with_ascending =
+        |order: &Vec<u8>| [better_of(file, order, &ascending), better_of(file, &ascending, order)];
+    all_orders(file).iter().flat_map(with_ascending).collect()
+}
+
+/// Every pair of these orders, right or wrong ones.
+pub fn better_of_pairs(file: &[u8], orders: &[Vec<u8>]) -> Vec<Case> {
+    let mut cases = Vec::new();
+    for first in orders {
+        cases.extend(orders.iter().map(|second| better_of(file, first, second)));
     }
     cases
 }
@@ -426,6 +498,7 @@ pub fn directed_cases() -> Vec<Case> {
         cases.extend(all_operations(file));
         cases.extend(buffer_cases(file));
         cases.extend(grounds_cases(file));
+        cases.extend(better_cases(file));
     }
     cases.extend(grounds_cases(&shared_steps().bytes()));
     for draft in layered_examples() {
@@ -444,6 +517,10 @@ pub fn directed_cases() -> Vec<Case> {
     for file in files_with_unread_misplaced() {
         cases.extend(all_operations(&file));
     }
+    for draft in rival_examples() {
+        cases.extend(better_cases(&draft.bytes()));
+    }
+    cases.extend(better_of_pairs(a, &rows_for_a()));
     cases.extend(load_cases());
     cases.extend(all_operations(&rules_at_the_cap().bytes()));
     cases.extend(all_operations(&late_rules().bytes()));

@@ -178,6 +178,34 @@ pub fn random_layers(random: &mut Random) -> Draft {
     draft
 }
 
+/// Rules of which some are set aside under one order and not under another: rows of facts that
+/// each want the next one out, and facts that want themselves out, at times only with another.
+/// Equal rules are set aside together.
+pub fn random_rivals(random: &mut Random) -> Draft {
+    let rows: Vec<usize> = (0..random.within(1, 4)).map(|_| random.within(1, 4)).collect();
+    let (loops, links) = (random.below(3), random.below(3));
+    let in_rows: usize = rows.iter().map(|length| length + 1).sum();
+    let mut draft = Draft::new(in_rows + loops);
+    let mut first = 0;
+    for length in rows {
+        (first..first + length).for_each(|fact| draft.rule(fact, &[], &[fact + 1]));
+        first += length + 1;
+    }
+    for odd in in_rows..in_rows + loops {
+        let guards = some_facts(random, in_rows, 1);
+        draft.rule(odd, &guards, &[odd]);
+    }
+    for _ in 0..links {
+        let constraints = some_facts(random, in_rows, 1);
+        draft.rule(random.below(in_rows), &[random.below(in_rows)], &constraints);
+    }
+    let mut draft = finish(random, draft);
+    if random.one_in(UNREAD_ONE_IN) {
+        name_unread(random, &mut draft);
+    }
+    draft
+}
+
 /// Rules that are as long as they may be, or a little shorter. Their premises are
 /// mostly given and their constraints are facts that such rules conclude, so that
 /// some of the rules exclude others.

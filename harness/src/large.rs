@@ -21,6 +21,17 @@ pub fn ring(rules: usize) -> Draft {
     draft
 }
 
+/// The rule 0<!1, then 1<!2 for all others: where it stands first in the order they are set
+/// aside, all of them, and else none is.
+pub fn rivals(rules: usize) -> Draft {
+    let mut draft = Draft::new(FACTS);
+    (0..rules).for_each(|rule| {
+        let fact = usize::from(rule > 0);
+        draft.rule(fact, &[], &[fact + 1]);
+    });
+    draft
+}
+
 /// A file with 16 constraint facts and no stable set. Fact 0 wants itself out; 1
 /// to 15 want it out, and 16 wants each of them out, so none is sure before 0 is
 /// decided; the others are a chain from 1 down, each rule before the one that it

@@ -17,14 +17,18 @@
 //!   but these: it stands in the place of `??`, in the name too;
 //! - `caller <name> | file <file> | lent ..` is a row of cases (see `caller.rs`), and
 //!   with `refused <number>` only the search that refuses; with `order <order>` it is
-//!   those of grounds, and with `layered` those of an order by ranks.
+//!   those of grounds, with `layered` those of an order by ranks, and with `first <order>`
+//!   and `second <order>` those of two orders.
 //!
 //! Inputs are the fields `file`, `order`, `list`, `set`, `asked`, `row`, of a load
-//! `start`, `facts`, `rules`, and, for other buffers than before, `lent`. What is expected
-//! is `refused <number>`, with every count 0 and every buffer as it was; or the counts, as
-//! `1 stages, 2 steps`, `2 kept`, `2 named` or `11 bytes`, or a verdict; and the buffers
-//! that are written: `facts`, `rules`, `steps`, `order`, `text`, of a load `file`, each
-//! from its start, and past that as it was.
+//! `start`, `facts`, `rules`, of two orders `first`, `second`, and, for other buffers than
+//! before, `lent`. What is expected is `refused <number>`, with every count 0, nothing handed
+//! back and every buffer as it was; or the counts, as `1 stages, 2 steps`, `2 kept`, `2 named`
+//! or `11 bytes`, or a verdict, or the order that is handed back, as `the first` or `the
+//! second`; and the buffers that are written: `facts`, `rules`, `steps`, `order`, `text`, of a
+//! load `file`, each from its start, and past that as it was. Better is lent no buffer; the
+//! byte of its `lent none of <byte>` is what stands behind the order that is handed back, in
+//! the vectors.
 //!
 //! The reference must agree with everything that is expected.
 
@@ -120,7 +124,7 @@ impl List {
         let mut fields = text.split('|').map(str::trim);
         let name = fields.next().unwrap_or_default();
         let (mut bytes, mut buffers, mut refused, mut order) = (None, None, None, None);
-        let mut layered = false;
+        let (mut layered, mut first, mut second) = (false, None, None);
         for field in fields {
             match field.split_once(' ') {
                 None if field == "layered" => layered = true,
@@ -128,15 +132,20 @@ impl List {
                 Some(("lent", text)) => buffers = Some(lent(text)?),
                 Some(("refused", text)) => refused = Some(number(text)?),
                 Some(("order", text)) => order = Some(rule_numbers(text)?),
+                Some(("first", text)) => first = Some(rule_numbers(text)?),
+                Some(("second", text)) => second = Some(rule_numbers(text)?),
                 _ => return Err(format!("not a field of a caller: {field:?}")),
             }
         }
         let bytes = bytes.ok_or("no file")?;
         let lent = |word: &str| buffers.unwrap_or_else(|| self.lent_to(word));
-        match order {
-            Some(order) => caller::grounds(name, &bytes, &order, &lent("grounds")),
-            None if layered => caller::layered(name, &bytes, &lent("search")),
-            None => caller::cases(name, &bytes, &lent("search"), refused),
+        match (order, first, second) {
+            (Some(order), ..) => caller::grounds(name, &bytes, &order, &lent("grounds")),
+            (_, Some(first), Some(second)) => {
+                caller::better(name, &bytes, [&first, &second], &lent("run"))
+            }
+            _ if layered => caller::layered(name, &bytes, &lent("search")),
+            _ => caller::cases(name, &bytes, &lent("search"), refused),
         }
     }
 
@@ -197,6 +206,7 @@ impl List {
                 Operation::Grounds => "| order hex 05 | asked 4294967295 | lent 1 1 1 of 9",
                 Operation::Layered => "| lent 1 of 9",
                 Operation::Load => unreachable!("a load reads no file"),
+                Operation::Better => "| first hex 05 | second hex 06 00 | lent none of 9",
             };
             let expected = match operation {
                 Operation::Panel => refused.replace("refused", "text E"),
@@ -244,9 +254,10 @@ fn joined_lines(text: &str) -> Vec<(usize, String)> {
     all
 }
 
-/// `8 8 28 of 9`.
+/// `8 8 28 of 9`, or `none of 9`.
 fn lent(text: &str) -> Result<Buffers, String> {
     let (lengths, fill) = text.split_once(" of ").ok_or("lengths, of, and a byte")?;
+    let lengths = if lengths == "none" { "" } else { lengths };
     let lengths: Result<Vec<usize>, String> = lengths.split_whitespace().map(number).collect();
     Ok(Buffers { lengths: lengths?, fill: number(fill)? })
 }
@@ -262,6 +273,18 @@ fn counted(field: &str, names: &[&str]) -> Result<Vec<u32>, String> {
         if word == *name { number(count) } else { Err(format!("not {name}: {part:?}")) }
     };
     parts.into_iter().zip(names).map(count).collect()
+}
+
+/// The reply of an operation whose answer is said in words.
+fn answer_in_words(operation: Operation, field: &str) -> Option<Vec<u32>> {
+    match (operation, field) {
+        (Operation::Judge, "stable") | (Operation::Check, "yes") => Some(vec![0, 1]),
+        (Operation::Judge, "not stable") | (Operation::Check, "no") => Some(vec![0, 0]),
+        (Operation::Better, "the first") => Some(vec![0, 1]),
+        (Operation::Better, "the second") => Some(vec![0, 2]),
+        (question, "yes") if question.is_question() => Some(vec![0]),
+        _ => None,
+    }
 }
 
 /// A case as far as its fields were read.
@@ -289,6 +312,7 @@ impl CaseDraft {
             Operation::AskRow => &["file", "asked", "row"],
             Operation::Grounds => &["file", "order", "asked"],
             Operation::Load => &["start", "facts", "rules"],
+            Operation::Better => &["file", "first", "second"],
         };
         let mut draft = CaseDraft {
             case: Case::new(operation, &[]),
@@ -320,7 +344,8 @@ impl CaseDraft {
         self.missing.remove(place);
         match word {
             "file" => self.case.file = file(text, files)?,
-            "order" | "list" => self.case.rules = rule_numbers(text)?,
+            "order" | "list" | "first" => self.case.rules = rule_numbers(text)?,
+            "second" => self.case.second = rule_numbers(text)?,
             "set" => self.case.set = bytes(text)?,
             "asked" => self.case.asked = number(text)?,
             "start" => self.case.load.start = number(text)?,
@@ -340,6 +365,9 @@ impl CaseDraft {
             self.written.fill(Some(vec![]));
             return self.reply(numbers);
         }
+        if let Some(numbers) = answer_in_words(self.case.operation, field) {
+            return self.reply(numbers);
+        }
         match (self.case.operation, word) {
             (writes, "facts") if writes.writes_a_run() => self.wrote(0, bytes(text)?),
             (writes, "rules") if writes.writes_a_run() => self.wrote(1, bytes(text)?),
@@ -357,11 +385,6 @@ impl CaseDraft {
                 self.wrote(0, vec![])?;
                 self.reply(vec![number(length)?])
             }
-            (Operation::Judge, _) if field == "stable" => self.reply(vec![0, 1]),
-            (Operation::Judge, _) if field == "not stable" => self.reply(vec![0, 0]),
-            (Operation::Check, _) if field == "yes" => self.reply(vec![0, 1]),
-            (Operation::Check, _) if field == "no" => self.reply(vec![0, 0]),
-            (question, _) if question.is_question() && field == "yes" => self.reply(vec![0]),
             (Operation::Accept, _) => {
                 let names = ["facts", "rules", "exceptions", "constraints", "step bytes"];
                 self.reply([vec![0], counted(field, &names)?].concat())
@@ -382,6 +405,7 @@ impl CaseDraft {
             Operation::Run | Operation::Search => 3,
             Operation::Judge | Operation::Check => 2,
             Operation::Grounds | Operation::Layered | Operation::Load => 2,
+            Operation::Better => 2,
             _ => 1,
         }
     }
@@ -415,6 +439,7 @@ impl CaseDraft {
             buffer.resize(length, self.fill);
             buffers.push(buffer);
         }
-        Named::new(name, self.case, self.fill, Reply { numbers, buffers })
+        let handed_back = self.case.handed_back(&numbers);
+        Named::new(name, self.case, self.fill, Reply { numbers, handed_back, buffers })
     }
 }

@@ -185,6 +185,7 @@ fn file_part(part: &str, named: &BTreeMap<String, Vec<u8>>) -> Bytes {
             large::exceptions(number(rules)?, number(constraint_facts)?)
         }
         ["ring", rules] => large::ring(number(rules)?),
+        ["rivals", rules] => large::rivals(number(rules)?),
         ["tangled", rules] => large::tangled(number(rules)?),
         ["ladder", rules] => large::ladder(number(rules)?),
         ["words"] => large::words(),

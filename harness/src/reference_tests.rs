@@ -270,6 +270,7 @@ fn every_operation_asks_the_cap_and_leaves_its_buffers() {
     assert_eq!(ask_list(&file, &[]), Err(no));
     assert_eq!(ask_set(&file, &[0; 3]), Err(no));
     assert_eq!(ask_row(&file, 0, &[]), Err(no));
+    assert_eq!(choose(&file, &[], &[]), Err(no));
     assert_eq!(panel(&file), "E 51\n");
     assert_eq!(grounds_text(&file, 0), "E 51\n");
 }
@@ -295,6 +296,7 @@ fn every_operation_asks_where_an_unread_fact_stands_and_leaves_its_buffers() {
     assert_eq!(ask_list(&file, &[]), Err(no));
     assert_eq!(ask_set(&file, &[0; 3]), Err(no));
     assert_eq!(ask_row(&file, 0, &[]), Err(no));
+    assert_eq!(choose(&file, &[], &[]), Err(no));
     assert_eq!(panel(&file), "E 56\n");
     assert_eq!(grounds_text(&file, 0), "E 56\n");
 }
@@ -549,6 +551,64 @@ fn as_many_ranks_as_facts() {
     assert_eq!(layered_of(&file_of(255, &ring)), Err(Refusal::NotLayered));
 }
 
+#[test]
+fn the_better_order_of_the_examples() {
+    let c = example_c();
+    let of = |first: &[usize], second: &[usize]| choose(&c, &order_of(first), &order_of(second));
+    // Under 0 1 rule 1 is set aside, under 1 0 none is.
+    assert_eq!(of(&[0, 1], &[1, 0]), Ok(Choice::Second));
+    assert_eq!(of(&[1, 0], &[0, 1]), Ok(Choice::First));
+    assert_eq!(of(&[0, 1], &[0, 1]), Ok(Choice::First));
+    assert_eq!(of(&[1, 0], &[1, 0]), Ok(Choice::First));
+    // Neither order of A sets a rule aside, and B and D have one order.
+    let a = example_a();
+    assert_eq!(choose(&a, &order_of(&[1, 2]), &order_of(&[2, 1])), Ok(Choice::First));
+    let b = file_of(1, &[(0, &[], &[0])]);
+    assert_eq!(choose(&b, &order_of(&[0]), &order_of(&[0])), Ok(Choice::First));
+    assert_eq!(choose(&file_of(0, &[]), &[], &[]), Ok(Choice::First));
+    assert_eq!(choose(&file_of(2, &[ALWAYS, (1, &[0], &[])]), &[], &[]), Ok(Choice::First));
+}
+
+#[test]
+fn both_orders_are_questioned_the_first_before_the_second() {
+    let (a, good) = (example_a(), order_of(&[1, 2]));
+    let refused = [
+        (vec![5, 0], Refusal::NotRuleNumbers),
+        (order_of(&[0, 1, 1]), Refusal::NotAnException),
+        (order_of(&[1, 1]), Refusal::NamedBefore),
+        (order_of(&[2]), Refusal::ExceptionNotNamed),
+    ];
+    for (row, refusal) in &refused {
+        assert_eq!(choose(&a, row, &good), Err(*refusal));
+        // Neither order of A sets a rule aside, and the second is questioned all the same.
+        assert_eq!(choose(&a, &good, row), Err(*refusal));
+        for (other, _) in &refused {
+            assert_eq!(choose(&a, row, other), Err(*refusal));
+            assert_eq!(choose(&a[..a.len() - 1], row, other), Err(Refusal::BodyCut));
+        }
+    }
+}
+
+#[test]
+fn the_better_order_is_handed_back_as_it_was_lent() {
+    let c = example_c();
+    let lent = order_of(&[0, 1, 0]);
+    let (first, second) = (&lent[..6], &lent[3..]);
+    assert!(std::ptr::eq(better(&c, first, second), second));
+    assert!(std::ptr::eq(better(&c, second, first), second));
+    // Of two equal orders the first, wherever they are.
+    let same = first.to_vec();
+    assert!(std::ptr::eq(better(&c, first, &same), first));
+    assert!(std::ptr::eq(better(&c, &same, first), &same[..]));
+    assert_eq!(better_number(&c, first, second), 0);
+    for (file, first, second, number) in
+        [(&c[..4], first, second, 3), (&c, &lent[..], second, 13), (&c, first, &lent[..3], 14)]
+    {
+        assert!(std::ptr::eq(better(file, first, second), &first[..0]));
+        assert_eq!(better_number(file, first, second), number);
+    }
+}
+
 /// The reply, and the buffer after the call.
 fn load_in(start: u32, facts: u32, rules: u32, lent: usize) -> (Result<usize, Refusal>, Vec<u8>) {
     let mut out = vec![9; lent];
@@ -689,6 +749,18 @@ mod naive {
             end.applied.push(number);
         }
         end
+    }
+
+    /// "A rule is set aside if at the end its premises are in D, none of its constraints is,
+    /// and its conclusion is not": how many are, of the file without the withheld rules.
+    pub fn count_set_aside(file: &RuleFile, order: &[usize]) -> usize {
+        let derived = run(file, order).derived;
+        let set_aside = |rule: &Rule| {
+            rule.premises.iter().all(|premise| derived.contains(premise))
+                && !rule.constraints.iter().any(|constraint| derived.contains(constraint))
+                && !derived.contains(rule.conclusion)
+        };
+        remaining(file).filter(|(_, rule)| set_aside(rule)).count()
     }
 
     fn eligible(file: &RuleFile, end: &End, number: usize) -> bool {
@@ -837,6 +909,66 @@ fn the_run_agrees_with_its_definition() {
         assert_eq!(run.applied, end.applied.into_iter().collect());
         assert!(!run.ruled_out.meets(&run.derived.facts));
     }
+}
+
+/// The bytes of a file with these rules.
+fn bytes_of(file: &RuleFile) -> Vec<u8> {
+    let facts = |set: &FactSet| set.iter().collect::<Vec<_>>();
+    let bodies: Vec<_> =
+        file.rules.iter().map(|rule| (facts(&rule.premises), facts(&rule.constraints))).collect();
+    let rules: Vec<PlainRule> = file
+        .rules
+        .iter()
+        .zip(&bodies)
+        .map(|(rule, (premises, constraints))| (rule.conclusion, &premises[..], &constraints[..]))
+        .collect();
+    let unread: Vec<u8> = file.unread.iter().map(|fact| fact as u8).collect();
+    with_unread(&unread, &file_of(file.facts as u8, &rules))
+}
+
+/// A random file, three random orders of it, and how many rules each sets aside.
+fn for_three_orders(seed: u64, streams: u64, mut tell: impl FnMut(&[u8], [&[u8]; 3], [usize; 3])) {
+    for stream in 0..streams {
+        let random = &mut Random::new(seed, stream);
+        let file = random_file(random);
+        let orders: [Vec<usize>; 3] = std::array::from_fn(|_| {
+            let mut order: Vec<usize> = file.exceptions().collect();
+            random.shuffle(&mut order);
+            order
+        });
+        let counts = orders.each_ref().map(|order| naive::count_set_aside(&file, order));
+        let rows = orders.each_ref().map(|order| order_of(order));
+        tell(&bytes_of(&file), rows.each_ref().map(Vec::as_slice), counts);
+    }
+}
+
+#[test]
+fn the_choice_agrees_with_the_counts_of_rules_set_aside() {
+    let (mut second, mut both, mut equal) = (0, 0, 0);
+    for_three_orders(12, 40_000, |file, [first, other, _], [by_first, by_other, _]| {
+        let expected = if by_other < by_first { Choice::Second } else { Choice::First };
+        assert_eq!(choose(file, first, other), Ok(expected));
+        second += usize::from(by_other < by_first);
+        both += usize::from(by_first != by_other && by_first.min(by_other) > 0);
+        equal += usize::from(first != other && by_first == by_other && by_first > 0);
+    });
+    assert!(second > 300 && both > 100 && equal > 1_000, "{second} {both} {equal}");
+}
+
+#[test]
+fn choosing_among_three_by_pairs_gives_one_with_the_fewest() {
+    let mut differ = 0;
+    for_three_orders(13, 40_000, |file, orders @ [first, second, third], counts| {
+        let place = |chosen: &[u8]| orders.iter().position(|order| std::ptr::eq(*order, chosen));
+        let least = counts.into_iter().min();
+        let by_left = better(file, better(file, first, second), third);
+        let by_right = better(file, first, better(file, second, third));
+        for chosen in [by_left, by_right] {
+            assert_eq!(place(chosen).map(|place| counts[place]), least);
+        }
+        differ += usize::from(least != counts.into_iter().max());
+    });
+    assert!(differ > 500, "{differ} with different counts");
 }
 
 #[test]

@@ -32,9 +32,11 @@ fn smaller_cases(case: &Case) -> impl Iterator<Item = Case> {
     });
     let without_fact = (0..=255).filter_map(move |fact| without_fact(case, fact));
     let shorter_rows = cut_row(case, |case| &mut case.rules, RULE_NUMBER_BYTES)
+        .chain(cut_row(case, |case| &mut case.second, RULE_NUMBER_BYTES))
         .chain(cut_row(case, |case| &mut case.proof, STEP_BYTES))
         .chain(cut_row(case, |case| &mut case.set, 1))
         .chain(cut_row(case, |case| &mut case.rules, 1))
+        .chain(cut_row(case, |case| &mut case.second, 1))
         .chain(cut_row(case, |case| &mut case.proof, 1))
         .chain(cut_row(case, |case| &mut case.file, 1));
     without_rules
@@ -118,6 +120,7 @@ fn without_rules(case: &Case, rules: &[Range<usize>], cut: Range<usize>) -> Case
     smaller.file.drain(rules[cut.start].start..rules[cut.end - 1].end);
     lower_rule_count(&mut smaller.file, cut.len());
     smaller.rules = renumbered(&case.rules, RULE_NUMBER_BYTES, &cut);
+    smaller.second = renumbered(&case.second, RULE_NUMBER_BYTES, &cut);
     smaller.proof = renumbered(&case.proof, STEP_BYTES, &cut);
     if case.operation.writes_a_run() {
         smaller.lent[1] = smaller.lent[1].saturating_sub(cut.len());

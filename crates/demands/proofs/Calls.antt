@@ -1,13 +1,13 @@
 -- Each public operation refuses exactly: the instances, by the one law.
 use Prim.Native.Nat.{ℕ}
 use native.Mathlib.Omega.{arith}
-use mathlib.Core.Path.{_≡_, refl}
+use mathlib.Core.Path.{_≡_, refl, ap, _∙_}
 use mathlib.Core.Bool.{Bool, true, false, cond}
 use mathlib.Core.List.{List}
 use lib.ListN.{length}
 use Rattle.theory.specs.Rule.{inForce, count, exception}
 use Rattle.theory.specs.Check.{isStable, isProof}
-use Rattle.items.specs.Question.{Question}
+use Rattle.items.specs.Question.{Question, noNumber}
 use Rattle.reader.specs.Questions.{programOf}
 use Rattle.reader.specs.Accept.{acceptOf}
 use Rattle.items.specs.Item.{has}
@@ -22,16 +22,18 @@ use Rattle.proofcheck.specs.Checked.{checked}
 use Rattle.proofcheck.specs.Checked as checking
 use Rattle.search.specs.Outcome.{searchOutcome, searchWritten}
 use Rattle.layers.specs.Outcome.{layeredOutcome, orderedBy}
+use Rattle.better.specs.Outcome.{choiceOf}
+use Rattle.better.proofs.Chosen.{choice-means, none-handed}
 use Rattle.generator.specs.Outcome.{loadOutcome, loadWritten}
 use Rattle.panel_lines.specs.Text.{panelText}
 use Rattle.panel_text.proofs.RefusalText.{panel-refusal}
 use Rattle.grounds_text.specs.Text.{groundsText}
 use Rattle.grounds_text.proofs.RefusalTold.{grounds-refusal}
-use Rattle.replies.specs.Reply.{fileOf, countsOfRan, countsOfSearched, verdictOfJudged, verdictOfChecked, runReply, searchReply, countOfGrounds, groundsReply, countOfLayered, layeredReply, countOfLoaded, loadReply}
+use Rattle.replies.specs.Reply.{fileOf, countsOfRan, countsOfSearched, verdictOfJudged, verdictOfChecked, runReply, searchReply, countOfGrounds, groundsReply, countOfLayered, layeredReply, countOfLoaded, loadReply, replyOfChoice}
 use Rattle.demands.specs.Demands.{Demand1}
-use Rattle.demands.specs.Calls.{RefusesExactly, listNumbers, orderNumbers, setNumbers, rowNumbers, acceptCall, askCall, askListCall, askOrderCall, askSetCall, askRowCall, runCall, groundsCall, judgeCall, checkCall, searchCall, layeredCall, loadCall, textCall, retentionAcceptCall, retentionRunCall, retentionGroundsCall, retentionJudgeCall, retentionCheckCall, retentionSearchCall, retentionLayeredCall, retentionLoadCall}
+use Rattle.demands.specs.Calls.{RefusesExactly, listNumbers, orderNumbers, setNumbers, rowNumbers, acceptCall, askCall, askListCall, askOrderCall, askSetCall, askRowCall, runCall, groundsCall, judgeCall, checkCall, searchCall, layeredCall, chooseCall, betterCall, loadCall, textCall, retentionAcceptCall, retentionRunCall, retentionGroundsCall, retentionJudgeCall, retentionCheckCall, retentionSearchCall, retentionLayeredCall, retentionBetterCall, retentionLoadCall}
 use Rattle.demands.proofs.RefusesExactly.{Own, refuses-exactly}
-use Rattle.demands.proofs.OwnNumbers.{file-own, after-file, list-own, order-own, set-own, row-own, run-own, grounds-own, judge-own, check-own, search-own, layered-own, load-own}
+use Rattle.demands.proofs.OwnNumbers.{file-own, after-file, list-own, order-own, set-own, row-own, run-own, grounds-own, judge-own, check-own, search-own, layered-own, better-own, load-own}
 use Rattle.demands.proofs.CursorNext.{next-exactly, next-stays}
 
 pub accept-exactly : (file : List ℕ) → RefusesExactly (acceptCall file)
@@ -138,6 +140,25 @@ layered-exactly file order =
       first-no = λ r h. rw (h, layeredOutcome);
     })
 
+pub choose-exactly : (file first second : List ℕ) → RefusesExactly (chooseCall file first second)
+unfolding choiceOf
+choose-exactly file first second =
+    refuses-exactly 1 (chooseCall file first second)
+    (record {
+      own-numbers = better-own file first second;
+      all-yes = λ h. choice-means file first second .numbered ∙ ap noNumber h;
+      first-no = λ r h. rw (h, choiceOf);
+    })
+
+pub better-exactly : (file first second : List ℕ) → RefusesExactly (betterCall file first second)
+better-exactly file first second =
+    refuses-exactly 1 (betterCall file first second)
+    (record {
+      own-numbers = better-own file first second;
+      all-yes = λ h. ap noNumber h;
+      first-no = λ r h. rw (h, none-handed file first second r h);
+    })
+
 pub load-exactly : (start facts rules : ℕ) (out : List ℕ) → RefusesExactly (loadCall start facts rules out)
 unfolding loadOutcome loadWritten
 load-exactly start facts rules out =
@@ -185,6 +206,10 @@ pub retention-layered-exactly : (file order : List ℕ) → RefusesExactly (rete
 unfolding layeredReply countOfLayered
 retention-layered-exactly = layered-exactly
 
+pub retention-better-exactly : (file first second : List ℕ) → RefusesExactly (retentionBetterCall file first second)
+unfolding replyOfChoice
+retention-better-exactly = choose-exactly
+
 pub retention-load-exactly : (start facts rules : ℕ) (out : List ℕ) → RefusesExactly (retentionLoadCall start facts rules out)
 unfolding loadReply countOfLoaded
 retention-load-exactly = load-exactly
@@ -206,6 +231,8 @@ every-call =
       check = check-exactly;
       search = search-exactly;
       layered = layered-exactly;
+      choose = choose-exactly;
+      better = better-exactly;
       load = load-exactly;
       render = λ file. text-exactly (panelText file);
       render-grounds = λ file fact. text-exactly (groundsText file fact);
@@ -216,6 +243,7 @@ every-call =
       retention-check = retention-check-exactly;
       retention-search = retention-search-exactly;
       retention-layered = retention-layered-exactly;
+      retention-better = retention-better-exactly;
       retention-load = retention-load-exactly;
       retention-panel = λ file. text-exactly (panelText file);
       panel-text = panel-refusal;

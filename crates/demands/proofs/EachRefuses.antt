@@ -8,7 +8,7 @@ use Rattle.items.specs.declared.refusal.Refusal.{Refusal}
 use Rattle.items.specs.Question.{number, Question, firstNo, noNumber}
 use Rattle.items.proofs.FirstNo.{first-no}
 use Rattle.reader.specs.Questions.{fileQuestions, fileNo}
-use Rattle.questions.specs.Questions.{askListQuestions, askOrderQuestions, askSetQuestions, askRowQuestions, runQuestions, groundsQuestions, judgeQuestions, checkQuestions, earlyQuestions, searchQuestions, layeredQuestions}
+use Rattle.questions.specs.Questions.{askListQuestions, askOrderQuestions, askSetQuestions, askRowQuestions, runQuestions, groundsQuestions, judgeQuestions, checkQuestions, earlyQuestions, searchQuestions, layeredQuestions, betterQuestions}
 use Rattle.grounds_text.specs.Text.{textQuestions}
 use Rattle.demands.specs.Calls.{firstNumber, Call, RefusesExactly}
 use Rattle.demands.specs.EachRefuses.{RefusedWith, EachRefuses}
@@ -46,6 +46,10 @@ module _ (file : List ℕ) (n : ℕ) (above : 0 < n) (stopped : noNumber (fileNo
   unfolding layeredQuestions
   layered-stops order = stops-there _
 
+  better-stops : (first second : List ℕ) → firstNumber (betterQuestions file first second) ≡ some n
+  unfolding betterQuestions
+  better-stops first second = stops-there _
+
   search-stops : (facts rules steps order : ℕ) → firstNumber (searchQuestions file facts rules steps order) ≡ some n
   unfolding searchQuestions earlyQuestions
   search-stops facts rules steps order = stops-first (earlyQuestions file facts rules steps order) _ (stops-there _)
@@ -68,6 +72,8 @@ module _ (file : List ℕ) (n : ℕ) (above : 0 < n) (stopped : noNumber (fileNo
         check = λ set fact row. says (demand-1 .check file set fact row) (stops-there _);
         search = λ facts rules steps order. says (demand-1 .search file facts rules steps order) (search-stops _ _ _ _);
         layered = λ order. says (demand-1 .layered file order) (layered-stops _);
+        choose = λ first second. says (demand-1 .choose file first second) (better-stops _ _);
+        better = λ first second. says (demand-1 .better file first second) (better-stops _ _);
         retention-accept = says (demand-1 .retention-accept file) file-stops;
         retention-run = λ order facts rules steps. says (demand-1 .retention-run file order facts rules steps) (run-stops _ _ _ _);
         retention-grounds = λ order fact facts rules steps. says (demand-1 .retention-grounds file order fact facts rules steps) (grounds-stop _ _ _ _ _);
@@ -75,6 +81,7 @@ module _ (file : List ℕ) (n : ℕ) (above : 0 < n) (stopped : noNumber (fileNo
         retention-check = λ set fact row. says (demand-1 .retention-check file set fact row) (stops-there _);
         retention-search = λ facts rules steps order. says (demand-1 .retention-search file facts rules steps order) (search-stops _ _ _ _);
         retention-layered = λ order. says (demand-1 .retention-layered file order) (layered-stops _);
+        retention-better = λ first second. says (demand-1 .retention-better file first second) (better-stops _ _);
         panel-text = demand-1 .panel-text file n .1 file-stops;
         grounds-text = λ fact. demand-1 .grounds-text file fact n .1 (stops-there _);
       }

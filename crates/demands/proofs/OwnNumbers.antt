@@ -13,10 +13,10 @@ use Rattle.items.specs.Question.{Question}
 use Rattle.cursors.specs.Cursor.{Token, placeQuestions}
 use Rattle.items.specs.Item.{narrow}
 use Rattle.reader.specs.Questions.{programOf, fileQuestions}
-use Rattle.questions.specs.Questions.{namedIn, namesQuestions, listQuestions, orderQuestions, setQuestions, rowQuestions, bufferQuestions, runQuestions, groundsQuestions, judgeQuestions, checkQuestions, limitQuestions, earlyQuestions, searchQuestions, layeredQuestions}
+use Rattle.questions.specs.Questions.{namedIn, namesQuestions, listQuestions, orderQuestions, setQuestions, rowQuestions, bufferQuestions, runQuestions, groundsQuestions, judgeQuestions, checkQuestions, limitQuestions, earlyQuestions, searchQuestions, layeredQuestions, bothQuestions, betterQuestions}
 use Rattle.generator.specs.Outcome.{loadQuestions}
 use Rattle.reader.proofs.FileRefusals.{each-append, each-file}
-use Rattle.demands.specs.Calls.{fileNumbers, listNumbers, orderNumbers, setNumbers, rowNumbers, bufferNumbers, limitNumbers, placeNumbers, runNumbers, groundsNumbers, judgeNumbers, checkNumbers, searchNumbers, layeredNumbers, loadNumbers}
+use Rattle.demands.specs.Calls.{fileNumbers, listNumbers, orderNumbers, setNumbers, rowNumbers, bufferNumbers, limitNumbers, placeNumbers, runNumbers, groundsNumbers, judgeNumbers, checkNumbers, searchNumbers, layeredNumbers, betterNumbers, loadNumbers}
 use Rattle.demands.proofs.RefusesExactly.{Own}
 
 -- Questions behind one another have the numbers behind one another.
@@ -77,7 +77,7 @@ pub limits-own : (P : Program) (order : ℕ) → Own limitNumbers (limitQuestion
 unfolding limitQuestions
 limits-own P order = (refl, (refl, tt))
 
--- on a run, the grounds for one fact, a judgement, a proof check, a search, the order by rank and a test load
+-- on a run, the grounds for one fact, a judgement, a proof check, a search, the order by rank, two orders and a test load
 pub run-own : (file order : List ℕ) (facts rules steps : ℕ) → Own runNumbers (runQuestions file order facts rules steps)
 unfolding runQuestions
 run-own file order facts rules steps =
@@ -116,6 +116,13 @@ search-own file facts rules steps order =
 pub layered-own : (file : List ℕ) (order : ℕ) → Own layeredNumbers (layeredQuestions file order)
 unfolding layeredQuestions
 layered-own file order = after-file (34 ∷ 52 ∷ []) file _ (refl, (refl, tt))
+
+pub better-own : (file first second : List ℕ) → Own betterNumbers (betterQuestions file first second)
+unfolding betterQuestions bothQuestions
+better-own file first second =
+    let P = programOf file in
+    after-file orderNumbers file _
+    (each-append _ (orderQuestions (exception P) (count P) first) _ (order-own (exception P) (count P) first) (order-own (exception P) (count P) second))
 
 pub load-own : (facts rules room : ℕ) → Own loadNumbers (loadQuestions facts rules room)
 unfolding loadQuestions

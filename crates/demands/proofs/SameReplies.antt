@@ -11,11 +11,11 @@ use Rattle.theory.specs.Rule.{mem, keep, upTo, Program, FactSet, inForce, nothi
 use Rattle.theory.specs.Run.{run, stageCount, stepCount}
 use Rattle.theory.specs.Stable.{orderFor}
 use Rattle.theory.specs.Search.{search}
-use Rattle.theory.proofs.Repeats.{alike-inForce, alike-exception, alike-exception-count, alike-constraint-count, alike-run, alike-aside, alike-factMark, alike-factMarks, alike-ruleMarks, alike-grounds, alike-isStable, alike-isProof, alike-search, alike-orderFor, alike-isLayered, alike-layeredOrder}
+use Rattle.theory.proofs.Repeats.{alike-inForce, alike-exception, alike-exception-count, alike-constraint-count, alike-run, alike-aside, alike-asideCount, alike-factMark, alike-factMarks, alike-ruleMarks, alike-grounds, alike-isStable, alike-isProof, alike-search, alike-orderFor, alike-isLayered, alike-layeredOrder}
 use Rattle.reader.specs.declared.answer.Accept.the-variants.{Accepted}
 use Rattle.items.specs.declared.refusal.Refusal.{Refusal}
 use Rattle.items.specs.declared.refusal.Refusal.the-variants.{FactMarksShort, RuleMarksShort, StepsShort, OrderShort, TooManyConstraints, NoStableSet, NotDerived, NotLayered}
-use Rattle.items.specs.Question.{Question, ask, firstNo}
+use Rattle.items.specs.Question.{Question, ask, firstNo, noNumber}
 use Rattle.items.specs.Question as refusal
 use Rattle.items.specs.Item.{narrow, stepWidth, nameWidth, has, maxGuessed}
 use Rattle.reader.specs.Questions.{programOf, fileQuestions, fileNo, exceptions, constraintFacts}
@@ -23,7 +23,7 @@ use Rattle.reader.specs.Accept.{acceptOf}
 use Rattle.reader.proofs.FileAsked.{accepted-answer}
 use Rattle.items.proofs.FirstNo.{first-yes}
 use Rattle.questions.specs.Answer.{answerOf}
-use Rattle.questions.specs.Questions.{rowOf, namedIn, listQuestions, orderQuestions, setQuestions, rowQuestions, askListQuestions, askOrderQuestions, askSetQuestions, askRowQuestions, bufferQuestions, runQuestions, runNo, derivedQuestion, groundsQuestions, groundsNo, judgeQuestions, judgeNo, checkQuestions, checkNo, someStable, stableQuestion, limitQuestions, earlyQuestions, searchQuestions, searchNo, orderRoomQuestion, layeredQuestion, layeredQuestions, layeredNo, each, naming, runOf}
+use Rattle.questions.specs.Questions.{rowOf, namedIn, listQuestions, orderQuestions, setQuestions, rowQuestions, askListQuestions, askOrderQuestions, askSetQuestions, askRowQuestions, bufferQuestions, runQuestions, runNo, derivedQuestion, groundsQuestions, groundsNo, judgeQuestions, judgeNo, checkQuestions, checkNo, someStable, stableQuestion, limitQuestions, earlyQuestions, searchQuestions, searchNo, orderRoomQuestion, layeredQuestion, layeredQuestions, layeredNo, bothQuestions, betterQuestions, betterNo, each, naming, runOf}
 use Rattle.closure.specs.Steps.{stepBytes}
 use Rattle.run.specs.declared.answer.Ran.the-variants as ran
 use Rattle.run.specs.Outcome.{RunOutcome, runWritten, runOutcome}
@@ -41,8 +41,11 @@ use Rattle.search.specs.Outcome.{SearchOutcome, searchWritten, refusedWith, tak
 use Rattle.panel_lines.specs.Text.{headLine, stepLine, line, lastLine, rejectedFacts, asideRules, runText, ascending, panelText, shown}
 use Rattle.layers.specs.declared.answer.Layered.the-variants as layers
 use Rattle.layers.specs.Outcome.{LayeredOutcome, orderedBy, layeredOutcome}
+use Rattle.better.specs.declared.answer.Choice.{Choice}
+use Rattle.better.specs.declared.answer.Choice.the-variants as choice
+use Rattle.better.specs.Outcome.{asideOf, preferred, choiceOf, handed}
 use Rattle.grounds_text.specs.Text.{textQuestions, textNo, groundsText}
-use Rattle.replies.specs.Reply.{fileOf, verdictOfJudged, verdictOfChecked, runReply, searchReply, groundsReply, layeredReply}
+use Rattle.replies.specs.Reply.{fileOf, verdictOfJudged, verdictOfChecked, runReply, searchReply, groundsReply, layeredReply, replyOfChoice}
 use Rattle.demands.specs.Results.{SameReplies}
 
 module _ (s t : List ℕ) (yes-s : _≡_ {A = Option Refusal} (fileNo s) none) (yes-t : _≡_ {A = Option Refusal} (fileNo t) none) (a : Alike (programOf s) (programOf t)) where
@@ -259,6 +262,22 @@ module _ (s t : List ℕ) (yes-s : _≡_ {A = Option Refusal} (fileNo s) none) (
         | some r ↦ record { answer = layers.Refused r; order = order }
       ]
 
+  -- The better of two orders.
+  better-asked : (first second : List ℕ) → betterNo s first second ≡ betterNo t first second
+  unfolding betterQuestions bothQuestions
+  better-asked first second = behind (bothQuestions P first second) (bothQuestions Q first second) (λ i. firstNo (same-order first i ++ same-order second i))
+
+  same-asides : (order : List ℕ) → asideOf s order ≡ asideOf t order
+  same-asides order i = alike-asideCount a (force i) (namedIn order) i
+
+  same-choice : (first second : List ℕ) → choiceOf s first second ≡ choiceOf t first second
+  unfolding choiceOf
+  same-choice first second i =
+      elim (better-asked first second i) as (λ _. Choice) [
+        | none ↦ preferred (same-asides first i) (same-asides second i)
+        | some r ↦ choice.Refused r
+      ]
+
   -- The panel's text.
   text-of : (u : List ℕ) → _≡_ {A = Option Refusal} (fileNo u) none → panelText u ≡ runText (programOf u) (run (programOf u) (inForce (programOf u)) (ascending (programOf u)))
   unfolding panelText
@@ -313,6 +332,9 @@ module _ (s t : List ℕ) (yes-s : _≡_ {A = Option Refusal} (fileNo s) none) (
         check = same-check;
         search = same-search;
         layered = same-layered;
+        choose = same-choice;
+        better = λ first second. ap (λ (c : Choice). handed c first second) (same-choice first second);
+        better-number = λ first second. ap noNumber (better-asked first second);
         render = λ room. (ap length same-text, ap (λ (text : List ℕ). shown text room) same-text);
         render-grounds = λ fact room. (ap length (same-grounds-text fact), ap (λ (text : List ℕ). shown text room) (same-grounds-text fact));
         retention-accept = ap fileOf accepted;
@@ -322,4 +344,5 @@ module _ (s t : List ℕ) (yes-s : _≡_ {A = Option Refusal} (fileNo s) none) (
         retention-check = λ set fact row. ap verdictOfChecked (same-check set fact row);
         retention-search = λ facts rules steps order. ap searchReply (same-search facts rules steps order);
         retention-layered = λ order. ap layeredReply (same-layered order);
+        retention-better = λ first second. ap replyOfChoice (same-choice first second);
       }

@@ -8,7 +8,7 @@ use mathlib.Core.Logic.{_↔_}
 use mathlib.Core.Option.{Option, none, some, Option·map}
 use lib.Dec.{eqb}
 use Rattle.theory.specs.Rule.{all, mem}
-use Rattle.items.specs.Question.{Question, firstNo}
+use Rattle.items.specs.Question.{Question, firstNo, noNumber}
 use lib.ListN.{length, drop}
 use Rattle.items.specs.declared.refusal.Refusal.{Refusal}
 use Rattle.cursors.specs.declared.cursor.Row.{Row}
@@ -18,7 +18,7 @@ use Rattle.cursors.specs.declared.cursor.Read.the-variants.{Ended, Refused}
 use Rattle.cursors.specs.Cursor.{front, placeQuestions, nextAt}
 use Rattle.reader.specs.Questions.{fileQuestions}
 use Rattle.reader.specs.Accept.{acceptOf}
-use Rattle.questions.specs.Questions.{askListQuestions, askOrderQuestions, askSetQuestions, askRowQuestions, runQuestions, groundsQuestions, judgeQuestions, checkQuestions, searchQuestions, layeredQuestions}
+use Rattle.questions.specs.Questions.{askListQuestions, askOrderQuestions, askSetQuestions, askRowQuestions, runQuestions, groundsQuestions, judgeQuestions, checkQuestions, searchQuestions, layeredQuestions, betterQuestions, betterNo}
 use Rattle.questions.specs.Answer.{answerOf}
 use Rattle.run.specs.Outcome.{runOutcome}
 use Rattle.keeping.specs.Outcome.{groundsOutcome}
@@ -26,12 +26,14 @@ use Rattle.judge.specs.Judged.{judged}
 use Rattle.proofcheck.specs.Checked.{checked}
 use Rattle.search.specs.Outcome.{searchOutcome}
 use Rattle.layers.specs.Outcome.{layeredOutcome}
+use Rattle.better.specs.Outcome.{choiceOf, betterOf}
 use Rattle.generator.specs.Outcome.{loadQuestions, loadOutcome}
 use Rattle.panel_lines.specs.Text.{panelText, shown}
 use Rattle.grounds_text.specs.Text.{groundsText}
+use Rattle.replies.specs.declared.ChoiceReply.{ChoiceReply}
 use Rattle.replies.specs.declared.FileReply.{FileReply}
 use Rattle.replies.specs.declared.Verdict.{Verdict}
-use Rattle.replies.specs.Reply.{fileOf, verdictOfJudged, verdictOfChecked, RunReply, runReply, SearchReply, searchReply, GroundsReply, groundsReply, LayeredReply, layeredReply, LoadReply, loadReply}
+use Rattle.replies.specs.Reply.{fileOf, verdictOfJudged, verdictOfChecked, RunReply, runReply, SearchReply, searchReply, GroundsReply, groundsReply, LayeredReply, layeredReply, LoadReply, loadReply, replyOfChoice}
 use Rattle.items.specs.Question as refusal
 use Rattle.cursors.specs.Cursor as read
 use Rattle.reader.specs.Accept as accepted
@@ -42,6 +44,7 @@ use Rattle.judge.specs.Judged as judgement
 use Rattle.proofcheck.specs.Checked as checking
 use Rattle.search.specs.Outcome as searched
 use Rattle.layers.specs.Outcome as layers
+use Rattle.better.specs.Outcome as choice
 use Rattle.generator.specs.Outcome as loads
 
 -- The number of the first no; none where every question gets yes.
@@ -112,6 +115,9 @@ searchNumbers = fileNumbers ++ (bufferNumbers ++ limitNumbers) ++ (41 ∷ [])
 
 abbrev pub layeredNumbers : List ℕ
 layeredNumbers = fileNumbers ++ (34 ∷ 52 ∷ [])
+
+abbrev pub betterNumbers : List ℕ
+betterNumbers = fileNumbers ++ orderNumbers
 
 -- Of the one that asks no file's.
 abbrev pub loadNumbers : List ℕ
@@ -242,6 +248,17 @@ layeredCall file order =
       reply = layeredReplied (layeredOutcome file order);
     }
 
+-- `choose`
+abbrev pub chooseCall : List ℕ → List ℕ → List ℕ → Call
+chooseCall file first second =
+    let a = choiceOf file first second in
+    lentNothing (betterQuestions file first second) betterNumbers (choice.number a) (choice.which a ∷ [])
+
+-- `better` and, on the same inputs, `better_number`: the number is that of the second; the first hands back so many bytes, 0 on a refusal.
+abbrev pub betterCall : List ℕ → List ℕ → List ℕ → Call
+betterCall file first second =
+    lentNothing (betterQuestions file first second) betterNumbers (noNumber (betterNo file first second)) (length (betterOf file first second) ∷ [])
+
 -- `load`
 abbrev pub loadReplied : loads.LoadOutcome → Reply
 loadReplied o = record { number = loads.number (o .answer); counts = loads.count (o .answer) ∷ []; left = o .out ∷ [] }
@@ -344,6 +361,13 @@ retentionLayeredCall file order = replying (layeredCall file order) (counted (la
   where
     counted : LayeredReply → Reply
     counted o = record { number = o .reply .refusal; counts = o .reply .count ∷ []; left = o .order ∷ [] }
+
+-- `retention_better`
+abbrev pub retentionBetterCall : List ℕ → List ℕ → List ℕ → Call
+retentionBetterCall file first second = replying (chooseCall file first second) (counted (replyOfChoice (choiceOf file first second)))
+  where
+    counted : ChoiceReply → Reply
+    counted c = record { number = c .refusal; counts = c .which ∷ []; left = [] }
 
 -- `retention_load`
 abbrev pub retentionLoadCall : ℕ → ℕ → ℕ → List ℕ → Call

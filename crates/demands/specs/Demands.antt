@@ -22,7 +22,7 @@ use Rattle.search.specs.Outcome.{searchOutcome}
 use Rattle.search.specs.Outcome as searching
 use Rattle.panel_lines.specs.Text.{panelText, line}
 use Rattle.grounds_text.specs.Text.{groundsText, textQuestions}
-use Rattle.demands.specs.Calls.{firstNumber, RefusesExactly, Stays, acceptCall, nextCall, askListCall, askOrderCall, askSetCall, askRowCall, runCall, groundsCall, judgeCall, checkCall, searchCall, layeredCall, loadCall, renderCall, renderGroundsCall, retentionAcceptCall, retentionRunCall, retentionGroundsCall, retentionJudgeCall, retentionCheckCall, retentionSearchCall, retentionLayeredCall, retentionLoadCall, retentionPanelCall}
+use Rattle.demands.specs.Calls.{firstNumber, RefusesExactly, Stays, acceptCall, nextCall, askListCall, askOrderCall, askSetCall, askRowCall, runCall, groundsCall, judgeCall, checkCall, searchCall, layeredCall, chooseCall, betterCall, loadCall, renderCall, renderGroundsCall, retentionAcceptCall, retentionRunCall, retentionGroundsCall, retentionJudgeCall, retentionCheckCall, retentionSearchCall, retentionLayeredCall, retentionBetterCall, retentionLoadCall, retentionPanelCall}
 use Rattle.demands.specs.Results.{RunIs, JudgedStable, LeadsTo, SearchIs, LargeEnough, Searchable, Searches, FortyExactly, SameReplies}
 
 -- 1. Any rule file with any order, fact set, proof or buffers gets its result or a refusal number, and a refusal returns its number with zero
@@ -41,6 +41,8 @@ pub record Demand1 : Type 0 where
   pub check : (file set : List ℕ) (fact : ℕ) (row : List ℕ) → RefusesExactly (checkCall file set fact row)
   pub search : (file facts rules steps order : List ℕ) → RefusesExactly (searchCall file facts rules steps order)
   pub layered : (file order : List ℕ) → RefusesExactly (layeredCall file order)
+  pub choose : (file first second : List ℕ) → RefusesExactly (chooseCall file first second)
+  pub better : (file first second : List ℕ) → RefusesExactly (betterCall file first second)
   pub load : (start facts rules : ℕ) (out : List ℕ) → RefusesExactly (loadCall start facts rules out)
   pub render : (file out : List ℕ) → RefusesExactly (renderCall file out)
   pub render-grounds : (file : List ℕ) (fact : ℕ) (out : List ℕ) → RefusesExactly (renderGroundsCall file fact out)
@@ -51,6 +53,7 @@ pub record Demand1 : Type 0 where
   pub retention-check : (file set : List ℕ) (fact : ℕ) (row : List ℕ) → RefusesExactly (retentionCheckCall file set fact row)
   pub retention-search : (file facts rules steps order : List ℕ) → RefusesExactly (retentionSearchCall file facts rules steps order)
   pub retention-layered : (file order : List ℕ) → RefusesExactly (retentionLayeredCall file order)
+  pub retention-better : (file first second : List ℕ) → RefusesExactly (retentionBetterCall file first second)
   pub retention-load : (start facts rules : ℕ) (out : List ℕ) → RefusesExactly (retentionLoadCall start facts rules out)
   pub retention-panel : (file out : List ℕ) → RefusesExactly (retentionPanelCall file out)
   -- the panel's text is the line E n exactly where n is the number of the file's first no

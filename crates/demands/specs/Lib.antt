@@ -11,4 +11,5 @@ pub mod Wish03
 pub mod Wish04
 pub mod Wish05
 pub mod Wish06
+pub mod Wish07
 pub mod Wish08

@@ -5,7 +5,7 @@ use mathlib.Core.Bool.{Bool, cond, true, false, not, _&&_}
 use mathlib.Core.List.{List, map}
 use Rattle.theory.specs.Rule.{keep, upTo, howMany, FactSet, count, withheld, inForce, plain, exception, Step}
 use Rattle.items.specs.Item.{narrow, stepWidth, nameWidth, marked}
-use Rattle.questions.specs.Questions.{naming, namedIn, orderNo, rowOf, buffersNo, askListQuestions, askOrderQuestions, askSetQuestions, askRowQuestions}
+use Rattle.questions.specs.Questions.{naming, namedIn, orderNo, rowOf, buffersNo, askListQuestions, askOrderQuestions, askSetQuestions, askRowQuestions, betterNo}
 use lib.ListN.{take, length, getD, drop}
 use Rattle.reader.specs.Questions.{programOf, fileNo, exceptions, constraintFacts}
 use Rattle.run.specs.Outcome.{RunOutcome, runOutcome}
@@ -21,12 +21,13 @@ use Rattle.proofcheck.specs.declared.answer.Checked.the-variants.{Yes}
 use Rattle.proofcheck.specs.Checked.{checked}
 use Rattle.search.specs.Outcome.{SearchOutcome, searchOutcome}
 use Rattle.layers.specs.Outcome.{layeredOutcome}
-use Rattle.items.specs.Question.{firstNo}
+use Rattle.better.specs.Outcome.{choiceOf, betterOf}
+use Rattle.items.specs.Question.{firstNo, noNumber}
 use Rattle.reader.specs.Accept.{acceptOf}
 use Rattle.questions.specs.Answer.{answerOf}
 use Rattle.panel_lines.specs.Text.{panelText, shown}
 use Rattle.grounds_text.specs.Text.{groundsText}
-use Rattle.replies.specs.Reply.{fileOf, verdictOfJudged, verdictOfChecked, runReply, searchReply, groundsReply, layeredReply}
+use Rattle.replies.specs.Reply.{fileOf, verdictOfJudged, verdictOfChecked, runReply, searchReply, groundsReply, layeredReply, replyOfChoice}
 use Rattle.run.specs.Outcome as run
 use Rattle.judge.specs.declared.answer.Judged.the-variants as judgement
 use Rattle.proofcheck.specs.Checked as check
@@ -257,6 +258,9 @@ pub record SameReplies (s t : List ℕ) : Type 0 where
   pub check : (set : List ℕ) (fact : ℕ) (row : List ℕ) → checked s set fact row ≡ checked t set fact row
   pub search : (facts rules steps order : List ℕ) → searchOutcome s facts rules steps order ≡ searchOutcome t facts rules steps order
   pub layered : (order : List ℕ) → layeredOutcome s order ≡ layeredOutcome t order
+  pub choose : (first second : List ℕ) → choiceOf s first second ≡ choiceOf t first second
+  pub better : (first second : List ℕ) → betterOf s first second ≡ betterOf t first second
+  pub better-number : (first second : List ℕ) → noNumber (betterNo s first second) ≡ noNumber (betterNo t first second)
   pub render : (room : List ℕ) → (length (panelText s) ≡ length (panelText t)) × (shown (panelText s) room ≡ shown (panelText t) room)
   pub render-grounds : (fact : ℕ) (room : List ℕ) → (length (groundsText s fact) ≡ length (groundsText t fact)) × (shown (groundsText s fact) room ≡ shown (groundsText t fact) room)
   -- The operations for callers in C and Rust; the panel's is `render`.
@@ -267,3 +271,4 @@ pub record SameReplies (s t : List ℕ) : Type 0 where
   pub retention-check : (set : List ℕ) (fact : ℕ) (row : List ℕ) → verdictOfChecked (checked s set fact row) ≡ verdictOfChecked (checked t set fact row)
   pub retention-search : (facts rules steps order : List ℕ) → searchReply (searchOutcome s facts rules steps order) ≡ searchReply (searchOutcome t facts rules steps order)
   pub retention-layered : (order : List ℕ) → layeredReply (layeredOutcome s order) ≡ layeredReply (layeredOutcome t order)
+  pub retention-better : (first second : List ℕ) → replyOfChoice (choiceOf s first second) ≡ replyOfChoice (choiceOf t first second)

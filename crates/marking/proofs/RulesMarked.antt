@@ -1,11 +1,10 @@
 -- Marks set element by element, and rule by rule, and counted.
 use Prim.Native.Nat.{ℕ, _+_, _-_, _≤_, _<_}
 use mathlib.Core.Path.{_≡_, refl, sym, ap, ap₂, _∙_}
-use mathlib.Core.Bool.{Bool, true, false, cond, not, _&&_, _||_}
-use mathlib.Core.List.{List, _∷_}
+use mathlib.Core.Bool.{Bool, true, false, not, _&&_, _||_}
+use mathlib.Core.List.{List}
 use mathlib.Core.Logic.{⊎-elim}
 use native.Mathlib.Omega.{arith}
-use native.Mathlib.Nat.{zero-add}
 use borrow.Author.Tests.{lt-ltb, le-ltb, ltb-true, eq-eqb, eqb-true, eqb-false}
 use lib.ListN.{length, set, replicate, length-set}
 use lib.Dec.{eqb, ltb}
@@ -99,42 +98,6 @@ module _ {P : Program} {before now : List ℕ} {i : ℕ} (w : MarkingRules P bef
         places = w .places;
         same = w .same ∙ same-test 1 _ (constrainedFrom P (i + 1)) now (rule-more h false off);
       }
-
--- Counting the marked facts: those counted and those to come from fact f on are all.
-pub record Counting (marks : List ℕ) (facts n f : ℕ) : Type 0 where
-  pub inside : f ≤ facts
-  pub few : n ≤ f
-  pub same : howMany (has marks) (upTo facts) ≡ n + howMany (has marks) (range f (facts - f))
-
-pub none-counted : (marks : List ℕ) (facts : ℕ) → Counting marks facts 0 0
-none-counted marks facts =
-    record {
-      inside = omega arith;
-      few = omega arith;
-      same = ap (howMany (has marks)) (range-all facts) ∙ sym (zero-add (howMany (has marks) (range 0 (facts - 0))));
-    }
-
-module _ (marks : List ℕ) (facts n f : ℕ) (w : Counting marks facts n f) where
-  pub all-counted : facts ≤ f → n ≡ howMany (has marks) (upTo facts)
-  all-counted h =
-      let none : howMany (has marks) (range f (facts - f)) ≡ 0 = ap (howMany (has marks)) (range-end facts f h) in
-      omega (arith, w .same)
-
-  -- what fact f gives, and those behind it
-  fact-more : f < facts → (b : Bool) → has marks f ≡ b → howMany (has marks) (range f (facts - f)) ≡ cond b 1 0 + howMany (has marks) (range (f + 1) (facts - (f + 1)))
-  fact-more h b e = ap (howMany (has marks)) (range-cons facts f h) ∙ bit b e
-    where
-      bit : (b : Bool) → has marks f ≡ b → howMany (has marks) (f ∷ range (f + 1) (facts - (f + 1))) ≡ cond b 1 0 + howMany (has marks) (range (f + 1) (facts - (f + 1)))
-      bit true e = rw e (omega arith)
-      bit false e = rw e (omega arith)
-
-  pub one-counted : f < facts → has marks f ≡ true → Counting marks facts (n + 1) (f + 1)
-  one-counted h e =
-      record { inside = omega arith; few = omega (arith, w .few); same = omega (arith, w .same, fact-more h true e) }
-
-  pub not-counted : f < facts → has marks f ≡ false → Counting marks facts n (f + 1)
-  not-counted h e =
-      record { inside = omega arith; few = omega (arith, w .few); same = omega (arith, w .same, fact-more h false e) }
 
 -- Of a table of zeros painted by a test as many facts are marked as pass it.
 pub painted-count : (places : ℕ) (p : ℕ → Bool) (n facts : ℕ) → n ≡ facts → facts ≤ places → (marks : List ℕ) → marks ≡ paint p (replicate places 0) → howMany (has marks) (upTo n) ≡ howMany p (upTo facts)

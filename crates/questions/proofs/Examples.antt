@@ -7,7 +7,7 @@ use Rattle.items.specs.Item.{bodyLength, itemOf}
 use Rattle.cursors.specs.Cursor.{front, itemsAt}
 use Rattle.items.specs.Question.{noNumber}
 use Rattle.reader.specs.Questions.{fileQuestions, exceptions, constraintFacts}
-use Rattle.questions.specs.Questions.{listQuestions, orderQuestions, setQuestions, rowQuestions, bufferQuestions, runQuestions, judgeQuestions, checkQuestions, earlyQuestions, searchQuestions, runNo, judgeNo, checkNo, searchNo}
+use Rattle.questions.specs.Questions.{listQuestions, orderQuestions, setQuestions, rowQuestions, bufferQuestions, runQuestions, judgeQuestions, checkQuestions, earlyQuestions, searchQuestions, bothQuestions, betterQuestions, runNo, judgeNo, checkNo, searchNo, betterNo}
 
 -- E: no fact and no rule
 abbrev empty : List ℕ
@@ -27,12 +27,14 @@ pub record FirstNos : Type 0 where
   pub set-before-fact : noNumber (checkNo empty foreign 0 foreign) ≡ 21
   pub fact-before-row : noNumber (checkNo empty [] 0 foreign) ≡ 24
   pub order-before-room : noNumber (runNo two foreign 0 0 0) ≡ 11
+  pub file-before-orders : noNumber (betterNo [] foreign foreign) ≡ 2
+  pub first-before-second : noNumber (betterNo two foreign []) ≡ 11
   pub facts-before-rules : noNumber (searchNo two 0 0 0 0) ≡ 31
   pub rules-before-steps : noNumber (searchNo two 3 0 0 0) ≡ 32
   pub steps-before-order : noNumber (searchNo two 3 2 0 0) ≡ 33
 
 pub first-nos : FirstNos
-unfolding exceptions constraintFacts exception constraintFact fileQuestions itemsAt front bodyLength itemOf listQuestions orderQuestions setQuestions rowQuestions bufferQuestions runQuestions judgeQuestions checkQuestions earlyQuestions searchQuestions
+unfolding exceptions constraintFacts exception constraintFact fileQuestions itemsAt front bodyLength itemOf listQuestions orderQuestions setQuestions rowQuestions bufferQuestions runQuestions judgeQuestions checkQuestions earlyQuestions searchQuestions bothQuestions betterQuestions
 first-nos =
     record {
       file-before-list = refl;
@@ -40,6 +42,8 @@ first-nos =
       set-before-fact = refl;
       fact-before-row = refl;
       order-before-room = refl;
+      file-before-orders = refl;
+      first-before-second = refl;
       facts-before-rules = refl;
       rules-before-steps = refl;
       steps-before-order = refl;

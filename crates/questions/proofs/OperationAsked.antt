@@ -27,7 +27,7 @@ use Rattle.reader.proofs.Accepted.{all-asked}
 use Rattle.reader.proofs.FileAsked.{file-no, file-yes}
 use Rattle.questions.specs.declared.answer.Answer.{Answer}
 use Rattle.questions.specs.declared.answer.Answer.the-variants.{Yes, No}
-use Rattle.questions.specs.Questions.{whole, namedIn, nameQuestions, namesQuestions, allNamedQuestion, listQuestions, orderQuestions, zeroOrOne, setQuestions, rowQuestions, listNo, orderNo, setNo, rowNo, bufferQuestions, buffersNo, tabledNo, askListQuestions, askOrderQuestions, askSetQuestions, askRowQuestions}
+use Rattle.questions.specs.Questions.{whole, namedIn, nameQuestions, namesQuestions, allNamedQuestion, listQuestions, orderQuestions, zeroOrOne, setQuestions, rowQuestions, listNo, orderNo, setNo, rowNo, bufferQuestions, buffersNo, askListQuestions, askOrderQuestions, askSetQuestions, askRowQuestions}
 use Rattle.questions.specs.Answer.{answerOf, number, AnswerNumbers}
 use Rattle.questions.specs.Named.{AllNamed, Listed}
 use Rattle.marking.proofs.MarksPainted.{unmarked}
@@ -145,15 +145,15 @@ module _ (P : Program) (facts rules steps : ℕ) where
       unfolding bufferQuestions
       large-enough h = rw (le-leb (P .facts) facts f, le-leb (count P) rules r, le-leb (stepWidth narrow * P .facts) steps h)
 
--- The ways of a run's questions behind those of the file.
-module _ (P : Program) (order : List ℕ) (facts rules steps : ℕ) where
-  pub order-no : (r : Refusal) → No r ≡ answerOf (orderNo (exception P) (count P) order) → No r ≡ answerOf (tabledNo P order facts rules steps)
+-- The ways of the questions on an order, with others behind them.
+module _ (P : Program) (order : List ℕ) (rest : List Question) where
+  pub order-no : (r : Refusal) → No r ≡ answerOf (orderNo (exception P) (count P) order) → No r ≡ answerOf (firstNo (orderQuestions (exception P) (count P) order ++ rest))
   order-no r e =
-      sym (ap answerOf (first-no (orderQuestions (exception P) (count P) order) _ r (said-no (orderNo (exception P) (count P) order) r e)))
+      sym (ap answerOf (first-no (orderQuestions (exception P) (count P) order) rest r (said-no (orderNo (exception P) (count P) order) r e)))
 
-  pub buffers-asked : Yes ≡ answerOf (orderNo (exception P) (count P) order) → (answer : Answer) → answer ≡ answerOf (buffersNo narrow P facts rules steps) → answer ≡ answerOf (tabledNo P order facts rules steps)
-  buffers-asked e answer q =
-      q ∙ sym (ap answerOf (first-yes (orderQuestions (exception P) (count P) order) _ (said-yes (orderNo (exception P) (count P) order) e)))
+  pub order-yes : Yes ≡ answerOf (orderNo (exception P) (count P) order) → (answer : Answer) → answer ≡ answerOf (firstNo rest) → answer ≡ answerOf (firstNo (orderQuestions (exception P) (count P) order ++ rest))
+  order-yes e answer q =
+      q ∙ sym (ap answerOf (first-yes (orderQuestions (exception P) (count P) order) rest (said-yes (orderNo (exception P) (count P) order) e)))
 
 -- What an operation asks of an accepted file, with what was read of it.
 module _ (s : List ℕ) (yes-all : _≡_ {A = Option Refusal} (fileNo s) none) where

@@ -175,6 +175,21 @@ tabledNo P order facts rules steps =
 abbrev pub runOf : List ℕ → List ℕ → Stand
 runOf file order = run (programOf file) (inForce (programOf file)) (namedIn order)
 
+-- Two orders, each questioned as an order is, the first before the second (document 02, wish 7).
+unfoldable pub bothQuestions : Program → List ℕ → List ℕ → List Question
+bothQuestions P first second = orderQuestions (exception P) (count P) first ++ orderQuestions (exception P) (count P) second
+
+-- The better of two orders: the file, then both.
+unfoldable pub betterQuestions : List ℕ → List ℕ → List ℕ → List Question
+betterQuestions file first second = fileQuestions file ++ bothQuestions (programOf file) first second
+
+-- The first no of each.
+abbrev pub bothNo : Program → List ℕ → List ℕ → Option Refusal
+bothNo P first second = firstNo (bothQuestions P first second)
+
+abbrev pub betterNo : List ℕ → List ℕ → List ℕ → Option Refusal
+betterNo file first second = firstNo (betterQuestions file first second)
+
 -- Did the run derive the fact? (document 02, wish 1)
 abbrev pub derivedQuestion : Stand → ℕ → Question
 derivedQuestion s fact = ask NotDerived (s .derived fact)

@@ -58,6 +58,40 @@ fn answer(operation: u32, file: &[u8], second: &[u8], third: &[u8], fact: u32) -
     }
 }
 
+// Copies a row to the front of a buffer, as far as that goes.
+fn copy(from: &[u8], to: &mut [u8]) {
+    let mut i: usize = 0;
+    while i < from.len() {
+        if to.len() <= i {
+            return;
+        }
+        to[i] = from[i];
+        i += 1;
+    }
+}
+
+// Which of two orders is the better, with the number by itself, and how many bytes are handed back: these are copied to a buffer, so that they are compared as what is written
+// is.
+fn better_reply<'a>(
+    file: &[u8],
+    first: &'a [u8],
+    second: &'a [u8],
+    o: &mut [u8],
+) -> [u32; NUMBERS] {
+    let a = retention::retention_better(file, first, second);
+    let number = better::better_number(file, first, second);
+    let back = better::better(file, first, second);
+    copy(back, o);
+    [
+        a.refusal,
+        a.which,
+        number,
+        (back.len() % 65536) as u32,
+        0,
+        0,
+    ]
+}
+
 // What any operation replies, in the buffers that it is lent. The rows of the case stand at these places, and its file may stand before them. A test load has its
 // three numbers in the place of a file.
 fn reply(
@@ -96,6 +130,7 @@ fn reply(
             let a = retention::retention_load(wide(file, 0), wide(file, 4), wide(file, 8), f);
             [a.refusal, a.count, 0, 0, 0, 0]
         }
+        14 => better_reply(file, second, row(bytes, places[4]), o),
         _ => answer(operation, file, second, row(bytes, places[4]), fact),
     }
 }

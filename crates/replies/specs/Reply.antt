@@ -19,6 +19,9 @@ use Rattle.layers.specs.declared.answer.Layered.{Layered}
 use Rattle.layers.specs.Outcome as layered
 use Rattle.generator.specs.declared.answer.Loaded.{Loaded}
 use Rattle.generator.specs.Outcome as loaded
+use Rattle.better.specs.declared.answer.Choice.{Choice}
+use Rattle.better.specs.Outcome as better
+use Rattle.replies.specs.declared.ChoiceReply.{ChoiceReply}
 use Rattle.replies.specs.declared.Count.{Count}
 use Rattle.replies.specs.declared.FileReply.{FileReply}
 use Rattle.replies.specs.declared.RunCounts.{RunCounts}
@@ -60,6 +63,9 @@ countOfLayered a = record { refusal = layered.number a; count = layered.count a 
 
 unfoldable pub countOfLoaded : Loaded → Count
 countOfLoaded a = record { refusal = loaded.number a; count = loaded.count a }
+
+unfoldable pub replyOfChoice : Choice → ChoiceReply
+replyOfChoice a = record { refusal = better.number a; which = better.which a }
 
 -- The reply of a run and the three buffers, from the run's outcome.
 pub record RunReply : Type 0 where

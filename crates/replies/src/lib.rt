@@ -1,6 +1,7 @@
 // The replies to callers in C and Rust, in plain numbers, and each answer as a reply. A refusal has its number and 0 for every other value. Internal.
 ghost use mathlib.Core.Path.{_≡_};
-ghost use Rattle.replies.specs.Reply.{fileOf, countsOfRan, countsOfSearched, verdictOfJudged, verdictOfChecked, countOfGrounds, countOfLayered, countOfLoaded};
+ghost use Rattle.replies.specs.Reply.{fileOf, countsOfRan, countsOfSearched, verdictOfJudged, verdictOfChecked, countOfGrounds, countOfLayered, countOfLoaded, replyOfChoice};
+use better::answer::Choice;
 use generator::answer::Loaded;
 use items::lengths::STEP_WIDTH;
 use judge::answer::Judged;
@@ -42,6 +43,13 @@ pub struct Verdict {
 pub struct Count {
     pub refusal: u32,
     pub count: u32,
+}
+
+// Which of two orders: 1 for the first, 2 for the second.
+#[repr(C)]
+pub struct ChoiceReply {
+    pub refusal: u32,
+    pub which: u32,
 }
 
 pub fn of_accept(a: Accept) -> FileReply
@@ -185,6 +193,25 @@ pub fn of_loaded(a: Loaded) -> Count
         Loaded::Refused(r) => Count {
             refusal: r.number() as u32,
             count: 0,
+        },
+    }
+}
+
+pub fn of_choice(a: Choice) -> ChoiceReply
+    ensures { λ r. ⌜ r ≡ replyOfChoice a ⌝ }
+{
+    match a {
+        Choice::First => ChoiceReply {
+            refusal: 0,
+            which: 1,
+        },
+        Choice::Second => ChoiceReply {
+            refusal: 0,
+            which: 2,
+        },
+        Choice::Refused(r) => ChoiceReply {
+            refusal: r.number() as u32,
+            which: 0,
         },
     }
 }

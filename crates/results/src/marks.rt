@@ -3,7 +3,8 @@ ghost use Prim.Native.Nat.{_≤_, _<_};
 ghost use mathlib.Core.Path.{_≡_};
 ghost use mathlib.Core.Bool.{true};
 ghost use lib.ListN.{length};
-ghost use Rattle.theory.specs.Rule.{mem, Program, inForce, count};
+ghost use lib.Dec.{eqb};
+ghost use Rattle.theory.specs.Rule.{mem, upTo, howMany, Program, inForce, count};
 ghost use Rattle.theory.specs.Run.{Stand, rejected, setAside, ruleMark, factMarks, ruleMarks};
 ghost use Rattle.items.specs.Item.{narrow, maxFacts, has};
 ghost use Rattle.tables.specs.Layout.{programIn, WellFormed};
@@ -111,4 +112,26 @@ pub fn write_rule_marks(
         out[i] = rule_mark(tables, RuleId(i as u16), applied[i] == 1, derived);
         i += 1;
     }
+}
+
+// How many rules are set aside: those with that mark.
+pub fn count_set_aside(
+    tables: &[u16; TABLE_CELLS],
+    applied: &[u8; MAX_RULES],
+    derived: &[u8; MAX_FACTS],
+) -> usize
+    requires { ⌜ WellFormed (now tables) ⌝ }
+    requires { ⌜ programIn (now tables) .facts ≤ length (now derived) ⌝ }
+    ensures { λ r. ⌜ ((s : Stand) → has (now (applied .entry)) ≡ (λ i. mem i (s .applied)) → has (now (derived .entry)) ≡ s .derived → r ≡ howMany (λ i. eqb (ruleMark (programIn (now (tables .entry))) (inForce (programIn (now (tables .entry)))) s i) 2) (upTo (count (programIn (now (tables .entry)))))) ⌝ }
+{
+    let rules = rules_of(tables);
+    let mut n: usize = 0;
+    let mut i: usize = 0;
+    while i < rules {
+        if rule_mark(tables, RuleId(i as u16), applied[i] == 1, derived) == SET_ASIDE {
+            n += 1;
+        }
+        i += 1;
+    }
+    n
 }

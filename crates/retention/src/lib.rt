@@ -10,8 +10,10 @@ ghost use Rattle.search.specs.Outcome.{searchOutcome};
 ghost use Rattle.keeping.specs.Outcome.{groundsOutcome};
 ghost use Rattle.layers.specs.Outcome.{layeredOutcome};
 ghost use Rattle.generator.specs.Outcome.{loadOutcome};
+ghost use Rattle.better.specs.Outcome.{choiceOf};
 ghost use Rattle.panel_lines.specs.Text.{panelText, shown};
-ghost use Rattle.replies.specs.Reply.{fileOf, verdictOfJudged, verdictOfChecked, RunReply, runReply, SearchReply, searchReply, GroundsReply, groundsReply, LayeredReply, layeredReply, LoadReply, loadReply};
+ghost use Rattle.replies.specs.Reply.{fileOf, verdictOfJudged, verdictOfChecked, RunReply, runReply, SearchReply, searchReply, GroundsReply, groundsReply, LayeredReply, layeredReply, LoadReply, loadReply, replyOfChoice};
+use replies::ChoiceReply;
 use replies::Count;
 use replies::FileReply;
 use replies::RunCounts;
@@ -90,6 +92,14 @@ pub extern "C" fn retention_layered(file: &[u8], order: &mut [u8]) -> Count
     ensures { λ r. ⌜ _≡_ {A = LayeredReply} (record { reply = r; order = now (order .exit) }) (layeredReply (layeredOutcome (now (file .entry)) (now (order .entry)))) ⌝ }
 {
     replies::of_layered(layers::layered(file, order))
+}
+
+// Which of two orders sets aside fewer rules in the run of a file. A reference cannot be handed to a caller in C, so it is told which of the two is handed back.
+#[no_mangle]
+pub extern "C" fn retention_better(file: &[u8], first: &[u8], second: &[u8]) -> ChoiceReply
+    ensures { λ r. ⌜ r ≡ replyOfChoice (choiceOf (now (file .entry)) (now (first .entry)) (now (second .entry))) ⌝ }
+{
+    replies::of_choice(better::choose(file, first, second))
 }
 
 // A test load: a file of so many rules over so many facts, drawn from a start.

@@ -15,8 +15,7 @@ use Rattle.theory.proofs.Bools.{never, and-left, false-of}
 use Rattle.theory.proofs.Lists.{mapped-length, mapped-at, all-elem, any-witness}
 use Rattle.theory.proofs.Run.{run-sound, run-disjoint, not-both, exception-known}
 use Rattle.theory.proofs.Absent.{run-absent}
-use Rattle.theory.proofs.RunStable.{concluded-kept}
-use Rattle.theory.proofs.Marks.{aside-supported, aside-exception}
+use Rattle.theory.proofs.Marks.{aside-supported, mark-aside}
 use Rattle.theory.proofs.Withheld.{withheld-exception, plain-in-force, mark-off}
 use Rattle.items.specs.Write.{over}
 use Rattle.items.specs.Item.{marked}
@@ -79,22 +78,10 @@ module _ (P : Program) (b : Bounded P) (order : List ℕ) where
               never (all-elem (λ g. ltb g (P .facts)) (rule P (w .0) .constraints) (b .constraints-below (w .0) (exception-known P (inForce P) (w .0) e)) f (w .2)) (le-ltb f (P .facts) l)
 
   pub read-aside : (room : List ℕ) → marked (count P) 2 (over (ruleMarks P (inForce P) (run P (inForce P) order)) room) ≡ setAside P (inForce P) (run P (inForce P) order .derived)
-  unfolding ruleMark
   read-aside room =
       read-marks (ruleMark P (inForce P) (run P (inForce P) order)) (count P) 2 room (setAside P (inForce P) (run P (inForce P) order .derived))
-      (λ i _. two (plain P i) (mem i (run P (inForce P) order .applied)) (setAside P (inForce P) (run P (inForce P) order .derived) i) (inForce P i)
-      (λ p a. not-both P (inForce P) i p (aside-exception P (inForce P) (run P (inForce P) order) (run-sound P (inForce P) order) i (aside-supported P (inForce P) (run P (inForce P) order .derived) i a)))
-      (λ m a. never a (concluded-kept P (inForce P) (run P (inForce P) order .derived) i (run-sound P (inForce P) order .concluded i m))))
+      (λ i _. mark-aside P (inForce P) (run P (inForce P) order) (run-sound P (inForce P) order) i)
       (λ i l. false-of (setAside P (inForce P) (run P (inForce P) order .derived) i) (λ a. let k : i < count P = aside-supported P (inForce P) (run P (inForce P) order .derived) i a .known in absurd (omega arith)))
-    where
-      two : (p a s o : Bool) → (p ≡ true → s ≡ true → ⊥) → (a ≡ true → s ≡ true → ⊥) → eqb (cond p 0 (cond a 1 (cond s 2 (cond o 3 4)))) 2 ≡ s
-      two true a true o n m = absurd (n refl refl)
-      two true a false o n m = refl
-      two false true true o n m = absurd (m refl refl)
-      two false true false o n m = refl
-      two false false true o n m = refl
-      two false false false true n m = refl
-      two false false false false n m = refl
 
   pub read-plain : (room : List ℕ) → marked (count P) 0 (over (ruleMarks P (inForce P) (run P (inForce P) order)) room) ≡ plain P
   unfolding ruleMark plain

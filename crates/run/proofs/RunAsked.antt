@@ -16,27 +16,32 @@ use Rattle.reader.specs.Asked.{fileAsked}
 use Rattle.reader.specs.Scanned.{Tabled}
 use Rattle.reader.proofs.Accepted.{all-asked}
 use Rattle.questions.specs.declared.answer.Answer.the-variants.{Yes, No}
-use Rattle.questions.specs.Questions.{namedIn, listQuestions, orderQuestions, bufferQuestions, tabledNo, runQuestions, runNo, runOf}
+use Rattle.questions.specs.Questions.{namedIn, listQuestions, orderQuestions, orderNo, bufferQuestions, tabledNo, runQuestions, runNo, runOf}
 use Rattle.questions.specs.Answer.{answerOf}
 use Rattle.questions.proofs.OperationAsked.{file-refused, file-accepted, yes-to-list, Passed}
 use Rattle.questions.proofs.NamesAsked.{said-yes, said-no}
 use Rattle.naming.proofs.FewNamed.{few-named}
 use Rattle.run.specs.Outcome.{RunOutcome, runWritten}
-use Rattle.run.specs.Stands.{MayRun, runIn}
+use Rattle.run.specs.Stands.{MayOrder, MayRun, runIn}
+
+-- An order that gets yes names exception rules alone, no more than there can be.
+pub may-order : (P : Program) → count P ≤ maxRules → (order : List ℕ) → _≡_ {A = Option Refusal} (orderNo (exception P) (count P) order) none → MayOrder P (namedIn order)
+unfolding orderQuestions
+may-order P few order e =
+    let l = both-yes (listQuestions (exception P) order) _ e in
+    (yes-to-list (exception P) order (l .0), few-named P few order (l .0))
 
 module _ (P : Program) (few : count P ≤ maxRules) (order : List ℕ) (facts rules steps : ℕ) where
   -- what a run may rely on where all of them got yes
   pub may-run : Yes ≡ answerOf (tabledNo P order facts rules steps) → MayRun P (namedIn order) facts rules steps
-  unfolding bufferQuestions orderQuestions
+  unfolding bufferQuestions
   may-run e =
       let a = both-yes (orderQuestions (exception P) (count P) order) _ (said-yes (tabledNo P order facts rules steps) e) in
-      let l = both-yes (listQuestions (exception P) order) _ (a .0) in
       let f = all-asked _ (leb (P .facts) facts) _ (a .1) in
       let r = all-asked _ (leb (count P) rules) _ (f .1) in
       let s = all-asked _ (leb (stepWidth narrow * P .facts) steps) _ (r .1) in
       record {
-        names-only = yes-to-list (exception P) order (l .0);
-        names-few = few-named P few order (l .0);
+        order-fits = may-order P few order (a .0);
         facts-fit = leb-true _ _ (f .0);
         rules-fit = leb-true _ _ (r .0);
         steps-fit = leb-true _ _ (s .0);

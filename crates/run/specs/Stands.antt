@@ -48,11 +48,13 @@ pub record RunCounted (s : Stand) (stages steps : ℕ) : Type 0 where
 abbrev pub runIn : List ℕ → List ℕ → Stand
 runIn T order = run (programIn T) (inForce (programIn T)) (namedIn order)
 
--- The order names exception rules alone, no more than there can be, and the buffers have these lengths: room for the marks and for a step for
--- each fact.
+-- An order that a run may take: it names exception rules alone, no more than there can be.
+abbrev pub MayOrder : Program → List ℕ → Type 0
+MayOrder P order = NamesOnly P order × (length order ≤ maxRules)
+
+-- The order is such a one, and the buffers have these lengths: room for the marks and for a step for each fact.
 pub record MayRun (P : Program) (order : List ℕ) (facts rules steps : ℕ) : Type 0 where
-  pub names-only : NamesOnly P order
-  pub names-few : length order ≤ maxRules
+  pub order-fits : MayOrder P order
   pub facts-fit : P .facts ≤ facts
   pub rules-fit : count P ≤ rules
   pub steps-fit : stepWidth narrow * P .facts ≤ steps

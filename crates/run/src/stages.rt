@@ -1,5 +1,4 @@
 // The stages of a run on the tables of an accepted file, under an accepted order. Internal.
-ghost use Prim.Native.Nat.{_≤_};
 ghost use mathlib.Core.Path.{_≡_};
 ghost use lib.ListN.{length, take};
 ghost use Rattle.theory.specs.Rule.{inForce};
@@ -10,8 +9,7 @@ ghost use Rattle.questions.specs.Questions.{namedIn};
 ghost use Rattle.premises.specs.Plain.{Zeroed};
 ghost use Rattle.stage.specs.Memory.{Holds};
 ghost use Rattle.run.specs.Outcome.{RunOutcome, runWritten};
-ghost use Rattle.stage.specs.Look.{NamesOnly};
-ghost use Rattle.run.specs.Stands.{outset, Began, Held, Ordered, RunCounted, MayRun, runIn};
+ghost use Rattle.run.specs.Stands.{outset, Began, Held, Ordered, RunCounted, MayOrder, MayRun, runIn};
 use crate::answer::Ran;
 use bits::matrix::MATRIX_WORDS;
 use bits::row::ROW_WORDS;
@@ -119,7 +117,7 @@ pub fn run_in_memory(
     applied: &mut [u8; MAX_RULES],
 ) -> RunCounts
     requires { ⌜ WellFormed (now tables) ⌝ }
-    requires { ⌜ NamesOnly (programIn (now tables)) (namedIn (now order)) × (length (namedIn (now order)) ≤ maxRules) ⌝ }
+    requires { ⌜ MayOrder (programIn (now tables)) (namedIn (now order)) ⌝ }
     requires { ⌜ Held (programIn (now tables)) outset (now marks) (now fired) (now applied) 0 ⌝ }
     ensures { λ r. ⌜ Held (programIn (now (tables .entry))) (runIn (now (tables .entry)) (now (order .entry))) (now (marks .exit)) (now (fired .exit)) (now (applied .exit)) (r .steps) ⌝ }
     ensures { λ r. ⌜ RunCounted (runIn (now (tables .entry)) (now (order .entry))) (r .stages) (r .steps) ⌝ }

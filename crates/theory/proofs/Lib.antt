@@ -17,6 +17,7 @@ pub mod Withheld
 pub mod Stages
 pub mod Chaining
 pub mod Marks
+pub mod Better
 pub mod Stable
 pub mod Cycles
 pub mod Ranks

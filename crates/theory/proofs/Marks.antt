@@ -1,12 +1,12 @@
 -- What the marks of a run say, in the terms of document 000: derived facts, rejected facts, inconsistent clauses.
 use Prim.Native.Nat.{ℕ}
-use mathlib.Core.Path.{_≡_, refl, fun-ext}
+use mathlib.Core.Path.{_≡_, refl, sym, _∙_, fun-ext}
 use mathlib.Core.Bool.{Bool, true, false, not, _&&_, cond}
 use mathlib.Core.List.{List}
 use mathlib.Core.Logic.{_⊎_, inl, inr, ⊎-elim, _↔_}
-use borrow.Author.Tests.{lt-ltb, ltb-true}
+use borrow.Author.Tests.{lt-ltb, ltb-true, eq-eqb, eqb-true}
 use native.Mathlib.Omega.{arith}
-use lib.Dec.{ltb}
+use lib.Dec.{eqb, ltb}
 use Rattle.theory.specs.Rule.{all, clear, mem, Program, Mask, FactSet, count, rule, plain, exception, plainRules}
 use Rattle.theory.specs.Derive.{conclude}
 use Rattle.theory.specs.Run.{Stand, rejected, spares, trial, run, setAside, factMark, ruleMark}
@@ -47,6 +47,23 @@ module _ (P : Program) (on : Mask) where
       (λ p. never (v .closed c (t .known) (and-both (t .in-force) p) (t .premises-in)) (t .conclusion-out))
       (λ x. x)
       (plain-or-exception P c (t .known))
+
+  -- Rule mark 2 is on exactly the rules set aside by a sound stand: no plain rule is, and no rule that was applied.
+  pub mark-aside : (s : Stand) → Sound P on s → (c : ℕ) → eqb (ruleMark P on s c) 2 ≡ setAside P on (s .derived) c
+  unfolding ruleMark
+  mark-aside s v c =
+      two (plain P c) (mem c (s .applied)) (setAside P on (s .derived) c) (on c)
+      (λ p a. not-both P on c p (aside-exception s v c (aside-supported (s .derived) c a)))
+      (λ m a. never (v .concluded c m) (aside-supported (s .derived) c a .conclusion-out))
+    where
+      two : (p a b o : Bool) → (p ≡ true → b ≡ true → ⊥) → (a ≡ true → b ≡ true → ⊥) → eqb (cond p 0 (cond a 1 (cond b 2 (cond o 3 4)))) 2 ≡ b
+      two true a true o n m = absurd (n refl refl)
+      two true a false o n m = refl
+      two false true true o n m = absurd (m refl refl)
+      two false true false o n m = refl
+      two false false true o n m = refl
+      two false false false true n m = refl
+      two false false false false n m = refl
 
   -- a trial closure that spares neither meets a fact
   met-fact : (T : FactSet) (is : List ℕ) (c : ℕ) → (clear T (rule P c .constraints) ≡ true → spares P T is ≡ true → ⊥) → (f : ℕ) × (T f ≡ true) × ((constraintSet P c f ≡ true) ⊎ (rejected P is f ≡ true))
@@ -111,27 +128,13 @@ module _ (P : Program) (on : Mask) where
 
       -- Rule mark 2: inconsistent with the order, for the unions of D and of R.
       pub mark-inconsistent : (X Y : FactSet) → IsUnion D X → IsUnion R Y → (c : ℕ) → (ruleMark P on (run P on order) c ≡ 2) ↔ Inconsistent P on X Y c
-      unfolding ruleMark
       mark-inconsistent X Y x y c = (
-        λ e. rw (same X (run P on order .derived) D x (chaining-derived P on order D R chain), same Y (rejected P (run P on order .applied)) R y (chaining-rejected P on order D R chain)) (aside-inconsistent c .0 (mark-says e)),
-        λ t. aside-mark (aside-inconsistent c .1 (rw (same X (run P on order .derived) D x (chaining-derived P on order D R chain), same Y (rejected P (run P on order .applied)) R y (chaining-rejected P on order D R chain)) at t)),
+        λ e. rw (same X (run P on order .derived) D x (chaining-derived P on order D R chain), same Y (rejected P (run P on order .applied)) R y (chaining-rejected P on order D R chain)) (aside-inconsistent c .0 (sym says ∙ eq-eqb _ 2 e)),
+        λ t. eqb-true _ 2 (says ∙ aside-inconsistent c .1 (rw (same X (run P on order .derived) D x (chaining-derived P on order D R chain), same Y (rejected P (run P on order .applied)) R y (chaining-rejected P on order D R chain)) at t)),
       )
         where
           same : (X Z : FactSet) (S : ℕ → FactSet) → IsUnion S X → IsUnion S Z → X ≡ Z
           same X Z S x z = fun-ext (λ f. both-ways (X f) (Z f) (λ t. z f .1 (x f .0 t)) (λ t. x f .1 (z f .0 t)))
 
-          mark-says : ruleMark P on (run P on order) c ≡ 2 → setAside P on (run P on order .derived) c ≡ true
-          mark-says e = two (plain P c) (mem c (run P on order .applied)) (setAside P on (run P on order .derived) c) (on c) e
-            where
-              two : (p a b o : Bool) → _≡_ {A = ℕ} (cond p 0 (cond a 1 (cond b 2 (cond o 3 4)))) 2 → b ≡ true
-              two true a b o e = absurd (omega arith)
-              two false true b o e = absurd (omega arith)
-              two false false true o e = refl
-              two false false false true e = absurd (omega arith)
-              two false false false false e = absurd (omega arith)
-
-          aside-mark : setAside P on (run P on order .derived) c ≡ true → ruleMark P on (run P on order) c ≡ 2
-          aside-mark e =
-              let t : Supported P on (run P on order .derived) c = aside-supported (run P on order .derived) c e in
-              let x : exception P c ≡ true = aside-exception (run P on order) (run-sound P on order) c t in
-              rw (false-of (plain P c) (λ p. not-both P on c p x), false-of (mem c (run P on order .applied)) (λ m. never (run-sound P on order .concluded c m) (t .conclusion-out)), e) refl
+          says : eqb (ruleMark P on (run P on order) c) 2 ≡ setAside P on (run P on order .derived) c
+          says = mark-aside (run P on order) (run-sound P on order) c

@@ -20,6 +20,7 @@ use Rattle.theory.specs.Stable.{reduct, Stable, stepAt, factsOf, Proof, 
 use Rattle.theory.specs.Keeping.{select, wanted, keptSteps, groundsOf}
 use Rattle.theory.specs.Search.{guessed, fits, hunt, search}
 use Rattle.theory.specs.Layers.{higher, highest, asks, lacking, raise, allZero, ranksOf, isLayered, layeredOrder}
+use Rattle.theory.specs.Better.{asideCount}
 use Rattle.theory.specs.Repeats.{once, withoutRepeats}
 use Rattle.theory.proofs.Bools.{either, never, both-ways}
 use Rattle.theory.proofs.Lists.{all-elem, all-of, any-witness, any-of, mem-cases, mem-here, mem-there, howMany-none}
@@ -216,6 +217,10 @@ module _ {P Q : Program} (a : Alike P Q) where
 
   pub alike-run-ruleMarks : (on : Mask) (order : List ℕ) → ruleMarks P on (run P on order) ≡ ruleMarks Q on (run Q on order)
   alike-run-ruleMarks on order t = alike-ruleMarks on (alike-run on order t) t
+
+  pub alike-asideCount : (on : Mask) (order : List ℕ) → asideCount P on order ≡ asideCount Q on order
+  unfolding asideCount
+  alike-asideCount on order t = howMany (alike-aside on t (alike-run on order t .derived)) (upTo (a .same-count t))
 
   pub alike-marks : (on : Mask) (order : List ℕ) → (factMarks P (run P on order) ≡ factMarks Q (run Q on order)) × (ruleMarks P on (run P on order) ≡ ruleMarks Q on (run Q on order))
   alike-marks on order = (alike-run-factMarks on order, alike-run-ruleMarks on order)

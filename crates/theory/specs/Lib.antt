@@ -9,6 +9,7 @@ pub mod Stable
 pub mod Keeping
 pub mod Repeats
 pub mod Layers
+pub mod Better
 pub mod Examples
 -- What only code and proofs use.
 pub mod Check

@@ -9,7 +9,7 @@ use replay::read::NEXT;
 use report::COUNTS;
 
 // More than the file of cases has. What is past its end is 0, and ends it.
-const ROOM: usize = 1310720;
+const ROOM: usize = 1441792;
 
 // One case after another, up to an empty row. Answers the place of that row.
 fn try_all(bytes: &[u8], counts: &mut [u32; COUNTS]) -> usize {
@@ -42,7 +42,7 @@ fn try_all(bytes: &[u8], counts: &mut [u32; COUNTS]) -> usize {
 
 // The contract gives the length alone, which lending it as a slice needs.
 fn room() -> [u8; ROOM]
-    ensures { λ r. ⌜ 1310720 ≡ length r ⌝ }
+    ensures { λ r. ⌜ 1441792 ≡ length r ⌝ }
 {
     [0; ROOM]
 }

@@ -4,7 +4,7 @@ use replay::read::past;
 use replay::read::row;
 
 // Operations are counted from 1 on.
-const OPERATIONS: usize = 14;
+const OPERATIONS: usize = 15;
 
 // For each, how many of its cases agreed and how many differed.
 pub const COUNTS: usize = 2 * OPERATIONS;

@@ -8,7 +8,10 @@
 //! holds equal to the archive's.
 //!
 //! Files with unread facts come last and are summed up by themselves. An archive that
-//! knows none, such as an older one to compare with, is timed without them.
+//! knows none, such as an older one to compare with, is timed without them. Of two orders the
+//! first is the ascending one and the second the descending one. An archive without a function
+//! for them is timed by this program as `--cfg without_better` builds it, and the rows of the
+//! other operations are then the same.
 
 #[path = "../archive.rs"]
 mod archive;
@@ -37,6 +40,9 @@ std::arch::global_asm!(
     concat!(".skip ", env!("PLACE")),
     ".text"
 );
+
+/// Whether the archive chooses between two orders.
+const HAS_BETTER: bool = cfg!(not(without_better));
 
 /// Rules and facts of the growing files.
 const SIZES: [(usize, usize); 4] = [(64, 32), (128, 64), (256, 128), (512, 255)];
@@ -222,6 +228,29 @@ fn decoys() -> Draft {
     draft
 }
 
+/// Pairs of which the lower fact wants the upper one out, and that one the highest fact. In
+/// ascending order the rules of the upper facts are set aside, and in descending order none.
+fn upper_set_aside((rules, facts): (usize, usize)) -> Draft {
+    let mut draft = Draft::new(facts);
+    let highest = facts - 1;
+    for rule in 0..rules {
+        let fact = rule % (highest - highest % 2);
+        let constraint = if fact.is_multiple_of(2) { fact + 1 } else { highest };
+        draft.rule(fact, &[], &[constraint]);
+    }
+    draft
+}
+
+/// The same, where each fourth rule wants its own conclusion out: of these some are set aside in
+/// descending order too.
+fn some_set_aside(size: (usize, usize)) -> Draft {
+    let mut draft = upper_set_aside(size);
+    for rule in draft.rules.iter_mut().step_by(4) {
+        rule.items[0].1 = rule.conclusion;
+    }
+    draft
+}
+
 /// No stable set, 24 KB: the file above with all facts above the lowest, and rules
 /// of 24 premises in the place of most of its chains.
 fn wide_above_lowest() -> Draft {
@@ -249,6 +278,7 @@ fn with_unread(unread: &[u8], draft: Draft) -> Draft {
 struct Subject {
     file: Vec<u8>,
     order: Vec<u8>,
+    descending: Vec<u8>,
     set: Vec<u8>,
     list: Vec<u8>,
     proof: Vec<u8>,
@@ -285,7 +315,9 @@ impl Subject {
     fn new(draft: &Draft) -> Subject {
         let file = draft.bytes();
         let parsed = RuleFile::parse(&file).expect("the file is accepted");
-        let order = rule_numbers(parsed.exceptions());
+        let exceptions: Vec<usize> = parsed.exceptions().collect();
+        let order = rule_numbers(exceptions.iter().copied());
+        let descending = rule_numbers(exceptions.into_iter().rev());
         let mut buffers = Buffers {
             fact_marks: vec![0; usize::from(draft.facts)],
             rule_marks: vec![0; draft.rules.len()],
@@ -301,7 +333,7 @@ impl Subject {
         let asked = proof.rchunks(STEP_BYTES).next().map_or(0, |step| u32::from(step[1]));
         let constraint_facts =
             reference::accept(&file).expect("the file is accepted").constraint_facts;
-        Subject { file, order, set, list, proof, asked, constraint_facts, buffers }
+        Subject { file, order, descending, set, list, proof, asked, constraint_facts, buffers }
     }
 
     fn has_unread(&self) -> bool {
@@ -334,6 +366,7 @@ impl Subject {
             && self.agrees_on_grounds()
             && self.agrees_on_layers()
             && self.agrees_on_load()
+            && (!HAS_BETTER || self.agrees_on_better())
     }
 
     fn agrees_on_grounds(&self) -> bool {
@@ -355,6 +388,14 @@ impl Subject {
             Err(refusal) => [refusal as u32, 0],
         };
         archive::layered(&self.file, &mut theirs) == expected && ours == theirs
+    }
+
+    fn agrees_on_better(&self) -> bool {
+        let expected = match reference::choose(&self.file, &self.order, &self.descending) {
+            Ok(which) => [0, which as u32],
+            Err(refusal) => [refusal as u32, 0],
+        };
+        archive::better(&self.file, &self.order, &self.descending) == expected
     }
 
     /// How many facts and rules the file has, and so the load.
@@ -399,6 +440,7 @@ impl Subject {
                 let [facts, rules] = black_box(self.counts());
                 archive::load(black_box(START), facts, rules, &mut buffers.load)[1]
             }
+            Operation::Better => archive::better(file, &self.order, &self.descending)[1],
         }
     }
 
@@ -418,6 +460,7 @@ impl Subject {
                 let [facts, rules] = black_box(self.counts());
                 reference::load(black_box(START), facts, rules, load).is_ok()
             }
+            Operation::Better => reference::choose(file, &self.order, &self.descending).is_ok(),
         }
     }
 }
@@ -452,10 +495,11 @@ enum Operation {
     Grounds,
     Layered,
     Load,
+    Better,
 }
 
 /// The operations on a file. The time of a load depends on its counts alone.
-const ON_FILES: [Operation; 7] = [
+const ALL_ON_FILES: [Operation; 8] = [
     Operation::Accept,
     Operation::Run,
     Operation::Judge,
@@ -463,8 +507,14 @@ const ON_FILES: [Operation; 7] = [
     Operation::Search,
     Operation::Grounds,
     Operation::Layered,
+    Operation::Better,
 ];
-const COUNT: usize = ON_FILES.len() + 1;
+const COUNT: usize = ALL_ON_FILES.len() + 1;
+
+/// Those of them that the archive has.
+fn on_files() -> &'static [Operation] {
+    if HAS_BETTER { &ALL_ON_FILES } else { &ALL_ON_FILES[..ALL_ON_FILES.len() - 1] }
+}
 
 /// Median seconds of one call.
 #[derive(Clone, Copy)]
@@ -584,7 +634,7 @@ impl Table {
 
     /// The rows of files of one size; the search is not timed where it refuses them.
     fn rows(&mut self, file: &str, subjects: &[Subject]) {
-        for operation in ON_FILES {
+        for &operation in on_files() {
             let searches = matches!(operation, Operation::Search);
             if !searches || subjects[0].constraint_facts <= MOST_GUESSED {
                 self.single(file, subjects, operation);
@@ -621,13 +671,13 @@ impl Table {
     }
 
     fn summary(&mut self) {
-        let all = ON_FILES.into_iter().chain([Operation::Load]);
+        let all = on_files().iter().copied().chain([Operation::Load]);
         for operation in all.clone() {
             let sum = mean_and_worst(&self.ratios[operation as usize]);
             let name = format!("{operation:?}").to_lowercase();
             self.line(&format!("{name:<8} archive/reference: {sum}"));
         }
-        for operation in ON_FILES {
+        for &operation in on_files() {
             let ratios = &self.ratios_unread[operation as usize];
             if !ratios.is_empty() {
                 let sum = mean_and_worst(ratios);
@@ -674,6 +724,11 @@ const FAMILIES: [Family; 8] = [
 
 /// Layered files that grow; of those above only the chains are.
 const LAYERED_FAMILIES: [Family; 2] = [("load in layers", load_in_layers), ("ranks", ranks)];
+
+/// Files that grow for the choice between two orders: the second wins, and both set some aside.
+/// In the chains above the first sets nothing aside, so that it alone need be run.
+const RIVAL_FAMILIES: [Family; 2] =
+    [("upper set aside", upper_set_aside), ("some set aside", some_set_aside)];
 
 /// Test loads that grow.
 const LOADS: Family = ("load", |(rules, facts)| loads::draft(START, facts, rules));
@@ -755,10 +810,15 @@ fn measure(without_unread: bool) -> Result<Table, String> {
     };
     table.head();
     for family in FAMILIES {
-        table.family(family, &ON_FILES)?;
+        table.family(family, on_files())?;
     }
     for family in LAYERED_FAMILIES {
         table.family(family, &[Operation::Layered])?;
+    }
+    if HAS_BETTER {
+        for family in RIVAL_FAMILIES {
+            table.family(family, &[Operation::Better])?;
+        }
     }
     table.family(LOADS, &[Operation::Load])?;
     for (name, file) in SINGLES {

@@ -31,7 +31,10 @@ mod random;
 mod shrink;
 
 use cases::{Case, LENGTH_WRAPS, Load, Met, Operation, Reply, Tally, random_case};
-use directed::{all_operations, directed_cases, examples, layered_examples};
+use directed::{
+    all_operations, all_orders, better_cases, better_of_pairs, directed_cases, examples,
+    layered_examples, rival_examples,
+};
 use draft::{Draft, MOST_OWN_ITEMS, stairs};
 use random::Random;
 use reference::{LOAD_STEP, RULE_NUMBER_BYTES, accept, kind, load_bytes};
@@ -101,11 +104,33 @@ impl Fenced {
     }
 }
 
+/// Where the second row can begin in the first, so that both stand in one: as far to the front as
+/// their bytes allow, and right behind it where no end of the first begins the second.
+fn overlap(first: &[u8], second: &[u8]) -> usize {
+    let fits = |&start: &usize| first[start..].iter().zip(second).all(|(one, other)| one == other);
+    (0..first.len()).find(fits).unwrap_or(first.len())
+}
+
+/// What the archive says of two orders in buffers of their own. In one buffer, in which they
+/// overlap where they can, it must say the same: equal orders are then the very same bytes.
+fn better(file: &[u8], first: &[u8], second: &[u8]) -> Result<Vec<u32>, String> {
+    let start = overlap(first, second);
+    let behind = second.get(first.len() - start..).unwrap_or_default();
+    let both = Fenced::input(&[first, behind].concat());
+    let row = both.content();
+    let apart = archive::better(file, first, second);
+    let together = archive::better(file, &row[..first.len()], &row[start..start + second.len()]);
+    if together != apart {
+        return Err(format!("reply    {apart:?}\nin one buffer {together:?}\n"));
+    }
+    Ok(apart.to_vec())
+}
+
 /// The archive's reply, or what it did outside the bytes lent to it.
 fn call_archive(case: &Case) -> Result<Reply, String> {
-    let originals = [&case.file, &case.rules, &case.set, &case.proof];
+    let originals = [&case.file, &case.rules, &case.second, &case.set, &case.proof];
     let inputs = originals.map(|input| Fenced::input(input));
-    let [file, rules, set, proof] = inputs.each_ref().map(Fenced::content);
+    let [file, rules, second, set, proof] = inputs.each_ref().map(Fenced::content);
     let lend = |&length: &usize| Fenced::new((0..length).map(pattern), LENT_FENCE);
     let mut lent: Vec<Fenced> = case.lent.iter().map(lend).collect();
     let mut buffers: Vec<&mut [u8]> = lent.iter_mut().map(Fenced::content_mut).collect();
@@ -128,6 +153,7 @@ fn call_archive(case: &Case) -> Result<Reply, String> {
             let Load { start, facts, rules } = case.load;
             archive::load(start, facts, rules, out).to_vec()
         }
+        (Operation::Better, _) => better(file, rules, second)?,
         _ => unreachable!("a case lends what its operation takes"),
     };
     if lent.iter().chain(&inputs).any(|fenced| !fenced.is_intact()) {
@@ -137,7 +163,7 @@ fn call_archive(case: &Case) -> Result<Reply, String> {
         return Err("the archive changed an input".to_string());
     }
     let buffers = lent.iter().map(|buffer| buffer.content().to_vec()).collect();
-    Ok(Reply { numbers, buffers })
+    Ok(Reply { handed_back: case.handed_back(&numbers), numbers, buffers })
 }
 
 /// What the reference says, where the archive says the same.
@@ -282,13 +308,15 @@ fn loads_in_use() -> Vec<Case> {
     cases
 }
 
-/// Every prefix and every change of one byte of the order, the list or the proof that
-/// fits a file.
+/// Every prefix and every change of one byte of the order, of the second of two orders, of the
+/// list or of the proof that fits a file.
 fn neighbours_beside(file: &[u8]) -> Vec<Case> {
     let mut cases = Vec::new();
     for call in all_operations(file) {
         let rows = neighbouring_rows(&call.rules).into_iter();
         cases.extend(rows.map(|rules| Case { rules, ..call.clone() }));
+        let rows = neighbouring_rows(&call.second).into_iter();
+        cases.extend(rows.map(|second| Case { second, ..call.clone() }));
         let rows = neighbouring_rows(&call.proof).into_iter();
         cases.extend(rows.map(|proof| Case { proof, ..call.clone() }));
     }
@@ -314,17 +342,34 @@ fn with_unread(unread: &[u8], file: &[u8]) -> Vec<u8> {
     [&file[..2], &items.collect::<Vec<_>>(), &file[2..]].concat()
 }
 
+/// The file with every choice of unread facts.
+fn choices_of_unread(file: &[u8]) -> Vec<Vec<u8>> {
+    let with_choice = |chosen: u32| {
+        let unread: Vec<u8> = (0..file[1]).filter(|fact| chosen >> fact & 1 == 1).collect();
+        with_unread(&unread, file)
+    };
+    (1..1 << file[1]).map(with_choice).collect()
+}
+
 /// Every choice of unread facts of small files.
 fn all_unread() -> Vec<Case> {
     let small = examples().into_iter().chain(layered_examples());
     let files = small.map(|draft| draft.bytes()).chain([mixed_file()]);
+    let chosen = files.flat_map(|file| choices_of_unread(&file));
+    chosen.flat_map(|file| all_operations(&file)).collect()
+}
+
+/// Every two orders of small files, and every order beside the ascending one where some of
+/// their facts are unread, and of a file with more orders.
+fn all_pairs_of_orders() -> Vec<Case> {
     let mut cases = Vec::new();
-    for file in files {
-        for chosen in 1..1u32 << file[1] {
-            let unread: Vec<u8> = (0..file[1]).filter(|fact| chosen >> fact & 1 == 1).collect();
-            cases.extend(all_operations(&with_unread(&unread, &file)));
-        }
+    for draft in rival_examples() {
+        let file = draft.bytes();
+        cases.extend(better_of_pairs(&file, &all_orders(&file)));
+        let read = Draft { unread: vec![], ..draft }.bytes();
+        cases.extend(choices_of_unread(&read).iter().flat_map(|file| better_cases(file)));
     }
+    cases.extend(better_cases(&mixed_file()));
     cases
 }
 
@@ -411,6 +456,7 @@ fn large_files() -> Vec<Vec<u8>> {
         large::tangled(512),
         large::ladder(512),
         large::words(),
+        large::rivals(512),
     ];
     let deep = [1, MOST_OWN_ITEMS - 1, 60].map(|premises| stairs(255, premises));
     let layers =
@@ -443,6 +489,7 @@ fn purposeful_cases() -> Vec<Case> {
     cases.extend(neighbours(&mixed_unread));
     cases.extend(neighbours_beside(&mixed_unread));
     cases.extend(all_unread());
+    cases.extend(all_pairs_of_orders());
     cases.extend(unread_at_every_place(&mixed_file()));
     cases.extend(unread_at_every_place(&mixed_unread));
     let changed = layered_examples().into_iter().flat_map(|draft| with_another_item(&draft));
@@ -555,6 +602,9 @@ fn report_difference(number: usize, case: Case) {
         Operation::Load => {
             let Load { start, facts, rules } = case.load;
             println!("start    {start}\nfacts    {facts}\nrules    {rules}");
+        }
+        Operation::Better => {
+            println!("first    {}\nsecond   {}", hex(&case.rules), hex(&case.second));
         }
         _ => {}
     }

@@ -334,6 +334,7 @@ fn large_files() -> Vec<(&'static str, Vec<u8>)> {
         ("tangled", large::tangled(512).bytes()),
         ("a ladder", large::ladder(512).bytes()),
         ("a chain across words", large::words().bytes()),
+        ("511 rules set aside", large::rivals(512).bytes()),
         ("stairs of 24 items", stairs(255, MOST_OWN_ITEMS - 1).bytes()),
     ]
 }

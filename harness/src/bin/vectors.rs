@@ -14,13 +14,17 @@
 //!   the file is that of the case before and its row is empty, else 0; the byte
 //!   that every lent buffer holds throughout before the call; the asked fact, its
 //!   high half and its low half; the lengths of the four buffers; and the reply in
-//!   the order of the C structure, without the zeros at its end;
+//!   the order of the C structure, without the zeros at its end. Of two orders the reply goes
+//!   on with the refusal number that the second operation gives, and the length of the order
+//!   that is handed back;
 //! - its name, or nothing;
 //! - the file; of a load its start, facts and rules, each four bytes, high byte first;
 //! - two more inputs, in the order of the operation's parameters;
 //! - what is expected of the four buffers: the bytes up to the last that differs
 //!   from the byte before the call. A panel's text and a load's file are in the first,
-//!   and an order by ranks in the last, where the search has its order.
+//!   and an order by ranks in the last, where the search has its order. An order that is
+//!   handed back is expected there too: the reader copies it to the front of that buffer,
+//!   which has three bytes more.
 //!
 //! After the last case stands an empty row, then the name of each operation.
 
@@ -54,9 +58,9 @@ use random::Random;
 use std::process::ExitCode;
 
 const SEED: u64 = 1;
-const RANDOM_VECTORS: usize = 2_080;
+const RANDOM_VECTORS: usize = 2_320;
 /// The reader has some more room for the file, and this for each buffer.
-const MOST_BYTES: usize = 1_290_000;
+const MOST_BYTES: usize = 1_421_000;
 const MOST_LENT: usize = 16_384;
 /// What the buffers of cases without a name hold.
 const UNTOUCHED: u8 = 0xA5;
@@ -65,6 +69,8 @@ const LARGE: usize = 1_000;
 const TOO_LARGE: usize = 8_000;
 const MOST_LARGE: usize = 40;
 const BUFFERS: usize = 4;
+/// The buffer of an order that is handed back has so many bytes more.
+const MORE_THAN_HANDED_BACK: usize = 3;
 
 fn put_row(out: &mut Vec<u8>, row: &[u8]) {
     let length = u16::try_from(row.len()).expect("a row's length fits in two bytes");
@@ -99,12 +105,14 @@ fn inputs(case: &Case) -> [&[u8]; 2] {
         Operation::Check => [&case.set, &case.proof],
         Operation::AskSet => [&case.set, &[]],
         Operation::AskRow => [&case.proof, &[]],
+        Operation::Better => [&case.rules, &case.second],
     }
 }
 
 /// What stands in the places of the four buffers, of one thing for each buffer lent.
 fn in_places<T>(operation: Operation, lent: &[T]) -> [Option<&T>; BUFFERS] {
-    let first = if operation == Operation::Layered { BUFFERS - 1 } else { 0 };
+    let in_the_last = matches!(operation, Operation::Layered | Operation::Better);
+    let first = if in_the_last { BUFFERS - 1 } else { 0 };
     std::array::from_fn(|place| place.checked_sub(first).and_then(|buffer| lent.get(buffer)))
 }
 
@@ -114,20 +122,33 @@ fn without_end<T: PartialEq>(row: &[T], value: T) -> &[T] {
     &row[..kept]
 }
 
+/// The reply with what is handed back in numbers and in a buffer, as the vectors have it. The
+/// refusal of the C structure is what the second operation gives.
+fn in_a_buffer(operation: Operation, fill: u8, expected: &Reply) -> Reply {
+    let Reply { mut numbers, handed_back, mut buffers } = expected.clone();
+    if operation == Operation::Better {
+        numbers.extend([numbers[0], handed_back.len() as u32]);
+        buffers.push([&handed_back[..], &[fill; MORE_THAN_HANDED_BACK]].concat());
+    }
+    Reply { numbers, handed_back, buffers }
+}
+
 /// The rows of a case; there is no file where it is that of the case before.
 fn vector(name: &str, case: &Case, fill: u8, expected: &Reply, file: Option<&[u8]>) -> Vec<u8> {
-    assert!(case.lent.iter().all(|&length| length <= MOST_LENT), "{name}: too much is lent");
+    let expected = in_a_buffer(case.operation, fill, expected);
+    let is_too_long = |buffer: &Vec<u8>| buffer.len() > MOST_LENT;
+    assert!(!expected.buffers.iter().any(is_too_long), "{name}: too much is lent");
     let mut numbers = vec![case.operation as u32 + 1, u32::from(file.is_none()), u32::from(fill)];
     numbers.extend([case.asked >> 16, case.asked & 0xFFFF]);
-    let lengths = in_places(case.operation, &case.lent);
-    numbers.extend(lengths.map(|length| length.map_or(0, |&length| length as u32)));
+    let buffers = in_places(case.operation, &expected.buffers);
+    numbers.extend(buffers.map(|buffer| buffer.map_or(0, |buffer| buffer.len() as u32)));
     numbers.extend(without_end(&expected.numbers, 0));
     let mut out = Vec::new();
     put_numbers(&mut out, &numbers);
     put_row(&mut out, name.as_bytes());
     put_row(&mut out, file.unwrap_or_default());
     inputs(case).iter().for_each(|input| put_row(&mut out, input));
-    for buffer in in_places(case.operation, &expected.buffers) {
+    for buffer in buffers {
         put_row(&mut out, without_end(buffer.map_or(&[][..], Vec::as_slice), fill));
     }
     out

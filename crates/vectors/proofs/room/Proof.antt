@@ -6,7 +6,7 @@ use Rattle.vectors.proofs.room.Statement.{statement}
 use Rattle.vectors.proofs.room.Tie as tie
 
 returns : tie.Need-returns
-returns c = sym (length-replicate {A = ℕ} 1310720 0)
+returns c = sym (length-replicate {A = ℕ} 1441792 0)
 
 pub room-spec : {M : Type 1} → statement M
 room-spec = tie.close (tie.spec returns)

@@ -35,7 +35,7 @@ fewer c = (omega (arith, c .keep-grounds .ensures .1 .0, run-length (c .before .
 run-in-memory-requires : tie.Need-run-in-memory-requires
 run-in-memory-requires c κs =
     let p = c .before .before .before .before .before .before .before .pre in
-    (p .0, ((p .1 .names-only, p .1 .names-few), outset-held _))
+    (p .0, (p .1 .order-fits, outset-held _))
 
 is-derived-requires : tie.Need-is-derived-requires
 is-derived-requires c κs = search needs

@@ -2,13 +2,14 @@
 use Prim.Native.Nat.{_-_}
 use mathlib.Core.Logic.{⊎-elim}
 use native.Mathlib.Omega.{arith}
+use Rattle.theory.proofs.ListWalks.{Counting, none-counted, one-counted, not-counted, all-counted}
+use Rattle.items.specs.Item.{has}
 use Rattle.marking.proofs.MarksPainted.{marked-at, unmarked-at}
-use Rattle.marking.proofs.RulesMarked.{Counting, none-counted, one-counted, not-counted, all-counted}
 use Rattle.marking.proofs.marks.count_marked.Statement.{statement}
 use Rattle.marking.proofs.marks.count_marked.Tie as tie
 
 abbrev Inv-loop : tie.InvT-loop
-Inv-loop marks facts n₀ f₀ n f = Counting marks facts n f
+Inv-loop marks facts n₀ f₀ n f = Counting (has marks) facts n f
 
 abbrev μ-loop : tie.MeasureT-loop
 μ-loop marks facts n₀ f₀ n f = facts - f
@@ -31,12 +32,12 @@ loop-less c = omega arith
 loop-again : tie.Need-loop-again Inv-loop μ-loop
 loop-again c =
     ⊎-elim
-    (λ t. rw (t .1) (one-counted _ _ _ _ (c .before .before .before .loop .inv) (c .before .before .loop-test .taken) (marked-at _ _ (t .0 .taken))))
-    (λ t. rw (t .1) (not-counted _ _ _ _ (c .before .before .before .loop .inv) (c .before .before .loop-test .taken) (unmarked-at _ _ (t .0 .left))))
+    (λ t. rw (t .1) (one-counted (c .before .before .before .loop .inv) (c .before .before .loop-test .taken) (marked-at _ _ (t .0 .taken))))
+    (λ t. rw (t .1) (not-counted (c .before .before .before .loop .inv) (c .before .before .loop-test .taken) (unmarked-at _ _ (t .0 .left))))
     (c .if1 .came)
 
 returns : tie.Need-returns Inv-loop μ-loop
-returns c = all-counted _ _ _ _ (c .before .loop .inv) (c .loop-test .left)
+returns c = all-counted (c .before .loop .inv) (c .loop-test .left)
 
 pub count-marked-spec : {M : Type 1} → statement M
 count-marked-spec =

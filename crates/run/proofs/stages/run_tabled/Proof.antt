@@ -13,7 +13,7 @@ use Rattle.run.proofs.stages.run_tabled.Tie as tie
 run-in-memory-requires : tie.Need-run-in-memory-requires
 run-in-memory-requires c κs =
     let p = c .before .before .before .before .before .before .before .pre in
-    (p .0, ((p .1 .names-only, p .1 .names-few), outset-held _))
+    (p .0, (p .1 .order-fits, outset-held _))
 
 write-results-requires : tie.Need-write-results-requires
 write-results-requires c κs =

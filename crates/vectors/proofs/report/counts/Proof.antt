@@ -5,10 +5,10 @@ use Rattle.vectors.proofs.report.counts.Statement.{statement}
 use Rattle.vectors.proofs.report.counts.Tie as tie
 
 abbrev Inv-loop : tie.InvT-loop
-Inv-loop bytes end counts at₀ k₀ at k = k ≤ 14
+Inv-loop bytes end counts at₀ k₀ at k = k ≤ 15
 
 abbrev μ-loop : tie.MeasureT-loop
-μ-loop bytes end counts at₀ k₀ at k = 14 - k
+μ-loop bytes end counts at₀ k₀ at k = 15 - k
 
 past-requires : tie.Need-past-requires Inv-loop μ-loop
 past-requires c κs = search needs

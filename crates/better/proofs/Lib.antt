@@ -1,0 +1,2 @@
+pub mod BetterAsked
+pub mod Chosen
