@@ -545,68 +545,89 @@ static void callers_by_layers(void)
     by_layers(WAITING, sizeof WAITING, "facts that wait for each other");
 }
 
+/* Two orders of a file, and the reply that is expected: the refusal, and which of the two. */
+typedef struct {
+    const uint8_t *file;
+    size_t file_len;
+    const uint8_t *first;
+    size_t first_len;
+    const uint8_t *second;
+    size_t second_len;
+    uint32_t refusal, which;
+    const char *name;
+} order_pair;
+
+static void choose_each(const order_pair *pairs, size_t count)
+{
+    for (const order_pair *pair = pairs; pair < pairs + count; pair++) {
+        retention_choice reply = retention_better(pair->file, pair->file_len, pair->first,
+                                                  pair->first_len, pair->second, pair->second_len);
+        expect(reply.refusal == pair->refusal && reply.which == pair->which, pair->name);
+    }
+}
+
 /* C beside B: 4 facts; 0<!1; 1<!2; 3<!3. Rule 2 is set aside under every order. */
 static const uint8_t C_BESIDE_B[] = {0x10, 4, 1, 0, 3, 1, 1, 1, 3, 2, 1, 3, 3, 3, 0x1F, 0, 3};
 
 /* Under 0 1 rule 1 of C is set aside, under 1 0 none is. */
 static void better_orders(void)
 {
-    expect(chosen(retention_better(C, sizeof C, BYTES(5, 0, 0, 5, 0, 1),
-                                   BYTES(5, 0, 1, 5, 0, 0)), 2),
-           "C: of 0 1 and 1 0 the second");
-    expect(chosen(retention_better(C, sizeof C, BYTES(5, 0, 1, 5, 0, 0),
-                                   BYTES(5, 0, 0, 5, 0, 1)), 1),
-           "C: of 1 0 and 0 1 the first");
-    expect(chosen(retention_better(C, sizeof C, BYTES(5, 0, 0, 5, 0, 1),
-                                   BYTES(5, 0, 0, 5, 0, 1)), 1),
-           "C: of 0 1 twice the first");
-    expect(chosen(retention_better(A, sizeof A, BYTES(5, 0, 2, 5, 0, 1),
-                                   BYTES(5, 0, 1, 5, 0, 2)), 1),
-           "A: of 2 1 and 1 2, which set nothing aside, the first");
-    expect(chosen(retention_better(C_BESIDE_B, sizeof C_BESIDE_B,
-                                   BYTES(5, 0, 0, 5, 0, 1, 5, 0, 2),
-                                   BYTES(5, 0, 2, 5, 0, 1, 5, 0, 0)), 2),
-           "C beside B: of two set aside and one the second");
-    expect(chosen(retention_better(C_BESIDE_B, sizeof C_BESIDE_B,
-                                   BYTES(5, 0, 2, 5, 0, 1, 5, 0, 0),
-                                   BYTES(5, 0, 0, 5, 0, 1, 5, 0, 2)), 1),
-           "C beside B: of one set aside and two the first");
-    expect(chosen(retention_better(C_BESIDE_B, sizeof C_BESIDE_B,
-                                   BYTES(5, 0, 0, 5, 0, 1, 5, 0, 2),
-                                   BYTES(5, 0, 2, 5, 0, 0, 5, 0, 1)), 1),
-           "C beside B: of two set aside and two the first");
-    expect(chosen(retention_better(E, sizeof E, NOTHING, NOTHING), 1),
-           "E: of two empty orders the first");
-    expect(chosen(retention_better(F, sizeof F, NOTHING, NOTHING), 1),
-           "F: of two empty orders the first");
+    const order_pair pairs[] = {
+        {C, sizeof C, BYTES(5, 0, 0, 5, 0, 1), BYTES(5, 0, 1, 5, 0, 0), 0, 2,
+         "C: of 0 1 and 1 0 the second"},
+        {C, sizeof C, BYTES(5, 0, 1, 5, 0, 0), BYTES(5, 0, 0, 5, 0, 1), 0, 1,
+         "C: of 1 0 and 0 1 the first"},
+        {C, sizeof C, BYTES(5, 0, 0, 5, 0, 1), BYTES(5, 0, 0, 5, 0, 1), 0, 1,
+         "C: of 0 1 twice the first"},
+        {A, sizeof A, BYTES(5, 0, 2, 5, 0, 1), BYTES(5, 0, 1, 5, 0, 2), 0, 1,
+         "A: of 2 1 and 1 2, which set nothing aside, the first"},
+        {C_BESIDE_B, sizeof C_BESIDE_B, BYTES(5, 0, 0, 5, 0, 1, 5, 0, 2),
+         BYTES(5, 0, 2, 5, 0, 1, 5, 0, 0), 0, 2,
+         "C beside B: of two set aside and one the second"},
+        {C_BESIDE_B, sizeof C_BESIDE_B, BYTES(5, 0, 2, 5, 0, 1, 5, 0, 0),
+         BYTES(5, 0, 0, 5, 0, 1, 5, 0, 2), 0, 1,
+         "C beside B: of one set aside and two the first"},
+        {C_BESIDE_B, sizeof C_BESIDE_B, BYTES(5, 0, 0, 5, 0, 1, 5, 0, 2),
+         BYTES(5, 0, 2, 5, 0, 0, 5, 0, 1), 0, 1,
+         "C beside B: of two set aside and two the first"},
+        {E, sizeof E, NOTHING, NOTHING, 0, 1,
+         "E: of two empty orders the first"},
+        {F, sizeof F, NOTHING, NOTHING, 0, 1,
+         "F: of two empty orders the first"},
+    };
+    choose_each(pairs, COUNT(pairs));
 }
 
 /* The first order's questions come before the second's, and the file's before both. */
 static void refused_orders(void)
 {
-    expect(unchosen(retention_better(A, sizeof A, BYTES(5, 0, 1, 5, 0),
-                                     BYTES(5, 0, 1, 5, 0, 2)), 11), "A: the first is cut, 11");
-    expect(unchosen(retention_better(A, sizeof A, BYTES(5, 0, 0), BYTES(5, 0, 1, 5, 0, 2)), 12),
-           "A: the first is 0, 12");
-    expect(unchosen(retention_better(A, sizeof A, BYTES(5, 0, 1, 5, 0, 1),
-                                     BYTES(5, 0, 1, 5, 0, 2)), 13), "A: the first is 1 1, 13");
-    expect(unchosen(retention_better(A, sizeof A, BYTES(5, 0, 1), BYTES(5, 0, 1, 5, 0, 2)), 14),
-           "A: the first is 1, 14");
-    expect(unchosen(retention_better(A, sizeof A, BYTES(5, 0, 1, 5, 0, 2),
-                                     BYTES(5, 0, 1, 5, 0)), 11), "A: the second is cut, 11");
-    expect(unchosen(retention_better(A, sizeof A, BYTES(5, 0, 1, 5, 0, 2), BYTES(5, 0, 0)), 12),
-           "A: the second is 0, 12");
-    expect(unchosen(retention_better(A, sizeof A, BYTES(5, 0, 1, 5, 0, 2),
-                                     BYTES(5, 0, 1, 5, 0, 1)), 13), "A: the second is 1 1, 13");
-    expect(unchosen(retention_better(A, sizeof A, BYTES(5, 0, 1, 5, 0, 2), BYTES(5, 0, 1)), 14),
-           "A: the second is 1, 14");
-    expect(unchosen(retention_better(A, sizeof A, BYTES(5, 0, 1), BYTES(5)), 14),
-           "A: the first is 1 and the second cut, 14");
-    expect(unchosen(retention_better(A, sizeof A, BYTES(5), BYTES(5, 0, 1)), 11),
-           "A: the first is cut and the second 1, 11");
-    expect(unchosen(retention_better(A, sizeof A - 3, BYTES(5), BYTES(5, 0, 1)), 3),
-           "A without its end: 3, whatever the orders are");
-    expect(unchosen(retention_better(NOTHING, NOTHING, NOTHING), 2), "no file, no orders: 2");
+    const order_pair pairs[] = {
+        {A, sizeof A, BYTES(5, 0, 1, 5, 0), BYTES(5, 0, 1, 5, 0, 2), 11, 0,
+         "A: the first is cut, 11"},
+        {A, sizeof A, BYTES(5, 0, 0), BYTES(5, 0, 1, 5, 0, 2), 12, 0,
+         "A: the first is 0, 12"},
+        {A, sizeof A, BYTES(5, 0, 1, 5, 0, 1), BYTES(5, 0, 1, 5, 0, 2), 13, 0,
+         "A: the first is 1 1, 13"},
+        {A, sizeof A, BYTES(5, 0, 1), BYTES(5, 0, 1, 5, 0, 2), 14, 0,
+         "A: the first is 1, 14"},
+        {A, sizeof A, BYTES(5, 0, 1, 5, 0, 2), BYTES(5, 0, 1, 5, 0), 11, 0,
+         "A: the second is cut, 11"},
+        {A, sizeof A, BYTES(5, 0, 1, 5, 0, 2), BYTES(5, 0, 0), 12, 0,
+         "A: the second is 0, 12"},
+        {A, sizeof A, BYTES(5, 0, 1, 5, 0, 2), BYTES(5, 0, 1, 5, 0, 1), 13, 0,
+         "A: the second is 1 1, 13"},
+        {A, sizeof A, BYTES(5, 0, 1, 5, 0, 2), BYTES(5, 0, 1), 14, 0,
+         "A: the second is 1, 14"},
+        {A, sizeof A, BYTES(5, 0, 1), BYTES(5), 14, 0,
+         "A: the first is 1 and the second cut, 14"},
+        {A, sizeof A, BYTES(5), BYTES(5, 0, 1), 11, 0,
+         "A: the first is cut and the second 1, 11"},
+        {A, sizeof A - 3, BYTES(5), BYTES(5, 0, 1), 3, 0,
+         "A without its end: 3, whatever the orders are"},
+        {NOTHING, NOTHING, NOTHING, 2, 0,
+         "no file, no orders: 2"},
+    };
+    choose_each(pairs, COUNT(pairs));
 }
 
 /* The orders are read and not written, so they may share their bytes. */
@@ -845,16 +866,16 @@ static const uint8_t C_AND_WITHHELD[] = {0x10, 5, 7, 4, 1, 0, 3, 1, 1, 1, 3,
 /* A withheld rule is named by both orders, and set aside under neither. */
 static void better_orders_unread(void)
 {
-    expect(chosen(retention_better(C_UNREAD, sizeof C_UNREAD, BYTES(5, 0, 0, 5, 0, 1),
-                                   BYTES(5, 0, 1, 5, 0, 0)), 1),
-           "C, 2 unread: of 0 1 and 1 0 the first");
-    expect(unchosen(retention_better(C_UNREAD, sizeof C_UNREAD, BYTES(5, 0, 1, 5, 0, 0),
-                                     BYTES(5, 0, 0)), 14),
-           "C, 2 unread: the second without rule 1, 14");
-    expect(chosen(retention_better(C_AND_WITHHELD, sizeof C_AND_WITHHELD,
-                                   BYTES(5, 0, 0, 5, 0, 1, 5, 0, 2),
-                                   BYTES(5, 0, 1, 5, 0, 0, 5, 0, 2)), 2),
-           "C and a withheld rule: of one set aside and none the second");
+    const order_pair pairs[] = {
+        {C_UNREAD, sizeof C_UNREAD, BYTES(5, 0, 0, 5, 0, 1), BYTES(5, 0, 1, 5, 0, 0), 0, 1,
+         "C, 2 unread: of 0 1 and 1 0 the first"},
+        {C_UNREAD, sizeof C_UNREAD, BYTES(5, 0, 1, 5, 0, 0), BYTES(5, 0, 0), 14, 0,
+         "C, 2 unread: the second without rule 1, 14"},
+        {C_AND_WITHHELD, sizeof C_AND_WITHHELD, BYTES(5, 0, 0, 5, 0, 1, 5, 0, 2),
+         BYTES(5, 0, 1, 5, 0, 0, 5, 0, 2), 0, 2,
+         "C and a withheld rule: of one set aside and none the second"},
+    };
+    choose_each(pairs, COUNT(pairs));
 }
 
 /* All rules withheld, none, and one of the 17 constraint facts in withheld rules alone. */

@@ -250,55 +250,41 @@ fn of_too_many_rules_and_too_long_a_rule_the_first_is_refused() {
     assert_eq!(rules_with(512), Refusal::TooManyRules);
 }
 
+/// Every operation that asks the file's questions refuses the file, and leaves its buffers.
+fn refused_by_every_operation(file: &[u8], no: Refusal) {
+    let mut lent = [vec![9; 8], vec![9; 8], vec![9; 28], vec![9; 8]];
+    let [fact_marks, rule_marks, steps, order] = &mut lent;
+    assert_eq!(accept(file), Err(no));
+    let ran = run(file, &[], Lent { fact_marks, rule_marks, steps });
+    assert_eq!(ran, Err(no));
+    let found = search(file, Lent { fact_marks, rule_marks, steps }, order);
+    assert_eq!(found, Err(no));
+    let kept = grounds(file, &[], 0, Lent { fact_marks, rule_marks, steps });
+    assert_eq!(kept, Err(no));
+    assert_eq!(layered(file, order), Err(no));
+    assert!(lent.iter().flatten().all(|&byte| byte == 9));
+    assert_eq!(judge(file, &[], &[0; 3]), Err(no));
+    assert_eq!(check(file, &[0; 3], 0, &[]), Err(no));
+    assert_eq!(ask_order(file, &[]), Err(no));
+    assert_eq!(ask_list(file, &[]), Err(no));
+    assert_eq!(ask_set(file, &[0; 3]), Err(no));
+    assert_eq!(ask_row(file, 0, &[]), Err(no));
+    assert_eq!(choose(file, &[], &[]), Err(no));
+    let told = format!("E {}\n", no as u32);
+    assert_eq!(panel(file), told);
+    assert_eq!(grounds_text(file, 0), told);
+}
+
 #[test]
 fn every_operation_asks_the_cap_and_leaves_its_buffers() {
     let file = file_with_items(&[&[PREMISE; 25]], &[0x1F, 0, 1]);
-    let no = Refusal::RuleTooLong;
-    let mut lent = [vec![9; 8], vec![9; 8], vec![9; 28], vec![9; 8]];
-    let [fact_marks, rule_marks, steps, order] = &mut lent;
-    let ran = run(&file, &[], Lent { fact_marks, rule_marks, steps });
-    assert_eq!(ran, Err(no));
-    let found = search(&file, Lent { fact_marks, rule_marks, steps }, order);
-    assert_eq!(found, Err(no));
-    let kept = grounds(&file, &[], 0, Lent { fact_marks, rule_marks, steps });
-    assert_eq!(kept, Err(no));
-    assert_eq!(layered(&file, order), Err(no));
-    assert!(lent.iter().flatten().all(|&byte| byte == 9));
-    assert_eq!(judge(&file, &[], &[0; 3]), Err(no));
-    assert_eq!(check(&file, &[0; 3], 0, &[]), Err(no));
-    assert_eq!(ask_order(&file, &[]), Err(no));
-    assert_eq!(ask_list(&file, &[]), Err(no));
-    assert_eq!(ask_set(&file, &[0; 3]), Err(no));
-    assert_eq!(ask_row(&file, 0, &[]), Err(no));
-    assert_eq!(choose(&file, &[], &[]), Err(no));
-    assert_eq!(panel(&file), "E 51\n");
-    assert_eq!(grounds_text(&file, 0), "E 51\n");
+    refused_by_every_operation(&file, Refusal::RuleTooLong);
 }
 
 #[test]
 fn every_operation_asks_where_an_unread_fact_stands_and_leaves_its_buffers() {
     let file = file_with_items(&[&[(kind::UNREAD, 2)]], &[0x1F, 0, 1]);
-    let no = Refusal::UnreadAfterRule;
-    let mut lent = [vec![9; 8], vec![9; 8], vec![9; 28], vec![9; 8]];
-    let [fact_marks, rule_marks, steps, order] = &mut lent;
-    assert_eq!(accept(&file), Err(no));
-    let ran = run(&file, &[], Lent { fact_marks, rule_marks, steps });
-    assert_eq!(ran, Err(no));
-    let found = search(&file, Lent { fact_marks, rule_marks, steps }, order);
-    assert_eq!(found, Err(no));
-    let kept = grounds(&file, &[], 0, Lent { fact_marks, rule_marks, steps });
-    assert_eq!(kept, Err(no));
-    assert_eq!(layered(&file, order), Err(no));
-    assert!(lent.iter().flatten().all(|&byte| byte == 9));
-    assert_eq!(judge(&file, &[], &[0; 3]), Err(no));
-    assert_eq!(check(&file, &[0; 3], 0, &[]), Err(no));
-    assert_eq!(ask_order(&file, &[]), Err(no));
-    assert_eq!(ask_list(&file, &[]), Err(no));
-    assert_eq!(ask_set(&file, &[0; 3]), Err(no));
-    assert_eq!(ask_row(&file, 0, &[]), Err(no));
-    assert_eq!(choose(&file, &[], &[]), Err(no));
-    assert_eq!(panel(&file), "E 56\n");
-    assert_eq!(grounds_text(&file, 0), "E 56\n");
+    refused_by_every_operation(&file, Refusal::UnreadAfterRule);
 }
 
 #[test]
