@@ -17,6 +17,8 @@ use reference::{RULE_NUMBER_BYTES, RuleFile, STEP_BYTES, kind};
 
 /// The most constraint facts that the search takes.
 const MOST_GUESSED: usize = 16;
+/// The refusal of a search that finds no set.
+const NO_STABLE_SET: u32 = 41;
 /// The mark of a rule that is set aside.
 const SET_ASIDE: u8 = 2;
 
@@ -58,6 +60,36 @@ pub fn cases(
     let run = run_under(&answer.order, file, &lent.lengths[..3]);
     cases.push(Named::new(title("the run under its order"), run, lent.fill, answer.same_run)?);
     Ok(cases)
+}
+
+/// The search of a file in buffers that just suffice, where it finds a set with these
+/// constraint facts and no others, or no set.
+pub fn earliest(name: &str, file: &[u8], guess: Option<&[u8]>, fill: u8) -> Result<Named, String> {
+    let parsed = RuleFile::parse(file).map_err(|refusal| format!("{name}: {refusal:?}"))?;
+    let counts = reference::accept(file).expect("it was parsed");
+    let order = RULE_NUMBER_BYTES * counts.exceptions;
+    let lent = vec![counts.facts, counts.rules, STEP_BYTES * counts.facts, order];
+    let search = Case { lent, ..Case::new(Operation::Search, file) };
+    let reply = search.expected(|_| fill);
+    let found = match reply.numbers[0] {
+        0 => Some(guess_of(&parsed, &reply.buffers[0])),
+        NO_STABLE_SET => None,
+        refusal => return Err(format!("{name}: the search refuses with {refusal}")),
+    };
+    if found.as_deref() != guess {
+        return Err(format!("{name}: the reference finds {found:?}"));
+    }
+    Named::new(name.to_string(), search, fill, reply)
+}
+
+/// The constraint facts that are in, by the fact marks.
+fn guess_of(file: &RuleFile, fact_marks: &[u8]) -> Vec<u8> {
+    let constrains = |rule: usize, fact: usize| {
+        !file.is_withheld(rule) && file.rules[rule].constraints.contains(fact)
+    };
+    let is_guessed = |fact: usize| (0..file.rules.len()).any(|rule| constrains(rule, fact));
+    let facts = 0..file.facts;
+    facts.filter(|&fact| fact_marks[fact] == 1 && is_guessed(fact)).map(|fact| fact as u8).collect()
 }
 
 /// The cases of grounds under an order. The marks must be the run's.

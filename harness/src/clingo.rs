@@ -3,6 +3,7 @@
 
 use crate::archive;
 use crate::files::{random_draft, random_layers};
+use crate::hard;
 use crate::random::Random;
 use reference::{RULE_NUMBER_BYTES, Rule, RuleFile, STEP_BYTES};
 use std::collections::BTreeSet;
@@ -11,6 +12,8 @@ use std::io::{ErrorKind, Write as _};
 use std::process::{Command, Stdio};
 
 const FILES: usize = 400;
+/// The files of each hard family.
+const HARD_FILES: u64 = 6;
 const MOST_CONSTRAINT_FACTS: usize = 16;
 const MOST_RULES: usize = 100;
 /// At least one file in so many is layered.
@@ -20,15 +23,29 @@ const SET_ASIDE: u8 = 2;
 
 type Model = BTreeSet<usize>;
 
-/// Compares some hundreds of files for the search, and as many layered ones. An error
-/// names the first difference.
+/// Compares some hundreds of files for the search, those that are hard for it, and as many
+/// layered ones. An error names the first difference.
 pub fn compare(seed: u64) -> Result<(), String> {
     if !is_installed()? {
         println!("clingo is not on PATH: that comparison is left out");
         return Ok(());
     }
     compare_searches(seed)?;
+    compare_hard(seed)?;
     compare_layers(seed)
+}
+
+/// What the search finds in a file, where clingo's earliest set is the same.
+fn compare_search(parsed: &RuleFile, file: &[u8]) -> Result<Option<Model>, String> {
+    let models = stable_models(&program(parsed))?;
+    let earliest = earliest(parsed, models);
+    let found = archive_set(file);
+    if found != earliest {
+        return Err(format!(
+            "clingo's earliest set {earliest:?}, the search's {found:?}, file {file:02X?}"
+        ));
+    }
+    Ok(found)
 }
 
 fn compare_searches(seed: u64) -> Result<(), String> {
@@ -42,14 +59,7 @@ fn compare_searches(seed: u64) -> Result<(), String> {
             continue;
         }
         let parsed = RuleFile::parse(&file).expect("a draft is accepted");
-        let models = stable_models(&program(&parsed))?;
-        let earliest = earliest(&parsed, models);
-        let found = archive_set(&file);
-        if found != earliest {
-            return Err(format!(
-                "clingo's earliest set {earliest:?}, the search's {found:?}, file {file:02X?}"
-            ));
-        }
+        let found = compare_search(&parsed, &file)?;
         without += usize::from(found.is_none());
         withheld += usize::from(has_withheld(&parsed));
         compared += 1;
@@ -61,6 +71,22 @@ fn compare_searches(seed: u64) -> Result<(), String> {
         "clingo agrees on {compared} files, {without} of them without a stable set, {withheld} \
          with rules withheld"
     );
+    Ok(())
+}
+
+/// Each family of hard files, with seeds from this one on.
+fn compare_hard(seed: u64) -> Result<(), String> {
+    let (mut without, mut compared) = (0, 0);
+    for (_, family) in hard::FAMILIES {
+        for (number, order) in (seed..seed + HARD_FILES).zip(hard::RULE_ORDERS.into_iter().cycle())
+        {
+            let file = family(number, order).bytes();
+            let parsed = RuleFile::parse(&file).expect("a draft is accepted");
+            without += usize::from(compare_search(&parsed, &file)?.is_none());
+            compared += 1;
+        }
+    }
+    println!("clingo agrees on {compared} hard files, {without} of them without a stable set");
     Ok(())
 }
 

@@ -15,6 +15,9 @@
 //!   set of facts: these are stable, with no rule listed, and no other is;
 //! - `kinds <operation> <name> | but <kinds> | <field> | ..` is a case for every kind
 //!   but these: it stands in the place of `??`, in the name too;
+//! - `earliest <name> | file <file> | in <facts>` is a case of the search, in buffers that just
+//!   suffice: of the constraint facts these are in the set that it finds, and the rest is the
+//!   reference's. With `none fits` for the facts there is no such set;
 //! - `caller <name> | file <file> | lent ..` is a row of cases (see `caller.rs`), and
 //!   with `refused <number>` only the search that refuses; with `order <order>` it is
 //!   those of grounds, with `layered` those of an order by ranks, and with `first <order>`
@@ -34,7 +37,7 @@
 
 use crate::caller;
 use crate::cases::{Case, Operation, Reply};
-use crate::notation::{bytes, file, lines, number, rule_numbers, steps};
+use crate::notation::{bytes, facts_of, file, lines, number, rule_numbers, steps};
 use reference::accept;
 use std::collections::{BTreeMap, BTreeSet};
 
@@ -103,6 +106,7 @@ impl List {
             "all" => self.all(rest)?.into_iter().try_for_each(|case| self.put(case)),
             "sets" => self.sets(rest)?.into_iter().try_for_each(|case| self.put(case)),
             "kinds" => self.kinds(rest)?.into_iter().try_for_each(|case| self.put(case)),
+            "earliest" => self.earliest(rest).and_then(|case| self.put(case)),
             "caller" => self.caller(rest)?.into_iter().try_for_each(|case| self.put(case)),
             _ => self.case(operation_of(word)?, rest).and_then(|case| self.put(case)),
         }
@@ -118,6 +122,17 @@ impl List {
 
     fn lent_to(&self, word: &str) -> Buffers {
         self.lent.get(word).cloned().unwrap_or(Buffers { lengths: vec![], fill: 0 })
+    }
+
+    fn earliest(&self, text: &str) -> Result<Named, String> {
+        let fields: Vec<&str> = text.split('|').map(str::trim).collect();
+        let [name, file_field, found] = fields[..] else { return Err("three fields".to_string()) };
+        let bytes = file(file_field.strip_prefix("file ").ok_or("no file")?, &self.files)?;
+        let guess = match found {
+            "none fits" => None,
+            _ => Some(facts_of(found.strip_prefix("in ").ok_or("not the facts that are in")?)?),
+        };
+        caller::earliest(name, &bytes, guess.as_deref(), self.lent_to("search").fill)
     }
 
     fn caller(&self, text: &str) -> Result<Vec<Named>, String> {

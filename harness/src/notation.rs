@@ -1,5 +1,6 @@
 //! The notation in which the list of named cases gives files, rows and bytes.
 
+use crate::counting::{absences, count_to};
 use crate::draft::{Draft, DraftRule, stairs};
 use crate::large;
 use crate::layers;
@@ -213,19 +214,24 @@ fn layered(name: &str, rules: usize, items: usize) -> Result<Draft, String> {
     Ok(file(rules, items))
 }
 
-/// The 07 items of unread facts, which are written as premises are.
+/// The 07 items of unread facts.
 fn unread(facts: &str) -> Bytes {
-    let mut bytes = Vec::new();
-    for (kind, fact) in items(facts)? {
-        if kind != kind::PREMISE {
-            return Err(format!("not unread facts: {facts:?}"));
-        }
-        bytes.extend([kind::UNREAD, fact]);
-    }
-    Ok(bytes)
+    Ok(facts_of(facts)?.into_iter().flat_map(|fact| [kind::UNREAD, fact]).collect())
 }
 
-/// What follows the count of facts: `; 0<; 1<0,!2`.
+/// Facts, which are written as premises are: `2, 5 to 7`, or `none`.
+pub fn facts_of(text: &str) -> Bytes {
+    let fact = |(kind, fact): (u8, u8)| (kind == kind::PREMISE).then_some(fact);
+    let facts: Option<Vec<u8>> = match text.trim() {
+        "none" => Some(vec![]),
+        "" => None,
+        text => items(text)?.into_iter().map(fact).collect(),
+    };
+    facts.ok_or_else(|| format!("not facts: {text:?}"))
+}
+
+/// What follows the count of facts: `; 0<; 1<0,!2`, with `0 to 8<9` for a rule for each of
+/// these conclusions, and `9<5 out of 0 to 8` for rules that count.
 fn draft(facts: u8, rules: &str) -> Result<Draft, String> {
     let mut draft = Draft::new(usize::from(facts));
     let mut parts = rules.split(';').map(str::trim);
@@ -233,11 +239,34 @@ fn draft(facts: u8, rules: &str) -> Result<Draft, String> {
         return Err(format!("not rules: {rules:?}"));
     }
     for rule in parts {
-        let (conclusion, body) =
+        let (conclusions, body) =
             rule.split_once('<').ok_or_else(|| format!("not a rule: {rule:?}"))?;
-        draft.rules.push(DraftRule { conclusion: number(conclusion)?, items: items(body)? });
+        if let Some((least, facts)) = body.split_once(" out of ") {
+            counted(&mut draft, number(conclusions)?, number(least)?, facts)?;
+            continue;
+        }
+        for conclusion in facts_of(conclusions)? {
+            draft.rules.push(DraftRule { conclusion, items: items(body)? });
+        }
     }
     Ok(draft)
+}
+
+/// The rules of `9<5 out of 0 to 8`: fact 9 is derived where at least 5 of these facts are
+/// out. They count with the facts right above 9.
+fn counted(draft: &mut Draft, conclusion: usize, least: usize, facts: &str) -> Result<(), String> {
+    let facts: Vec<usize> = facts_of(facts)?.into_iter().map(usize::from).collect();
+    if !(1..=facts.len()).contains(&least) {
+        return Err(format!("{least} of {} facts", facts.len()));
+    }
+    let mut unused = conclusion + 1;
+    let absent = absences(draft, &mut unused, &facts);
+    let enough = count_to(draft, &mut unused, &absent, least);
+    if unused > usize::from(draft.facts) {
+        return Err(format!("{unused} facts are needed to count to {least}"));
+    }
+    draft.rule(conclusion, &[enough], &[]);
+    Ok(())
 }
 
 /// The items of a rule: `0,!1`, with `24 of 0` or `24 of !1` for that many equal ones,

@@ -110,9 +110,62 @@ less-total [] at v h = absurd (omega arith)
 less-total (x ∷ xs) zero v h = omega arith
 less-total (x ∷ xs) (suc at) v h = omega (arith, less-total xs at v h)
 
+-- One number is taken out of a row: its word is that of the set without the number.
+module _ {row : List ℕ} (at : ℕ) (h : at < rowWords) (bit v : ℕ) (b : bit < wordBits) where
+  pub one-cleared : {p : ℕ → Bool} → Flags p row → v ≡ word (without p (at * wordBits + bit)) (at * wordBits) wordBits → Flags (without p (at * wordBits + bit)) (set row at v)
+  one-cleared {p} f v-is =
+      record {
+        places = length-set row at v ∙ f .places;
+        words = λ k u. ⊎-elim (λ q. let is : k ≡ at = eqb-true k at q in rw is own) (λ q. other k u (eqb-false k at q)) (either (eqb k at));
+        inside = λ i t. f .inside i (and-right (not (eqb i (at * wordBits + bit))) (p i) t);
+      }
+    where
+      own : getD (set row at v) at 0 ≡ word (without p (at * wordBits + bit)) (at * wordBits) wordBits
+      own = getD-set-same row at v 0 (omega (arith, f .places)) ∙ v-is
+
+      other : (k : ℕ) → k < rowWords → (k ≡ at → ⊥) → getD (set row at v) k 0 ≡ word (without p (at * wordBits + bit)) (k * wordBits) wordBits
+      other k u ne =
+          getD-set-other row at k v 0 ne ∙ f .words k u
+          ∙ word-ext p (without p (at * wordBits + bit)) (k * wordBits) wordBits (λ i low high. sym (ap (λ (t : Bool). not t && p i) (ne-eqb i (at * wordBits + bit) (λ e. omega arith))))
+
+  pub less-falls : v < getD row at 0 → Falls (At (at * wordBits + bit)) row (set row at v)
+  less-falls l =
+      record {
+        inside = λ i e. let is : at * wordBits + bit ≡ i = cc in omega arith;
+        less = λ i e. less-total row at v l;
+      }
+
+-- The lowest number of one word is taken out of a row.
+module _ {row : List ℕ} (at : ℕ) (h : at < rowWords) (l : 0 < getD row at 0) (bit v : ℕ) (b : bit < wordBits) (v-is : v ≡ bitAnd (getD row at 0) (getD row at 0 - 1)) where
+  pub lowest-falls : Falls (At (at * wordBits + bit)) row (set row at v)
+  lowest-falls = less-falls at h bit v b (omega (arith, and-le-r (getD row at 0) (getD row at 0 - 1)))
+
+  module _ {p : ℕ → Bool} (f : Flags p row) (bit-is : bit ≡ trailingZeros wordBits (getD row at 0)) where
+    held : getD row at 0 ≡ word p (at * wordBits) wordBits
+    held = f .words at h
+
+    lowest : LowestTaken p (at * wordBits) wordBits
+    lowest = word-lowest p (at * wordBits) wordBits (subst (λ (x : ℕ). 0 < x) held l)
+
+    bit-held : trailingZeros wordBits (word p (at * wordBits) wordBits) ≡ bit
+    bit-held = sym (bit-is ∙ ap (trailingZeros wordBits) held)
+
+    pub lowest-first : seek p (range (at * wordBits) wordBits) ≡ some (at * wordBits + bit)
+    lowest-first = lowest .found ∙ ap (λ (b : ℕ). some (at * wordBits + b)) bit-held
+
+    pub lowest-rest : Flags (without p (at * wordBits + bit)) (set row at v)
+    lowest-rest =
+        one-cleared at h bit v b f
+        (v-is ∙ ap (λ (x : ℕ). bitAnd x (x - 1)) held ∙ lowest .rest
+        ∙ ap (λ (b : ℕ). word (without p (at * wordBits + b)) (at * wordBits) wordBits) bit-held)
+
 -- an answer is not both
 pub not-at : {A : Type 0} (i : ℕ) → Nothing ≡ At i → A
 not-at i e = let z : _≡_ {A = ℕ} 0 1 = cc in absurd (omega arith)
+
+-- answers that are the same have one place
+pub same-place : {i j : ℕ} → At i ≡ At j → i ≡ j
+same-place e = cc
 
 -- The first words are 0.
 pub record Passed (row₀ row : List ℕ) (at : ℕ) : Type 0 where
@@ -144,62 +197,27 @@ module _ {row₀ row : List ℕ} {at : ℕ} (w : Passed row₀ row at) where
   pub none-falls : Falls Nothing row₀ row
   none-falls = record { inside = λ i e. not-at i e; less = λ i e. not-at i e }
 
-  module _ (h : at < rowWords) (l : 0 < getD row at 0) (bit v : ℕ) (v-is : v ≡ bitAnd (getD row at 0) (getD row at 0 - 1)) where
-    pub one-falls : bit < wordBits → Falls (At (at * wordBits + bit)) row₀ (set row at v)
-    one-falls b =
-        record {
-          inside = λ i e. let is : at * wordBits + bit ≡ i = cc in omega arith;
-          less = λ i e. rw (← w .same) (less-total row at v (omega (arith, and-le-r (getD row at 0) (getD row at 0 - 1))));
-        }
+  module _ (h : at < rowWords) (l : 0 < getD row at 0) (bit v : ℕ) (b : bit < wordBits) (v-is : v ≡ bitAnd (getD row at 0) (getD row at 0 - 1)) where
+    pub one-falls : Falls (At (at * wordBits + bit)) row₀ (set row at v)
+    one-falls = subst (λ (x : List ℕ). Falls (At (at * wordBits + bit)) x (set row at v)) (w .same) (lowest-falls at h l bit v b v-is)
 
-    pub before-taken : bit < wordBits → (i : ℕ) → At (at * wordBits + bit) ≡ At i → NoneBefore (i / wordBits) (set row at v)
-    before-taken b i e k u =
+    pub before-taken : (i : ℕ) → At (at * wordBits + bit) ≡ At i → NoneBefore (i / wordBits) (set row at v)
+    before-taken i e k u =
         let is : at * wordBits + bit ≡ i = cc in
         getD-set-other row at k v 0 (λ q. omega arith) ∙ w .zeros k (omega arith)
 
-    pub one-taken : bit ≡ trailingZeros wordBits (getD row at 0) → bit < wordBits → (p : ℕ → Bool) → Flags p row₀ → Taken p (At (at * wordBits + bit)) (set row at v)
+    pub one-taken : bit ≡ trailingZeros wordBits (getD row at 0) → (p : ℕ → Bool) → Flags p row₀ → Taken p (At (at * wordBits + bit)) (set row at v)
     unfolding lowestOf
-    one-taken bit-is b p g = taken (rw (w .same) g)
+    one-taken bit-is p g = taken (rw (w .same) g)
       where
         taken : Flags p row → Taken p (At (at * wordBits + bit)) (set row at v)
         taken f =
             record {
-              lowest = λ i e. whole ∙ ap (λ (m : ℕ). some m) (same-place i e);
-              rest = λ i e. subst (λ (m : ℕ). Flags (without p m) (set row at v)) (same-place i e) others;
+              lowest = λ i e. whole ∙ ap (λ (m : ℕ). some m) (same-place e);
+              rest = λ i e. subst (λ (m : ℕ). Flags (without p m) (set row at v)) (same-place e) (lowest-rest at h l bit v b v-is f bit-is);
               none-left = λ e. not-at (at * wordBits + bit) (sym e);
               kept = λ e. not-at (at * wordBits + bit) (sym e);
             }
           where
-            same-place : (i : ℕ) → At (at * wordBits + bit) ≡ At i → at * wordBits + bit ≡ i
-            same-place i e = cc
-
-            held : getD row at 0 ≡ word p (at * wordBits) wordBits
-            held = f .words at h
-
-            lowest : LowestTaken p (at * wordBits) wordBits
-            lowest = word-lowest p (at * wordBits) wordBits (subst (λ (x : ℕ). 0 < x) held l)
-
-            bit-held : trailingZeros wordBits (word p (at * wordBits) wordBits) ≡ bit
-            bit-held = sym (bit-is ∙ ap (trailingZeros wordBits) held)
-
-            found : seek p (range (at * wordBits) wordBits) ≡ some (at * wordBits + bit)
-            found = lowest .found ∙ ap (λ (b : ℕ). some (at * wordBits + b)) bit-held
-
-            own : getD (set row at v) at 0 ≡ word (without p (at * wordBits + bit)) (at * wordBits) wordBits
-            own =
-                getD-set-same row at v 0 (omega (arith, f .places)) ∙ v-is ∙ ap (λ (x : ℕ). bitAnd x (x - 1)) held
-                ∙ lowest .rest ∙ ap (λ (b : ℕ). word (without p (at * wordBits + b)) (at * wordBits) wordBits) bit-held
-
-            other : (k : ℕ) → k < rowWords → (k ≡ at → ⊥) → getD (set row at v) k 0 ≡ word (without p (at * wordBits + bit)) (k * wordBits) wordBits
-            other k u ne =
-                getD-set-other row at k v 0 ne ∙ f .words k u
-                ∙ word-ext p (without p (at * wordBits + bit)) (k * wordBits) wordBits (λ i low high. sym (ap (λ (t : Bool). not t && p i) (ne-eqb i (at * wordBits + bit) (λ e. omega arith))))
-
-            words : (k : ℕ) → k < rowWords → getD (set row at v) k 0 ≡ word (without p (at * wordBits + bit)) (k * wordBits) wordBits
-            words k u = ⊎-elim (λ q. let is : k ≡ at = eqb-true k at q in rw is own) (λ q. other k u (eqb-false k at q)) (either (eqb k at))
-
             whole : seek p (upTo maxRules) ≡ some (at * wordBits + bit)
-            whole = found-behind p (at * wordBits) wordBits (maxRules - (at * wordBits + wordBits)) maxRules (at * wordBits + bit) (omega arith) (zeros-before f at (w .zeros) (omega arith)) found
-
-            others : Flags (without p (at * wordBits + bit)) (set row at v)
-            others = record { places = length-set row at v ∙ f .places; words = words; inside = λ i t. f .inside i (and-right (not (eqb i (at * wordBits + bit))) (p i) t) }
+            whole = found-behind p (at * wordBits) wordBits (maxRules - (at * wordBits + wordBits)) maxRules (at * wordBits + bit) (omega arith) (zeros-before f at (w .zeros) (omega arith)) (lowest-first at h l bit v b v-is f bit-is)

@@ -1,7 +1,7 @@
 -- Internal: a set of numbers below the most rules of a file as a row of words, a bit for each number.
 use Prim.Native.Nat.{ℕ, zero, suc, _+_, _*_, _/_, _<_}
 use mathlib.Core.Path.{_≡_}
-use mathlib.Core.Bool.{Bool, true, cond, not, _&&_}
+use mathlib.Core.Bool.{Bool, true, false, cond, not, _&&_}
 use mathlib.Core.List.{List, [], _∷_}
 use mathlib.Core.Option.{Option, none, some}
 use lib.ListN.{length, getD}
@@ -47,6 +47,12 @@ pub record Taken (p : ℕ → Bool) (answer : Lowest) (after : List ℕ) : Type 
   pub rest : (i : ℕ) → answer ≡ At i → Flags (without p i) after
   pub none-left : answer ≡ Nothing → _≡_ {A = Option ℕ} (lowestOf p) none
   pub kept : answer ≡ Nothing → Flags p after
+
+-- What taking some number of the set answers, and leaves.
+pub record Picked (p : ℕ → Bool) (answer : Lowest) (after : List ℕ) : Type 0 where
+  pub one-of : (i : ℕ) → answer ≡ At i → p i ≡ true
+  pub rest : (i : ℕ) → answer ≡ At i → Flags (without p i) after
+  pub none-left : answer ≡ Nothing → (i : ℕ) → p i ≡ false
 
 -- the sum of the words
 abbrev pub total : List ℕ → ℕ

@@ -1,7 +1,7 @@
 // A row of bits for each key, a fact or a literal. Internal.
 ghost use Prim.Native.Nat.{ℕ, _+_, _*_, _<_, _≤_};
 ghost use mathlib.Core.Path.{_≡_};
-ghost use mathlib.Core.Bool.{Bool, not};
+ghost use mathlib.Core.Bool.{Bool, not, _||_};
 ghost use lib.ListN.{length};
 ghost use Rattle.items.specs.Item.{maxRules};
 ghost use Rattle.bits.specs.Flags.{rowWords, Flags};
@@ -57,4 +57,17 @@ pub fn row_of(matrix: &[u64], key: usize) -> [u64; ROW_WORDS]
     let mut row = [0u64; ROW_WORDS];
     copy_row(matrix, key, &mut row);
     row
+}
+
+// Marks in a row all places of the row of a key.
+pub fn join_row(matrix: &[u64], key: usize, row: &mut [u64; ROW_WORDS])
+    requires { ⌜ key * rowWords + rowWords ≤ length (now matrix) ⌝ }
+    ensures { λ _. ⌜ ((keys : ℕ) (p : ℕ → Bool) (q : ℕ → ℕ → Bool) → key < keys → Matrix keys q (now (matrix .entry)) → Flags p (now (row .entry)) → Flags (λ i. p i || q key i) (now (row .exit))) ⌝ }
+{
+    let from = key * ROW_WORDS;
+    let mut k: usize = 0;
+    while k < ROW_WORDS {
+        row[k] |= matrix[from + k];
+        k += 1;
+    }
 }

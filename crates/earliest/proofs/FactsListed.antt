@@ -1,22 +1,21 @@
--- The loops that list the facts to guess, ask of those decided, and keep the facts marked.
+-- The loops that list the facts to guess and keep the facts marked.
 use Prim.Native.Nat.{ℕ, zero, suc, _+_, _-_, _<_, _≤_}
 use native.Mathlib.Omega.{arith}
 use native.Mathlib.Nat.{zero-add}
 use native.Mathlib.Numerals.{add-one}
 use mathlib.Core.Path.{_≡_, refl, sym, ap, subst, _∙_}
-use mathlib.Core.Bool.{Bool, true, false, cond, not, _&&_}
+use mathlib.Core.Bool.{Bool, true, false, cond}
 use mathlib.Core.List.{List, [], _∷_, _++_, append-assoc, append-nil}
 use mathlib.Core.Logic.{⊎-elim}
-use borrow.Author.Tests.{eqb-true, eqb-false, ne-eqb, ltb-true}
-use lib.Dec.{eqb, ltb}
-use lib.ListN.{length, getD, set, take, drop, length-set, drop-of-length-le}
-use lib.Seq.{take-suc-set, getD-set-same, getD-set-other, drop-cons, getD-take, length-take-le}
+use borrow.Author.Tests.{eqb-true, eqb-false}
+use lib.Dec.{eqb}
+use lib.ListN.{length, getD, set, take, length-set}
+use lib.Seq.{take-suc-set, getD-set-same, getD-set-other}
 use Rattle.items.specs.Item.{narrow, maxFacts, maxGuessed, has}
-use Rattle.theory.specs.Rule.{all, keep, howMany, range, downFrom, upTo}
+use Rattle.theory.specs.Rule.{keep, howMany, range, downFrom, upTo}
 use Rattle.theory.proofs.Bools.{either}
-use Rattle.theory.proofs.Lists.{howMany-append, less-one, all-elem, getD-mem, range-more}
-use Rattle.index.specs.Literal.{outside}
-use Rattle.earliest.specs.Branch.{Kept}
+use Rattle.theory.proofs.Lists.{howMany-append, less-one, range-more}
+use Rattle.earliest.specs.Root.{Kept}
 
 -- Of the facts below `facts` those from f on are listed.
 pub record Down (marks : List ℕ) (facts : ℕ) (row : List ℕ) (n f : ℕ) : Type 0 where
@@ -91,44 +90,6 @@ module _ (marks : List ℕ) (facts : ℕ) (row : List ℕ) where
             room = omega (arith, left true e .0);
             listed = front ∙ left true e .1;
           }
-
--- A fact decided: held out and not derived already, or held in and still to be derived.
-abbrev pub Alive : List ℕ → List ℕ → ℕ → Bool
-Alive low high k = cond (has low (outside k)) (not (has low k)) (has high k)
-
--- The two ways of one fact.
-module _ (low high : List ℕ) (k : ℕ) where
-  pub held-out : getD low (outside k) 0 ≡ 1 → not (eqb (getD low k 0) 1) ≡ Alive low high k
-  unfolding has
-  held-out e = rw e refl
-
-  pub held-in : (getD low (outside k) 0 ≡ 1 → ⊥) → eqb (getD high k 0) 1 ≡ Alive low high k
-  unfolding has
-  held-in n = rw (ne-eqb (getD low (outside k) 0) 1 n) refl
-
-pub row-below : (row : List ℕ) (n : ℕ) → all (λ k. ltb k (maxFacts narrow)) row ≡ true → n < length row → getD row n 0 < maxFacts narrow
-row-below row n a h = ltb-true (getD row n 0) (maxFacts narrow) (all-elem (λ k. ltb k (maxFacts narrow)) row a (getD row n 0) (getD-mem row n h))
-
--- A test of the first elements of a row: what is still to come gives what the whole gives.
-module _ (T : ℕ → Bool) (row : List ℕ) (m n : ℕ) (l : m ≤ length row) (rest : all T (take m row) ≡ all T (drop n (take m row))) where
-  whole : length (take m row) ≡ m
-  whole = length-take-le m row l
-
-  module _ (h : n < m) where
-    here : all T (take m row) ≡ T (getD row n 0) && all T (drop (n + 1) (take m row))
-    here =
-        rest
-        ∙ ap (all T) (drop-cons (take m row) n 0 (omega (arith, whole)) ∙ ap (λ (i : ℕ). getD (take m row) n 0 ∷ drop i (take m row)) (sym (add-one n)))
-        ∙ ap (λ (x : ℕ). T x && all T (drop (n + 1) (take m row))) (getD-take m row n 0 h)
-
-    pub one-passes : T (getD row n 0) ≡ true → all T (take m row) ≡ all T (drop (n + 1) (take m row))
-    one-passes e = here ∙ ap (λ (b : Bool). b && all T (drop (n + 1) (take m row))) e
-
-    pub one-fails : T (getD row n 0) ≡ false → false ≡ all T (take m row)
-    one-fails e = sym (here ∙ ap (λ (b : Bool). b && all T (drop (n + 1) (take m row))) e)
-
-  pub all-pass : m ≤ n → true ≡ all T (take m row)
-  all-pass g = sym (rest ∙ ap (all T) (drop-of-length-le (take m row) {i = n} (omega (arith, whole))))
 
 -- The facts below f are kept.
 pub record Keeping (marks found : List ℕ) (f : ℕ) : Type 0 where

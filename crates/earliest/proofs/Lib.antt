@@ -1,5 +1,2 @@
-pub mod RowParts
-pub mod BranchAlive
-pub mod BranchFound
+pub mod RootFound
 pub mod FactsListed
-pub mod HuntWays

@@ -1,2 +1,2 @@
 -- What only code and proofs use.
-pub mod Branch
+pub mod Root

@@ -5,9 +5,7 @@ ghost use lib.ListN.{length, take};
 ghost use Rattle.items.specs.Item.{narrow, maxFacts, maxGuessed, has};
 ghost use Rattle.theory.specs.Rule.{howMany, keep, upTo, downFrom};
 use items::item::MAX_FACTS;
-
-// The most constraint facts that are guessed.
-pub const MAX_GUESSED: usize = 16;
+use nogoods::guess::MAX_GUESSED;
 
 // Lists the marked facts below a number, from the highest down. Answers how many there are.
 pub fn list_down(marks: &[u8; MAX_FACTS], facts: usize, row: &mut [u16; MAX_GUESSED]) -> usize

@@ -1,5 +1,4 @@
-// The earliest stable set of a file: the constraint facts are held out or in, from the highest-numbered down, out before in, and a branch is
-// left as soon as it can hold no stable set. Internal.
+// The earliest stable set of a file: the sets of constraint facts are guessed in ascending order, the highest-numbered fact as the highest bit. First each guess
+// by itself, with what its conflict refutes passed over; where that does not decide it soon, the rest in blocks. Internal.
 pub mod guessed;
-mod hunt;
 pub mod root;

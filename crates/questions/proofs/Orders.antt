@@ -9,10 +9,9 @@ use mathlib.Core.Option.{Option, none}
 use borrow.Author.Tests.{eqb-true}
 use lib.ListN.{length}
 use lib.Dec.{eqb}
-use Rattle.theory.specs.Rule.{all, mem, keep, range, upTo, howMany, nothing, adjoin}
+use Rattle.theory.specs.Rule.{all, mem, NoRepeat, keep, range, upTo, howMany, nothing, adjoin}
 use Rattle.theory.proofs.Bools.{either, never, and-left, and-right, false-of, or-cases}
 use Rattle.theory.proofs.Lists.{all-of, mem-keep, mem-range, mem-upTo, mem-there, mem-here, eqb-self, howMany-less, howMany-none}
-use Rattle.theory.proofs.Run.{NoRepeat}
 use Rattle.items.specs.declared.refusal.Refusal.{Refusal}
 use Rattle.items.specs.Item.{nameWidth}
 use Rattle.items.specs.Question.{firstNo}

@@ -3,7 +3,7 @@ use Prim.Native.Nat.{ℕ, _≤_, _<_}
 use native.Mathlib.Omega.{arith}
 use mathlib.Core.Path.{_≡_, ap₂, _∙_}
 use mathlib.Core.List.{List}
-use lib.ListN.{replicate}
+use lib.ListN.{length, take, replicate, length-take}
 use Rattle.theory.specs.Rule.{keep, howMany, upTo, downFrom, Program, inForce, constraintFact}
 use Rattle.theory.specs.Search.{guessed}
 use Rattle.theory.proofs.Lists.{mem-downFrom, keep-same}
@@ -27,3 +27,7 @@ module _ (P : Program) (h : P .facts ≤ maxFacts narrow) (marks : List ℕ) (m 
     where
       below : {k : ℕ} → k < P .facts → k < maxFacts narrow
       below l = omega arith
+
+-- the first so many elements are at most so many
+pub taken-few : (n m : ℕ) (xs : List ℕ) → n ≤ m → length (take n xs) ≤ m
+taken-few n m xs l = simp length-take (omega arith)

@@ -13,7 +13,7 @@ use Rattle.items.specs.declared.refusal.Refusal.the-variants.{NoStableSet}
 use Rattle.items.specs.Item.{has}
 use Rattle.reader.specs.Questions.{programOf}
 use Rattle.questions.specs.Questions.{someStable, stableQuestion, earlyQuestions, searchQuestions, earlyNo, searchNo}
-use Rattle.earliest.specs.Branch.{Shown}
+use Rattle.earliest.specs.Root.{Shown}
 use Rattle.items.specs.Question.{firstNo}
 use Rattle.items.proofs.FirstNo.{first-no, first-yes}
 use Rattle.search.specs.Outcome.{SearchOutcome, foundAt, refusedWith, takenSet, searchOutcome}

@@ -7,11 +7,11 @@ use mathlib.Core.List.{List, [], _∷_, map}
 use borrow.Author.Tests.{eqb-true}
 use lib.ListN.{length}
 use lib.Dec.{eqb}
-use Rattle.theory.specs.Rule.{mem, upTo, howMany, Program, Mask, count, plain}
+use Rattle.theory.specs.Rule.{mem, NoRepeat, upTo, howMany, Program, Mask, count, plain}
 use Rattle.theory.specs.Run.{Stand, setAside, ruleMark, ruleMarks, stageCount, run}
 use Rattle.theory.proofs.Bools.{never}
 use Rattle.theory.proofs.Lists.{howMany-ext, howMany-upTo, eqb-sym, mem-here, mem-there}
-use Rattle.theory.proofs.Run.{NoRepeat, Sound, exception-known, not-both, run-sound}
+use Rattle.theory.proofs.Run.{Sound, exception-known, not-both, run-sound}
 
 pub howMany-map : (p : ℕ → Bool) (f : ℕ → ℕ) (xs : List ℕ) → howMany p (map f xs) ≡ howMany (λ x. p (f x)) xs
 howMany-map p f [] = refl

@@ -8,7 +8,7 @@ use mathlib.Core.Logic.{_⊎_, inl, inr, ⊎-elim}
 use borrow.Author.Tests.{eqb-true}
 use lib.ListN.{length, take}
 use lib.Dec.{eqb}
-use Rattle.theory.specs.Rule.{all, mem, Program, Mask, FactSet, Sub, nothing, adjoin, rule, Step}
+use Rattle.theory.specs.Rule.{all, mem, NoRepeat, Program, Mask, FactSet, Sub, nothing, adjoin, rule, Step}
 use Rattle.theory.specs.Run.{Stand, run}
 use Rattle.theory.specs.Stable.{stepAt, factsOf, usedRule, Proof, Admits}
 use Rattle.theory.specs.Check.{endsWith}
@@ -17,7 +17,7 @@ use Rattle.theory.proofs.Bools.{never, and-left, and-right, and-both, o
 use Rattle.theory.proofs.Lists.{eqb-self, all-elem, all-of, mem-cases, mem-here, mem-there}
 use Rattle.theory.proofs.Grounds.{Grounded, Grounds, grounds-at}
 use Rattle.theory.proofs.Check.{ends-last}
-use Rattle.theory.proofs.Run.{Sound, NoRepeat, stepFacts, granted, run-sound}
+use Rattle.theory.proofs.Run.{Sound, stepFacts, granted, run-sound}
 use Rattle.theory.proofs.Rows.{grounded-admits, grounded-proof}
 
 -- A fact of the first k steps has its step among them.

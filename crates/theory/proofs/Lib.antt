@@ -28,4 +28,5 @@ pub mod Repeats
 pub mod Absent
 pub mod Check
 pub mod Keeping
-pub mod Bounds
+pub mod NumberBits
+pub mod Guesses

@@ -217,6 +217,10 @@ getD-mem [] k l = absurd (omega arith)
 getD-mem (x ∷ xs) zero l = mem-here x xs
 getD-mem (x ∷ xs) (suc k) l = mem-there _ x xs (getD-mem xs k (omega arith))
 
+-- an element of a list of which all are below a number
+pub element-below : (m : ℕ) (xs : List ℕ) (k : ℕ) → all (λ x. ltb x m) xs ≡ true → k < length xs → getD xs k 0 < m
+element-below m xs k a l = ltb-true (getD xs k 0) m (all-elem (λ x. ltb x m) xs a (getD xs k 0) (getD-mem xs k l))
+
 pub zeros : (n i : ℕ) → _≡_ {A = ℕ} (getD (replicate n 0) i 0) 0
 zeros zero i = refl
 zeros (suc n) zero = refl

@@ -7,7 +7,7 @@ use mathlib.Core.Logic.{_⊎_, inl, inr, ⊎-elim}
 use mathlib.Core.Option.{Option, none, some}
 use borrow.Author.Tests.{ltb-true}
 use lib.Dec.{eqb, ltb}
-use Rattle.theory.specs.Rule.{all, clear, mem, Program, Mask, FactSet, Sub, nothing, null, count, rule, plain, exception, Step, Closed, plainRules}
+use Rattle.theory.specs.Rule.{all, clear, mem, NoRepeat, Program, Mask, FactSet, Sub, nothing, null, count, rule, plain, exception, Step, Closed, plainRules}
 use Rattle.theory.specs.Derive.{conclude, Fresh, fired, steps, stepBy}
 use Rattle.theory.specs.Run.{Stand, rejected, spares, trial, eligible, stage, start, firstEligible, run, kept}
 use Rattle.theory.specs.Chaining.{Disjoint, Names}
@@ -17,11 +17,6 @@ use Rattle.theory.proofs.Lists.{seek-some, seek-none, all-elem, all-app
 use Rattle.theory.proofs.Walk as walk
 use Rattle.theory.proofs.Derive.{union, openRules, open-most, open-less, adjoin-has, adjoin-above, derive-above, derive-closed, derive-facts, fired-trail, fired-fresh}
 use Rattle.theory.proofs.Grounds.{Grounds, grounds-mono, grounds-append, trail-grounds, facts-append, facts-of-steps}
-
--- no element stands twice
-abbrev pub NoRepeat : List ℕ → Type 0
-NoRepeat [] = Unit {0}
-NoRepeat (x ∷ xs) = (mem x xs ≡ false) × NoRepeat xs
 
 pub no-repeat-append : (xs ys : List ℕ) → NoRepeat xs → NoRepeat ys → ((x : ℕ) → mem x xs ≡ true → mem x ys ≡ true → ⊥) → NoRepeat (xs ++ ys)
 no-repeat-append [] ys n m apart = m

@@ -15,7 +15,7 @@ use Rattle.theory.specs.Check.{leastOf, isStable}
 use Rattle.theory.specs.Stable.{reduct, Stable, Within, stepAt, factsOf, usedRule, Proof, Admits}
 use Rattle.theory.proofs.Bools.{either, never, and-left, and-right, and-both, or-cases, or-false-left, or-false-right, or-none, or-assoc, false-of, false-of-not, not-of-false, both-ways, beq-true, beq-refl}
 use Rattle.theory.proofs.Lists.{eqb-self, all-elem, all-of, all-mono, all-fails, clear-ext, clear-anti, any-witness, any-of, mem-upTo, upTo-mem}
-use Rattle.theory.proofs.Derive.{derive-least, least-mono, least-same}
+use Rattle.theory.proofs.Derive.{derive-least, derive-mono, least-mono, least-same}
 
 -- A least set depends on the mask at the rules of the program only.
 pub least-mask : (P : Program) (on on′ : Mask) (S M : FactSet) → ((i : ℕ) → i < count P → on i ≡ on′ i) → Least P on S M → Least P on′ S M
@@ -107,6 +107,14 @@ module _ (P : Program) (on : Mask) where
   leastOf-agrees M N a =
       leastOf-same M (leastOf P on N)
       (least-mask P (reduct P on N) (reduct P on M) nothing (leastOf P on N) (λ i l. sym (reduct-agrees M N a i l)) (leastOf-least N))
+
+  -- More facts taken as present leave fewer rules, and a smaller least set.
+  pub least-anti : (G H : FactSet) → Sub G H → Sub (leastOf P on H) (leastOf P on G)
+  unfolding leastOf reduct
+  least-anti G H s =
+      derive-mono P (reduct P on H) (reduct P on G) nothing nothing
+      (λ i _ r. and-both (and-left (on i) _ r) (clear-anti G H (rule P i .constraints) s (and-right (on i) _ r)))
+      (λ f t. t)
 
   -- Stable sets that agree on the constraint facts are the same.
   pub stable-agree : (M N : FactSet) → Stable P on M → Stable P on N → Agree P on M N → Same M N

@@ -14,5 +14,5 @@ pub mod Examples
 -- What only code and proofs use.
 pub mod Check
 pub mod Search
-pub mod Bounds
+pub mod Guesses
 pub mod Places

@@ -26,6 +26,11 @@ any p (x ∷ xs) = p x || any p xs
 abbrev pub mem : ℕ → List ℕ → Bool
 mem x ys = any (eqb x) ys
 
+-- no element stands twice
+abbrev pub NoRepeat : List ℕ → Type 0
+NoRepeat [] = Unit {0}
+NoRepeat (x ∷ xs) = (mem x xs ≡ false) × NoRepeat xs
+
 -- the elements that pass the test, in their order
 abbrev pub keep : (ℕ → Bool) → List ℕ → List ℕ
 keep p [] = []

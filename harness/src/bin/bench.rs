@@ -15,8 +15,14 @@
 
 #[path = "../archive.rs"]
 mod archive;
+#[path = "../counting.rs"]
+mod counting;
 #[path = "../draft.rs"]
 mod draft;
+// The small files of it are not timed.
+#[allow(dead_code)]
+#[path = "../hard.rs"]
+mod hard;
 #[path = "../layers.rs"]
 mod layers;
 #[path = "../loads.rs"]
@@ -25,6 +31,7 @@ mod loads;
 mod random;
 
 use draft::{Draft, MOST_OWN_ITEMS, chain, stairs};
+use hard::RuleOrder;
 use random::Random;
 use reference::{Lent, RuleFile, STEP_BYTES, load_bytes};
 use std::hint::black_box;
@@ -54,13 +61,6 @@ const ROUNDS: usize = 9;
 /// Calls slower than this are timed in fewer rounds.
 const SLOW: Duration = Duration::from_millis(200);
 const SLOW_ROUNDS: usize = 3;
-
-#[derive(Clone, Copy)]
-enum RuleOrder {
-    Forward,
-    Backward,
-    Shuffled,
-}
 
 /// Fact `first` from nothing and a chain up from it; further rules, up to the
 /// count, lead to the same facts from two before them.
@@ -801,6 +801,18 @@ fn measure_withheld(table: &mut Table) -> Result<(), String> {
     Ok(())
 }
 
+/// The files that are made to be hard for the search, each family in each order of its rules and
+/// each of these with a seed of its own.
+fn measure_hard(table: &mut Table) -> Result<(), String> {
+    for (family, file) in hard::FAMILIES {
+        for (order, seed) in hard::RULE_ORDERS.into_iter().zip(0..) {
+            let name = format!("{family}, {order:?}").to_lowercase();
+            table.single(&name, &[agreeing(&name, &file(seed, order))?], Operation::Search);
+        }
+    }
+    Ok(())
+}
+
 fn measure(without_unread: bool) -> Result<Table, String> {
     let mut table = Table {
         text: String::new(),
@@ -832,6 +844,7 @@ fn measure(without_unread: bool) -> Result<Table, String> {
     for ((name, file), operation) in worst.into_iter().chain(deepest).chain(loads) {
         table.single(name, &[agreeing(name, &file())?], operation);
     }
+    measure_hard(&mut table)?;
     for (name, file) in layers::FILES {
         let subject = agreeing(name, &file(512, MOST_OWN_ITEMS))?;
         table.single(name, &[subject], Operation::Layered);

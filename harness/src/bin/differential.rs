@@ -13,12 +13,16 @@ mod archive;
 mod cases;
 #[path = "../clingo.rs"]
 mod clingo;
+#[path = "../counting.rs"]
+mod counting;
 #[path = "../directed.rs"]
 mod directed;
 #[path = "../draft.rs"]
 mod draft;
 #[path = "../files.rs"]
 mod files;
+#[path = "../hard.rs"]
+mod hard;
 #[path = "../large.rs"]
 mod large;
 #[path = "../layers.rs"]
@@ -37,7 +41,7 @@ use directed::{
 };
 use draft::{Draft, MOST_OWN_ITEMS, stairs};
 use random::Random;
-use reference::{LOAD_STEP, RULE_NUMBER_BYTES, accept, kind, load_bytes};
+use reference::{LOAD_STEP, RULE_NUMBER_BYTES, STEP_BYTES, accept, kind, load_bytes};
 use std::process::ExitCode;
 use std::sync::Mutex;
 use std::thread;
@@ -53,6 +57,9 @@ const LENT_FENCE: u8 = 0xC3;
 /// The longest file that question 1 lets pass. One of that length is within the cap only
 /// with unread facts.
 const LONGEST: usize = 32_767;
+
+/// The small files that are hard for the search.
+const COUNTING_FILES: u64 = 4_000;
 
 /// The kinds of the items that a rule has of its own.
 const ITEM_KINDS: [u8; 2] = [kind::PREMISE, kind::CONSTRAINT];
@@ -448,7 +455,7 @@ fn file_at_the_cap() -> Vec<u8> {
 /// As many rules as may be; steps that go as deep as they can, by a chain, by rules of
 /// 24 items, and by rules that are too long; ranks and cycles that do; each rule as long
 /// as may be, and such files with something else behind their last rule; as many bytes
-/// as question 1 lets pass, and one more.
+/// as question 1 lets pass, and one more; files that are hard for the search.
 fn large_files() -> Vec<Vec<u8>> {
     let rules = [
         large::exceptions(512, 16),
@@ -471,9 +478,25 @@ fn large_files() -> Vec<Vec<u8>> {
         }
         files.push(full);
     }
+    for (_, file) in hard::FAMILIES {
+        let orders = hard::RULE_ORDERS.into_iter().zip(0..);
+        files.extend(orders.map(|(order, seed)| file(seed, order).bytes()));
+    }
     let longest = lengthened_file(LONGEST);
     files.extend([vec![0; LONGEST + 1], [&longest[..], &[0]].concat(), longest]);
     files
+}
+
+/// Searches of small files that take them past the first guesses.
+fn counting_searches() -> Vec<Case> {
+    let case = |seed: u64| {
+        let file = hard::counting(seed).bytes();
+        let counts = accept(&file).expect("a draft is accepted");
+        let order = RULE_NUMBER_BYTES * counts.exceptions;
+        let lent = vec![counts.facts, counts.rules, STEP_BYTES * counts.facts, order];
+        Case { lent, ..Case::new(Operation::Search, &file) }
+    };
+    (0..COUNTING_FILES).map(case).collect()
 }
 
 fn purposeful_cases() -> Vec<Case> {
@@ -497,6 +520,7 @@ fn purposeful_cases() -> Vec<Case> {
     cases.extend(all_dependencies());
     cases.extend(all_loads());
     cases.extend(loads_in_use());
+    cases.extend(counting_searches());
     for file in [large_files(), large_unread_files()].concat() {
         cases.extend(all_operations(&file));
     }

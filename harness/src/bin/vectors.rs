@@ -32,6 +32,8 @@
 mod caller;
 #[path = "../cases.rs"]
 mod cases;
+#[path = "../counting.rs"]
+mod counting;
 #[path = "../directed.rs"]
 mod directed;
 #[path = "../draft.rs"]
@@ -60,7 +62,7 @@ use std::process::ExitCode;
 const SEED: u64 = 1;
 const RANDOM_VECTORS: usize = 2_320;
 /// The reader has some more room for the file, and this for each buffer.
-const MOST_BYTES: usize = 1_421_000;
+const MOST_BYTES: usize = 1_441_000;
 const MOST_LENT: usize = 16_384;
 /// What the buffers of cases without a name hold.
 const UNTOUCHED: u8 = 0xA5;

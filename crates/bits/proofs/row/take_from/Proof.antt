@@ -41,7 +41,15 @@ add-t15 : tie.Need-add-t15 Inv-loop μ-loop
 add-t15 c = omega (arith, c .lowest-bit .ensures .1)
 
 returns : tie.Need-returns Inv-loop μ-loop
-returns c = (one-falls (c .before .before .before .before .before .loop .inv) (c .before .before .before .before .loop-test .taken) (omega (arith, c .before .before .if1 .taken)) _ _ (c .before .without-lowest .ensures) (c .lowest-bit .ensures .1), (one-taken (c .before .before .before .before .before .loop .inv) (c .before .before .before .before .loop-test .taken) (omega (arith, c .before .before .if1 .taken)) _ _ (c .before .without-lowest .ensures) (c .lowest-bit .ensures .0) (c .lowest-bit .ensures .1), before-taken (c .before .before .before .before .before .loop .inv) (c .before .before .before .before .loop-test .taken) (omega (arith, c .before .before .if1 .taken)) _ _ (c .before .without-lowest .ensures) (c .lowest-bit .ensures .1)))
+returns c =
+    let inv = c .before .before .before .before .before .loop .inv in
+    let inside = c .before .before .before .before .loop-test .taken in (
+      one-falls inv inside (omega (arith, c .before .before .if1 .taken)) _ _ (c .lowest-bit .ensures .1) (c .before .without-lowest .ensures),
+      (
+        one-taken inv inside (omega (arith, c .before .before .if1 .taken)) _ _ (c .lowest-bit .ensures .1) (c .before .without-lowest .ensures) (c .lowest-bit .ensures .0),
+        before-taken inv inside (omega (arith, c .before .before .if1 .taken)) _ _ (c .lowest-bit .ensures .1) (c .before .without-lowest .ensures),
+      ),
+    )
 
 add-at : tie.Need-add-at Inv-loop μ-loop
 add-at c = search needs

@@ -10,7 +10,7 @@ use Rattle.theory.specs.Search.{guessed}
 use Rattle.items.specs.Item.{narrow, maxFacts}
 use Rattle.tables.specs.Layout.{programIn}
 use Rattle.tables.proofs.ProgramHeld.{facts-below}
-use Rattle.search.proofs.Guesses.{guesses-counted, guesses-listed}
+use Rattle.search.proofs.Guesses.{guesses-counted, guesses-listed, taken-few}
 use borrow.Author.Needs.{needs}
 use Rattle.search.proofs.found.find_set.Statement.{statement}
 use Rattle.search.proofs.found.find_set.Tie as tie
@@ -37,7 +37,7 @@ slice-aggregate-earliest : tie.Need-slice-aggregate-earliest
 slice-aggregate-earliest c = sym (length-take-le _ _ (omega (arith, c .before .before .before .list-down .ensures .0, c .before .facts .given .0)))
 
 earliest-requires : tie.Need-earliest-requires
-earliest-requires c κs = (c .before .before .before .before .before .before .before .before .before .before .pre .0, listed (c .before .before .before .before), c .before .before .before .before .before .before .before .before .before .before .pre .2)
+earliest-requires c κs = (c .before .before .before .before .before .before .before .before .before .before .pre .0, listed (c .before .before .before .before), taken-few _ _ _ (c .before .before .before .before .list-down .ensures .0), c .before .before .before .before .before .before .before .before .before .before .pre .2)
 
 returns : tie.Need-returns
 returns c = search needs

@@ -5,7 +5,7 @@ use denote.Ref.{now}
 use Rattle.theory.specs.Rule.{inForce}
 use Rattle.theory.specs.Search as theory
 use Rattle.reader.specs.Questions.{programOf}
-use Rattle.earliest.specs.Branch.{Shown}
+use Rattle.earliest.specs.Root.{Shown}
 use Rattle.search.proofs.SearchAsked.{all-yes}
 use Rattle.search.proofs.Outcomes.{searched-none, searched-found}
 use borrow.Author.Needs.{needs}

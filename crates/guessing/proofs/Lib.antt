@@ -1,0 +1,9 @@
+pub mod PlacesAgree
+pub mod OutsListed
+pub mod GuessDerived
+pub mod ConflictRefutes
+pub mod GuessesTried
+pub mod BoundsNarrowed
+pub mod BoundsStored
+pub mod PathBits
+pub mod PathDescended

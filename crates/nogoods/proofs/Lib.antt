@@ -1,0 +1,2 @@
+pub mod MaskedBlocks
+pub mod PassedOver

@@ -1,0 +1,2 @@
+-- What only code and proofs use.
+pub mod Nogoods
