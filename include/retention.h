@@ -48,7 +48,7 @@
  *     than 1 KB, retention_check 31 KB, retention_layered 36 KB,
  *     retention_accept 60 KB, retention_better 68 KB, retention_grounds 69 KB,
  *     retention_judge 70 KB, retention_run 71 KB, retention_panel 108 KB,
- *     retention_search 138 KB.
+ *     retention_search 121 KB.
  *
  * Refusals
  *

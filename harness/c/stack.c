@@ -19,6 +19,7 @@ enum {
     MOST_OWN_ITEMS = 24,
     PAIRS = 16,
     UNREAD = 5,
+    LEAST = 9,
     /* no accepted file with so few unread facts is longer */
     MOST_BYTES = 2 + 2 * UNREAD + MOST_RULES * (2 + 2 * MOST_OWN_ITEMS) + 3
 };
@@ -29,7 +30,7 @@ static uint8_t fact_marks[MOST_FACTS], rule_marks[MOST_RULES], steps[4 * MOST_FA
 static uint8_t set[MOST_FACTS], text[8192], loaded[5 + 6 * MOST_RULES];
 static size_t file_len, order_len, proof_len;
 static uint32_t asked;
-static int cyclic;
+static int cyclic, unstable;
 static volatile uint32_t reply;
 
 static uint8_t *begin_file(void)
@@ -38,6 +39,7 @@ static uint8_t *begin_file(void)
     file[1] = MOST_FACTS;
     order_len = 0;
     cyclic = 0;
+    unstable = 0;
     return file + 2;
 }
 
@@ -196,6 +198,50 @@ static void make_refused(void)
     cyclic = 1;
 }
 
+static uint8_t *add_items(uint8_t *at, int conclusion, uint8_t kind, int fact, int premise)
+{
+    *at++ = 0x01;
+    *at++ = (uint8_t)conclusion;
+    *at++ = kind;
+    *at++ = (uint8_t)fact;
+    if (premise >= 0) {
+        *at++ = 0x02;
+        *at++ = (uint8_t)premise;
+    }
+    return at;
+}
+
+/* Of the first so many constraint facts at least so many are out. */
+static int out_of(int first, int least)
+{
+    return 2 * PAIRS + (first - 1) * LEAST + least - 1;
+}
+
+/* All constraint facts are derived where enough of them are out. There is no stable set, and
+   no few guesses tell it: the search looks through all the others in blocks. */
+static void make_threshold(void)
+{
+    uint8_t *at = begin_file();
+    int rules = 0;
+    for (int first = 1; first <= PAIRS; first++) {
+        int out = PAIRS + first - 1;
+        at = add_items(at, out, 0x03, first - 1, -1);
+        at = add_items(at, first - 1, 0x02, out_of(PAIRS, LEAST), -1);
+        rules += 2;
+        for (int least = 1; least <= LEAST && least <= first; least++) {
+            at = add_items(at, out_of(first, least), 0x02, out,
+                           least > 1 ? out_of(first - 1, least - 1) : -1);
+            rules++;
+            if (least < first) {
+                at = add_items(at, out_of(first, least), 0x02, out_of(first - 1, least), -1);
+                rules++;
+            }
+        }
+    }
+    end_file(at, rules);
+    unstable = 1;
+}
+
 static void *nothing(void *unused)
 {
     reply = 0;
@@ -233,11 +279,13 @@ static void *check(void *unused)
     return unused;
 }
 
+/* Where no set is stable it refuses, and with its own number. */
 static void *search(void *unused)
 {
-    reply = retention_search(file, file_len, fact_marks, sizeof fact_marks, rule_marks,
-                             sizeof rule_marks, steps, sizeof steps, found,
-                             sizeof found).refusal;
+    retention_counts counts = retention_search(file, file_len, fact_marks, sizeof fact_marks,
+                                               rule_marks, sizeof rule_marks, steps,
+                                               sizeof steps, found, sizeof found);
+    reply = unstable ? counts.refusal != 41 : counts.refusal;
     return unused;
 }
 
@@ -334,6 +382,7 @@ int main(void)
                             {"retention_judge", judge, 0},   {"retention_check", check, 0},
                             {"retention_search", search, 0}, {"retention_panel", panel, 0},
                             {"retention_grounds", grounds, 0}};
+    function *searches = &functions[4];
     function layers = {"retention_layered", layered, 0};
     function orders = {"retention_better", better, 0};
     function loads = {"retention_load", load, 0};
@@ -345,6 +394,8 @@ int main(void)
         measure(&layers, own);
         measure(&orders, own);
     }
+    make_threshold();
+    measure(searches, own);
     make_set_aside();
     measure(&orders, own);
     for (size_t f = 0; f < COUNT(layered_files); f++) {

@@ -26,7 +26,7 @@ use Rattle.lanes.specs.Lanes.{laneWords, laneCount, laneCells, laneIn, laneGues
 use Rattle.lanes.specs.Held.{BaseHeld, BlockHeld}
 use Rattle.guessing.specs.Guessing.{sureIn, RowBase, derivedBy, fitsAt, Derived}
 use Rattle.guessing.specs.First.{firstFit}
-use Rattle.blocks.specs.Find.{laneDerives, laneFits, LaneFound, Tried, Found}
+use Rattle.blocks.specs.Find.{laneDerives, laneFits, LaneFound, Tried, PassedTo, FoundBefore, Found}
 
 -- Beside the row every lane holds out what is held out at the base.
 pub record Beside (row base outs : List ℕ) : Type 0 where
@@ -46,23 +46,25 @@ guesses-of places l =
     let one : 1 * 2 ^ places ≡ 2 ^ places = omega arith in
     (mod-eq-of-lt (omega arith) ∙ one, few)
 
--- no guess before a block fits
-abbrev pub PassedTo : Program → List ℕ → List ℕ → ℕ → Type 0
-PassedTo P row base c = Passed (fitsAt P row base) 0 (c * laneCount)
-
 pub block-start : (P : Program) (row base : List ℕ) (from : ℕ) → Passed (fitsAt P row base) 0 from → PassedTo P row base (from / laneCount)
 block-start P row base from p x l h = p x l (omega arith)
 
-pub blocks-end : (P : Program) (row base found : List ℕ) (c end : ℕ) → length found ≡ maxFacts narrow → end ≤ c → 2 ^ length row ≤ end * laneCount → PassedTo P row base c → Found P row base false found
-blocks-end P row base found c end size l m p =
+-- no guess of the blocks before one fits
+pub none-before : (P : Program) (row base found : List ℕ) (c end : ℕ) → length found ≡ maxFacts narrow → end ≤ c → PassedTo P row base c → FoundBefore P row base end false found
+none-before P row base found c end size l p = record { places = size; one-fits = λ e. never e refl; none-fits = λ e x a h. p x a (omega arith) }
+
+-- What is found in the first part is what is found, ..
+pub found-first : {P : Program} {row base found : List ℕ} {end : ℕ} → FoundBefore P row base end true found → Found P row base true found
+found-first f = record { places = f .places; one-fits = f .one-fits; none-fits = λ e. never refl e }
+
+-- .. and so is what is found where the blocks have all guesses.
+pub found-in : {P : Program} {row base found : List ℕ} {end : ℕ} (t : Bool) → 2 ^ length row ≤ end * laneCount → FoundBefore P row base end t found → Found P row base t found
+found-in {P} {row} {base} {found} {end} t m f =
     record {
-      places = size;
-      one-fits = λ e. never e refl;
-      none-fits = λ e. hunt-none (fits P (inForce P)) row (sureIn P row base) (λ x h. p x (omega arith) (before x h));
+      places = f .places;
+      one-fits = f .one-fits;
+      none-fits = λ e. hunt-none (fits P (inForce P)) row (sureIn P row base) (λ x h. f .none-fits e x (omega arith) (omega arith));
     }
-  where
-    before : (x : ℕ) → x < 2 ^ length row → x < c * laneCount
-    before x h = omega arith
 
 module _ {P : Program} (bounded : Bounded P) (few : P .facts ≤ maxFacts narrow) {row base : List ℕ} (r : RowBase P row base) {before outs : List ℕ} {c : ℕ} (b : Beside row base before) (h : BlockHeld row c before outs) where
   -- A lane holds out what its guess leaves out.
@@ -147,8 +149,8 @@ module _ {P : Program} (bounded : Bounded P) (few : P .facts ≤ maxFacts narrow
         (λ n. in-block (λ y. fitsAt P row base y ≡ false) (λ w s a d. lane-fits w s a d ∙ t .none-fits refl w s a d) x (omega arith) u)
 
     -- The first lane that fits has the first guess that fits.
-    pub block-found : {found : List ℕ} → Tried P row outs true found → Found P row base true found
-    block-found {found} t = record { places = t .places; one-fits = λ e. (laneGuess c (f .word) (f .lane), first, derived); none-fits = λ e. never refl e }
+    pub block-found : {found : List ℕ} (end : ℕ) → Tried P row outs true found → FoundBefore P row base end true found
+    block-found {found} end t = record { places = t .places; one-fits = λ e. (laneGuess c (f .word) (f .lane), first, derived); none-fits = λ e. never refl e }
       where
         f : LaneFound P row outs found
         f = t .one-fits refl

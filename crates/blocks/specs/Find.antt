@@ -10,8 +10,9 @@ use Rattle.theory.specs.Check.{leastOf}
 use Rattle.theory.specs.Guesses.{guessAt, unlike}
 use Rattle.items.specs.Item.{narrow, maxFacts, has}
 use Rattle.bits.specs.Flags.{wordBits}
-use Rattle.lanes.specs.Lanes.{laneWords, laneIn}
-use Rattle.guessing.specs.Guessing.{sureIn, Derived}
+use Rattle.lanes.specs.Lanes.{laneWords, laneCount, laneIn}
+use Rattle.nogoods.specs.Nogoods.{Passed}
+use Rattle.guessing.specs.Guessing.{sureIn, fitsAt, Derived}
 use Rattle.guessing.specs.First.{firstFit}
 
 -- what a lane derives
@@ -37,6 +38,16 @@ pub record Tried (P : Program) (row outs : List ℕ) (answer : Bool) (found : Li
   pub places : length found ≡ maxFacts narrow
   pub one-fits : answer ≡ true → LaneFound P row outs found
   pub none-fits : answer ≡ false → (w t : ℕ) → w < laneWords → t < wordBits → laneFits P row outs w t ≡ false
+
+-- no guess before a block fits
+abbrev pub PassedTo : Program → List ℕ → List ℕ → ℕ → Type 0
+PassedTo P row base c = Passed (fitsAt P row base) 0 (c * laneCount)
+
+-- What looking through the blocks before one tells: the first guess that fits and what it derives, or that none of them does.
+pub record FoundBefore (P : Program) (row base : List ℕ) (end : ℕ) (answer : Bool) (found : List ℕ) : Type 0 where
+  pub places : length found ≡ maxFacts narrow
+  pub one-fits : answer ≡ true → (g : ℕ) × (firstFit P row base ≡ some (guessAt row (sureIn P row base) g)) × Derived P row base g found
+  pub none-fits : answer ≡ false → PassedTo P row base end
 
 -- What looking through the blocks tells: the first guess that fits and what it derives, or that none does.
 pub record Found (P : Program) (row base : List ℕ) (answer : Bool) (found : List ℕ) : Type 0 where

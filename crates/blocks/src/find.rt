@@ -13,7 +13,7 @@ ghost use Rattle.nogoods.specs.Nogoods.{guesses, Passed};
 ghost use Rattle.lanes.specs.Lanes.{laneCount, blocks};
 ghost use Rattle.guessing.specs.Guessing.{RowBase, fitsAt};
 ghost use Rattle.blocks.specs.Order.{InOrder};
-ghost use Rattle.blocks.specs.Find.{Tried, Found};
+ghost use Rattle.blocks.specs.Find.{Tried, PassedTo, FoundBefore, Found};
 use crate::order::order_rules;
 use crate::settle::settle;
 use bits::matrix::MATRIX_WORDS;
@@ -65,7 +65,40 @@ fn count_blocks(places: usize) -> usize
     ((1usize << places) + (LANES - 1)) / LANES
 }
 
-// Looks from a guess on for the first that fits, and marks what it derives. Is there one? No guess before it fits.
+// Looks in the blocks from one up to another for the first guess that fits, and marks what it derives. Is there one? No guess before these blocks fits.
+fn find_between(
+    tables: &[u16; TABLE_CELLS],
+    row: &[u16],
+    base: &[u8; LITERALS],
+    begin: usize,
+    end: usize,
+    found: &mut [u8; MAX_FACTS],
+) -> bool
+    requires { ⌜ WellFormed (now tables) × RowBase (programIn (now tables)) (now row) (now base) ⌝ }
+    requires { ⌜ (end ≤ blocks) × PassedTo (programIn (now tables)) (now row) (now base) begin × (length (now found) ≡ maxFacts narrow) ⌝ }
+    ensures { λ r. ⌜ FoundBefore (programIn (now (tables .entry))) (now (row .entry)) (now (base .entry)) end r (now (found .exit)) ⌝ }
+{
+    let mut order = [0u16; MAX_RULES];
+    let names = order_rules(tables, &mut order);
+    let mut asks = [0u64; MATRIX_WORDS];
+    let mut missing = [0u16; MAX_RULES];
+    let mut awake = [0u64; ROW_WORDS];
+    index_row(tables, &order, names, &mut asks, &mut missing, &mut awake);
+    let mut outs = [0u64; LANE_CELLS];
+    hold_base(base, &mut outs);
+    let mut block = begin;
+    while block < end {
+        hold_block(row, block, &mut outs);
+        if try_block(tables, row, &order, names, &asks, &awake, &outs, found) {
+            return true;
+        }
+        block += 1;
+    }
+    false
+}
+
+// Looks from a guess on for the first that fits, and marks what it derives. Is there one? No guess before it fits. The blocks are looked through in two parts:
+// the compiler puts a function that is called once into its caller's frame, and the words would still take their place there while the run works.
 pub fn find(
     tables: &[u16; TABLE_CELLS],
     row: &[u16],
@@ -77,22 +110,11 @@ pub fn find(
     requires { ⌜ (from ≤ guesses) × Passed (fitsAt (programIn (now tables)) (now row) (now base)) 0 from × (length (now found) ≡ maxFacts narrow) ⌝ }
     ensures { λ r. ⌜ Found (programIn (now (tables .entry))) (now (row .entry)) (now (base .entry)) r (now (found .exit)) ⌝ }
 {
-    let mut order = [0u16; MAX_RULES];
-    let names = order_rules(tables, &mut order);
-    let mut asks = [0u64; MATRIX_WORDS];
-    let mut missing = [0u16; MAX_RULES];
-    let mut awake = [0u64; ROW_WORDS];
-    index_row(tables, &order, names, &mut asks, &mut missing, &mut awake);
-    let mut outs = [0u64; LANE_CELLS];
-    hold_base(base, &mut outs);
     let end = count_blocks(row.len());
-    let mut block = from as usize / LANES;
-    while block < end {
-        hold_block(row, block, &mut outs);
-        if try_block(tables, row, &order, names, &asks, &awake, &outs, found) {
-            return true;
-        }
-        block += 1;
+    let begin = from as usize / LANES;
+    let middle = (begin + end) / 2;
+    if find_between(tables, row, base, begin, middle, found) {
+        return true;
     }
-    false
+    find_between(tables, row, base, middle, end, found)
 }

@@ -1,11 +1,10 @@
 -- What a conflict refutes beside its guess.
-use Prim.Native.Nat.{ℕ, _-_, _<_}
+use Prim.Native.Nat.{ℕ, _<_}
 use native.Mathlib.Omega.{arith}
 use mathlib.Core.Path.{_≡_, refl, sym, ap, _∙_}
 use mathlib.Core.Bool.{Bool, true, false, not, _&&_, Bool·beq}
 use mathlib.Core.List.{List}
 use lib.Bits.{bitXor}
-use lib.ListN.{length, getD}
 use Rattle.theory.specs.Rule.{Program, inForce, upTo}
 use Rattle.theory.specs.Guesses.{bit, unlike}
 use Rattle.theory.proofs.Bools.{never}
@@ -14,8 +13,9 @@ use Rattle.theory.proofs.NumberBits.{bit-and, bit-xor, bit-zero}
 use Rattle.theory.proofs.Guesses.{refutes-within, refutes-above}
 use Rattle.items.specs.Item.{maxGuessed}
 use Rattle.nogoods.specs.Nogoods.{guesses, Refutes}
-use Rattle.guessing.specs.Guessing.{Base, sureIn, derivedBy, fitsAt, Conflict}
-use Rattle.guessing.proofs.PlacesAgree.{beq-false, place-fact}
+use Rattle.guessing.specs.Guessing.{Base, sureIn, fitsAt, Conflict}
+use Rattle.guessing.specs.Bounds.{Responds}
+use Rattle.guessing.proofs.PlacesAgree.{beq-false}
 
 -- the number that the code takes for every place has the bit of each
 every-place : (i : ℕ) → i < maxGuessed → bit 65535 i ≡ true
@@ -50,11 +50,11 @@ module _ {P : Program} {R row base missing : List ℕ} (b : Base P R row base mi
       no-other true false e t = never refl e
       no-other false false e t = t
 
-  -- The conflict stays under another guess where the code finds the fact derived unlike its bit.
-  pub stays : {s j : ℕ} → Conflict P row base s j → (r : ℕ) → r < guesses → (d q : Bool) → d ≡ derivedBy P row base r (getD row (length row - 1 - j) 0) → q ≡ bit r j → Bool·beq d q ≡ false → Conflict P row base r j
-  stays {s} {j} w r small d q derived found e =
+  -- The conflict stays under another guess whose response differs from it there.
+  pub stays : {s j : ℕ} → Conflict P row base s j → (r : ℕ) → r < guesses → (n : ℕ) → Responds P row base r n → (d q : Bool) → d ≡ bit n j → q ≡ bit r j → Bool·beq d q ≡ false → Conflict P row base r j
+  stays {s} {j} w r small n response d q derived found e =
       record {
         small = small;
         inside = w .inside;
-        apart = ap (derivedBy P row base r) (sym (place-fact row j)) ∙ sym derived ∙ beq-false d q e ∙ ap not found;
+        apart = sym (response .bits j (w .inside)) ∙ sym derived ∙ beq-false d q e ∙ ap not found;
       }

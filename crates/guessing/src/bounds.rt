@@ -46,7 +46,7 @@ fn gather(row: &[u16], marks: &[u8; LITERALS]) -> u32
 }
 
 // The facts of the row that a guess derives, as a number.
-fn respond(
+pub fn respond(
     tables: &[u16; TABLE_CELLS],
     index: &[u64; INDEX_WORDS],
     row: &[u16],

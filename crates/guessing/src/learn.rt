@@ -5,7 +5,7 @@ ghost use Rattle.tables.specs.Layout.{programIn};
 ghost use Rattle.propagation.specs.State.{Ready};
 ghost use Rattle.nogoods.specs.Nogoods.{Refutes};
 ghost use Rattle.guessing.specs.Guessing.{Base, fitsAt, Conflict};
-use crate::propagate::derives;
+use crate::bounds::respond;
 use index::cells::INDEX_WORDS;
 use index::cells::LITERALS;
 use items::item::MAX_RULES;
@@ -41,8 +41,8 @@ fn turn_over(
         return guess;
     }
     let other = turn_bit(guess, place);
-    let fact = row[row.len() - 1 - conflict] as usize;
-    if derives(tables, index, row, base, missing, other, fact) == has_bit(other, conflict) {
+    let derived = respond(tables, index, row, base, missing, other);
+    if has_bit(derived, conflict) == has_bit(other, conflict) {
         return guess;
     }
     other

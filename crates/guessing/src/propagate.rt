@@ -1,12 +1,12 @@
 // What a guess derives. Internal.
-ghost use Prim.Native.Nat.{_<_, _≤_};
+ghost use Prim.Native.Nat.{_≤_};
 ghost use mathlib.Core.Path.{_≡_};
 ghost use lib.ListN.{length, take};
 ghost use Rattle.theory.specs.Guesses.{leftOut};
-ghost use Rattle.items.specs.Item.{narrow, maxFacts, maxGuessed};
+ghost use Rattle.items.specs.Item.{maxGuessed};
 ghost use Rattle.tables.specs.Layout.{programIn};
 ghost use Rattle.propagation.specs.State.{Ready};
-ghost use Rattle.guessing.specs.Guessing.{Base, derivedBy, Derived};
+ghost use Rattle.guessing.specs.Guessing.{Base, Derived};
 use index::cells::INDEX_WORDS;
 use index::cells::LITERALS;
 use items::item::MAX_RULES;
@@ -55,24 +55,4 @@ pub fn derive_guess(
     let mut left = *missing;
     *marks = *base;
     hold_out(tables, index, &facts[..n], 0, n, marks, &mut left);
-}
-
-// Does a guess derive a fact?
-pub fn derives(
-    tables: &[u16; TABLE_CELLS],
-    index: &[u64; INDEX_WORDS],
-    row: &[u16],
-    base: &[u8; LITERALS],
-    missing: &[u16; MAX_RULES],
-    guess: u32,
-    fact: usize,
-) -> bool
-    requires { ⌜ Ready (now tables) (now index) ⌝ }
-    requires { ⌜ Base (programIn (now tables)) (now index) (now row) (now base) (now missing) ⌝ }
-    requires { ⌜ fact < maxFacts narrow ⌝ }
-    ensures { λ r. ⌜ r ≡ derivedBy (programIn (now (tables .entry))) (now (row .entry)) (now (base .entry)) guess fact ⌝ }
-{
-    let mut marks = [0u8; LITERALS];
-    derive_guess(tables, index, row, base, missing, guess, &mut marks);
-    marks[fact] == 1
 }

@@ -20,7 +20,8 @@ use run::answer::Ran;
 use tables::layout::TABLE_CELLS;
 use tables::layout::facts_of;
 
-// Writes the order for a set, and runs the file under it. The order gets yes to its questions, so the run refuses nothing.
+// Writes the order for a set, and runs the program in the tables under it. The order gets yes to its questions, so the run refuses nothing. The file is not
+// read again: only the contract speaks of it.
 fn run_to(
     file: &[u8],
     tables: &[u16; TABLE_CELLS],
@@ -35,7 +36,7 @@ fn run_to(
     ensures { λ r. ⌜ _≡_ {A = SearchOutcome} (record { answer = r; fact-marks = now («fact_marks» .exit); rule-marks = now («rule_marks» .exit); steps = now (steps .exit); order = now (order .exit) }) (foundAt (programOf (now (file .entry))) (has (now (set .entry))) (now («fact_marks» .entry)) (now («rule_marks» .entry)) (now (steps .entry)) (now (order .entry))) ⌝ }
 {
     let length = orders::written::write_order(tables, set, order);
-    match run::run(file, &order[..length], fact_marks, rule_marks, steps) {
+    match run::stages::run_tabled(tables, &order[..length], fact_marks, rule_marks, steps) {
         Ran::Done {
             stages,
             steps: taken,

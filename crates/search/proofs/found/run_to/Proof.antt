@@ -1,6 +1,6 @@
 -- `run_to`: the order gets yes, so the run ends, and what it leaves is what the search leaves.
 use Prim.Native.Nat.{_≤_}
-use mathlib.Core.Path.{_≡_, sym}
+use mathlib.Core.Path.{_≡_, sym, _∙_}
 use lib.ListN.{length}
 use lib.Seq.{length-take-le}
 use denote.Ref.{now}
@@ -10,8 +10,9 @@ use Rattle.items.specs.Item.{has}
 use Rattle.items.specs.Write.{over}
 use Rattle.reader.specs.Questions.{programOf}
 use Rattle.questions.specs.Questions.{naming}
+use Rattle.run.proofs.RunAsked.{run-there}
 use Rattle.search.proofs.SearchAsked.{AllYesses, all-yes}
-use Rattle.search.proofs.RunUnder.{front-inside, not-refused, found-there}
+use Rattle.search.proofs.RunUnder.{front-inside, may-run-to, not-refused, found-there}
 use borrow.Author.Needs.{needs}
 use Rattle.search.proofs.found.run_to.Statement.{statement}
 use Rattle.search.proofs.found.run_to.Tie as tie
@@ -31,14 +32,16 @@ inside c = front-inside (naming (orderFor (programOf (now (c .before .before .be
 write-order-requires : tie.Need-write-order-requires
 write-order-requires c κs = (c .before .before .before .before .before .before .pre .1 .well-formed, rw (c .before .before .before .before .before .before .pre .1 .program) (yesses (c .before .before .before .before .before .before) .order-fits))
 
-slice-reshare-prefix-run : tie.Need-slice-reshare-prefix-run
-slice-reshare-prefix-run c = inside (c .before .before)
+slice-reshare-prefix-run-tabled : tie.Need-slice-reshare-prefix-run-tabled
+slice-reshare-prefix-run-tabled c = inside (c .before .before)
 
-slice-aggregate-run : tie.Need-slice-aggregate-run
-slice-aggregate-run c = sym (length-take-le _ _ (inside (c .before .before .before)))
+slice-aggregate-run-tabled : tie.Need-slice-aggregate-run-tabled
+slice-aggregate-run-tabled c = sym (length-take-le _ _ (inside (c .before .before .before)))
 
-run-requires : tie.Need-run-requires
-run-requires c κs = search needs
+run-tabled-requires : tie.Need-run-tabled-requires
+run-tabled-requires c κs =
+    let s = c .before .before .before .before .before .before .before .before .before .before .before .before .before in
+    (s .pre .1 .well-formed, may-run-to _ (now (s .args .fact-marks)) (now (s .args .rule-marks)) (now (s .args .steps)) _ (yesses s) _ _ _ (order-is (c .before .before .before .before .before .before)) (s .pre .1))
 
 enum-known-stages : tie.Need-enum-known-stages
 enum-known-stages c = search needs
@@ -59,7 +62,7 @@ same-length-4 : tie.Need-same-length-4
 same-length-4 c = search needs
 
 returns : tie.Need-returns
-returns c = found-there _ _ _ _ _ (yesses (c .before .before .before .before .before .before .before .before .before .before .before .before .before .before .before .before .before .before .before .before .before .before .before)) _ _ _ (order-is (c .before .before .before .before .before .before .before .before .before .before .before .before .before .before .before .before)) _ _ _ _ (c .before .before .before .before .before .before .before .before .before .run .ensures .0) _ _ (c .before .stages .given .1)
+returns c = found-there _ _ _ _ _ (yesses (c .before .before .before .before .before .before .before .before .before .before .before .before .before .before .before .before .before .before .before .before .before .before .before)) _ _ _ (order-is (c .before .before .before .before .before .before .before .before .before .before .before .before .before .before .before .before)) _ _ _ _ (c .before .before .before .before .before .before .before .before .before .run-tabled .ensures ∙ run-there (c .before .before .before .before .before .before .before .before .before .before .before .before .before .before .before .before .before .before .before .before .before .before .before .pre .1) _ _ _ _) _ _ (c .before .stages .given .1)
 
 same-length-5 : tie.Need-same-length-5
 same-length-5 c = search needs
@@ -74,16 +77,16 @@ same-length-8 : tie.Need-same-length-8
 same-length-8 c = search needs
 
 returns-2 : tie.Need-returns-2
-returns-2 c = absurd (not-refused _ _ _ _ _ (yesses (c .before .before .before .before .before .before .before .before .before .before .before .before .before .before .before .before .before .before .before .before .before .before .before)) _ _ _ (order-is (c .before .before .before .before .before .before .before .before .before .before .before .before .before .before .before .before)) _ _ _ _ (c .before .before .before .before .before .before .before .before .before .run .ensures .0) _ (c .before .r .given .1))
+returns-2 c = absurd (not-refused _ _ _ _ _ (yesses (c .before .before .before .before .before .before .before .before .before .before .before .before .before .before .before .before .before .before .before .before .before .before .before)) _ _ _ (order-is (c .before .before .before .before .before .before .before .before .before .before .before .before .before .before .before .before)) _ _ _ _ (c .before .before .before .before .before .before .before .before .before .run-tabled .ensures ∙ run-there (c .before .before .before .before .before .before .before .before .before .before .before .before .before .before .before .before .before .before .before .before .before .before .before .pre .1) _ _ _ _) _ (c .before .r .given .1))
 
 pub run-to-spec : {M : Type 1} → statement M
 run-to-spec =
     tie.close
     (tie.spec
     write-order-requires
-    slice-reshare-prefix-run
-    slice-aggregate-run
-    run-requires
+    slice-reshare-prefix-run-tabled
+    slice-aggregate-run-tabled
+    run-tabled-requires
     enum-known-stages
     enum-known-r
     same-length
