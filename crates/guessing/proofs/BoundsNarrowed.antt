@@ -3,26 +3,27 @@ use Prim.Native.Nat.{ℕ, suc, _+_, _*_, _-_, _/_, _%_, _^_, _<_, _≤_}
 use native.Mathlib.Nat.{pow-suc}
 use native.Mathlib.Omega.{arith}
 use mathlib.Core.Path.{_≡_, refl, sym, ap, subst, _∙_}
-use mathlib.Core.Bool.{Bool, true, false, not}
+use mathlib.Core.Bool.{Bool, true, false, not, _&&_}
 use mathlib.Core.List.{List}
-use mathlib.Core.Logic.{by-cases}
+use mathlib.Core.Logic.{by-cases, ⊎-elim}
 use native.Mathlib.Decide.{ℕ-discrete}
-use borrow.Author.Tests.{ne-eqb}
+use borrow.Author.Tests.{eq-eqb, ne-eqb}
+use lib.Bits.{bitAnd, bitXor}
 use lib.Dec.{eqb, ltb}
 use lib.ListN.{length, getD}
 use lib.Pow.{pow-mono}
 use Rattle.theory.proofs.Lists.{element-below}
 use Rattle.theory.specs.Rule.{all, Program, Sub, inForce}
 use Rattle.theory.specs.Search.{fits}
-use Rattle.theory.specs.Guesses.{bit, factAt, guessAt}
-use Rattle.theory.proofs.Bools.{never}
-use Rattle.theory.proofs.NumberBits.{bit-zero}
+use Rattle.theory.specs.Guesses.{bit, unlike, factAt, guessAt}
+use Rattle.theory.proofs.Bools.{either, never}
+use Rattle.theory.proofs.NumberBits.{bit-and, bit-xor, bit-zero}
 use Rattle.theory.proofs.Stable.{least-anti}
 use Rattle.theory.proofs.Guesses.{guess-mono, fits-apart}
 use Rattle.items.specs.Item.{narrow, maxFacts, maxGuessed, has}
-use Rattle.nogoods.specs.Nogoods.{guesses}
 use Rattle.guessing.specs.Guessing.{sureIn, RowBase, derivedBy, fitsAt, Derived}
-use Rattle.guessing.specs.Bounds.{Gathered, Responds, Between}
+use Rattle.guessing.specs.Bounds.{Gathered, Responds, Between, EndsRefuted}
+use Rattle.guessing.proofs.PathBits.{same-bits}
 
 -- The first n facts of the row are gathered, the first as the highest bit.
 pub record Gathering (row marks : List ℕ) (number n : ℕ) : Type 0 where
@@ -60,11 +61,11 @@ module _ {row marks : List ℕ} {number n : ℕ} (w : Gathering row marks number
       let z : 2 * number + 0 ≡ 2 * number = omega arith in
       subst (λ (m : ℕ). Gathering row marks m (n + 1)) z (gather-bit l 0 (omega arith) (ap (λ (m : ℕ). eqb m 1) o ∙ sym (ne-eqb _ 1 ne)))
 
-  pub all-gathered : length row ≤ n → length row ≤ maxGuessed → Gathered row marks number
-  all-gathered l few =
+  pub all-gathered : length row ≤ n → Gathered row marks number
+  all-gathered l =
       let is : n ≡ length row = omega (arith, w .inside) in
       record {
-        small = let m : 2 ^ n ≤ guesses = pow-mono {i = n} {j = 16} (omega arith) in omega (arith, w .small);
+        small = subst (λ (m : ℕ). number < 2 ^ m) is (w .small);
         bits = λ j h. let e : n - suc (length row - suc j) ≡ j = omega arith in sym (ap (bit number) e) ∙ w .bits (length row - suc j) (omega arith);
       }
 
@@ -76,6 +77,10 @@ module _ {row marks : List ℕ} {number n : ℕ} (w : Gathering row marks number
 pub gathered-responds : {P : Program} {row base marks : List ℕ} {g number : ℕ} → all (λ k. ltb k (maxFacts narrow)) row ≡ true → Derived P row base g marks → Gathered row marks number → Responds P row base g number
 gathered-responds {row = row} small d w =
     record { small = w .small; bits = λ j l. w .bits j l ∙ d (factAt row j) (element-below (maxFacts narrow) row (length row - suc j) small (omega arith)) }
+
+-- So the marks of the guess of no fact do.
+pub none-responds : {P : Program} {row base marks : List ℕ} {g number : ℕ} → all (λ k. ltb k (maxFacts narrow)) row ≡ true → g ≤ 0 → Derived P row base g marks → Gathered row marks number → Responds P row base 0 number
+none-responds {P} {row} {base} {marks} small z d w = gathered-responds small (subst (λ (n : ℕ). Derived P row base n marks) (omega arith) d) w
 
 -- Bounds.
 module _ {P : Program} {row base : List ℕ} (r : RowBase P row base) where
@@ -96,20 +101,26 @@ module _ {P : Program} {row base : List ℕ} (r : RowBase P row base) where
   pub first-between : (most : ℕ) → Responds P row base 0 most → Between P row base 0 most
   first-between most a =
       record {
-        low-small = omega arith;
-        high-small = a .small;
         bits = record {
           has-low = λ x j f l t. never t (bit-zero j);
           in-high = λ x j f l t. a .bits j l ∙ falls 0 x (λ i m u. never u (bit-zero i)) (factAt row j) (fits-bit x j f l ∙ t);
         };
       }
 
+  -- A guess that fits is what a number with its bits derives.
+  fits-itself : (x s r : ℕ) → fitsAt P row base x ≡ true → ((j : ℕ) → j < length row → bit x j ≡ bit s j) → Responds P row base s r → (j : ℕ) → j < length row → bit r j ≡ bit s j
+  fits-itself x s r f agree a j l = a .bits j l ∙ go (derivedBy P row base s (factAt row j)) refl (derivedBy P row base x (factAt row j)) refl ∙ fits-bit x j f l ∙ agree j l
+    where
+      go : (p : Bool) → derivedBy P row base s (factAt row j) ≡ p → (q : Bool) → derivedBy P row base x (factAt row j) ≡ q → p ≡ q
+      go true d true e = refl
+      go false d false e = refl
+      go true d false e = never (falls x s (λ i m u. sym (agree i m) ∙ u) (factAt row j) d) e
+      go false d true e = never (falls s x (λ i m u. agree i m ∙ u) (factAt row j) e) d
+
   module _ {low high : ℕ} (b : Between P row base low high) where
     pub low-raised : (next : ℕ) → Responds P row base high next → Between P row base next high
     low-raised next a =
         record {
-          low-small = a .small;
-          high-small = b .high-small;
           bits = record {
             has-low = λ x j f l t. sym (fits-bit x j f l) ∙ falls x high (λ i m u. b .bits .in-high x i f m u) (factAt row j) (sym (a .bits j l) ∙ t);
             in-high = b .bits .in-high;
@@ -119,10 +130,43 @@ module _ {P : Program} {row base : List ℕ} (r : RowBase P row base) where
     pub high-lowered : (next : ℕ) → Responds P row base low next → Between P row base low next
     high-lowered next a =
         record {
-          low-small = b .low-small;
-          high-small = a .small;
           bits = record {
             has-low = b .bits .has-low;
             in-high = λ x j f l t. a .bits j l ∙ falls low x (λ i m u. b .bits .has-low x i f m u) (factAt row j) (fits-bit x j f l ∙ t);
           };
         }
+
+    -- Where each of the bounds derives the other and they differ, a guess that had the bits of one would not derive itself.
+    pub ends-refuted : Responds P row base low high → Responds P row base high low → (low ≡ high → ⊥) → EndsRefuted (fitsAt P row base) low high
+    ends-refuted up down differ =
+        record {
+          low-fails = λ x s e. ⊎-elim (λ f. absurd (differ (sym (same-bits (length row) high low (up .small) (down .small) (fits-itself x low high f (is-low x e f) up))))) (λ n. n) (either (fitsAt P row base x));
+          high-fails = λ x s e. ⊎-elim (λ f. absurd (differ (same-bits (length row) low high (down .small) (up .small) (fits-itself x high low f (is-high x e f) down)))) (λ n. n) (either (fitsAt P row base x));
+        }
+      where
+        at-low : (x l h : Bool) → x && unlike l h ≡ false → (l ≡ true → x ≡ true) → (x ≡ true → h ≡ true) → x ≡ l
+        at-low true true h e p q = refl
+        at-low false false h e p q = refl
+        at-low false true h e p q = p refl
+        at-low true false true e p q = e
+        at-low true false false e p q = sym (q refl)
+
+        at-high : (x l h : Bool) → x && unlike l h ≡ unlike l h → (l ≡ true → x ≡ true) → (x ≡ true → h ≡ true) → x ≡ h
+        at-high true l true e p q = refl
+        at-high false l false e p q = refl
+        at-high true l false e p q = sym (q refl)
+        at-high false true true e p q = p refl
+        at-high false false true e p q = e
+
+        masked : (x j : ℕ) → bit (bitAnd x (bitXor low high)) j ≡ bit x j && unlike (bit low j) (bit high j)
+        masked x j = bit-and j x (bitXor low high) ∙ ap (λ (p : Bool). bit x j && p) (bit-xor j low high)
+
+        is-low : (x : ℕ) → bitAnd x (bitXor low high) ≡ 0 → fitsAt P row base x ≡ true → (j : ℕ) → j < length row → bit x j ≡ bit low j
+        is-low x e f j l = at-low (bit x j) (bit low j) (bit high j) (sym (masked x j) ∙ ap (λ (n : ℕ). bit n j) e ∙ bit-zero j) (b .bits .has-low x j f l) (b .bits .in-high x j f l)
+
+        is-high : (x : ℕ) → bitAnd x (bitXor low high) ≡ bitXor low high → fitsAt P row base x ≡ true → (j : ℕ) → j < length row → bit x j ≡ bit high j
+        is-high x e f j l = at-high (bit x j) (bit low j) (bit high j) (sym (masked x j) ∙ ap (λ (n : ℕ). bit n j) e ∙ bit-xor j low high) (b .bits .has-low x j f l) (b .bits .in-high x j f l)
+
+    pub ends-apart : (least most : ℕ) → Responds P row base low most → Responds P row base high least → least ≡ low → most ≡ high → not (eqb low high) ≡ true → EndsRefuted (fitsAt P row base) low high
+    ends-apart least most up down is top t =
+        ends-refuted (subst (λ (n : ℕ). Responds P row base low n) top up) (subst (λ (n : ℕ). Responds P row base high n) is down) (λ e. never t (ap not (eq-eqb low high e)))

@@ -20,6 +20,7 @@ use Rattle.nogoods.specs.Nogoods.{guesses, mostKept, Passed, Refutes, Stored}
 use Rattle.guessing.specs.Guessing.{Base, sureIn, fitsAt, Derived, Conflict}
 use Rattle.guessing.specs.Compared.{Compares}
 use Rattle.guessing.specs.First.{Tells, Sought}
+use Rattle.guessing.specs.Descended.{Descended}
 use Rattle.guessing.specs.declared.compared.Compared as compared
 use Rattle.guessing.specs.declared.compared.Compared.the-variants.{Same, Apart}
 use Rattle.guessing.specs.declared.first.First.the-variants.{Fits, Nothing, Open}
@@ -43,8 +44,8 @@ end-below n l = pow-mono {i = n} {j = 16} l
 
 module _ (pass : ℕ → Bool) where
   -- some nogoods are stored, and no guess before the one to begin with fits
-  pub begins : (masks values : List ℕ) (kept guess : ℕ) → kept ≤ maxGuessed → length masks ≡ mostKept → length values ≡ mostKept → Stored pass masks values kept → guess ≤ guesses → Passed pass 0 guess → Trying pass masks values kept guess
-  begins masks values kept guess l m v s g p = record { room = omega arith; below = g; mask-places = m; value-places = v; stored = s; passed = p }
+  pub begins : (masks values : List ℕ) (kept guess : ℕ) → kept ≤ mostKept → length masks ≡ mostKept → length values ≡ mostKept → Stored pass masks values kept → guess ≤ guesses → Passed pass 0 guess → Trying pass masks values kept guess
+  begins masks values kept guess l m v s g p = record { room = l; below = g; mask-places = m; value-places = v; stored = s; passed = p }
 
   module _ {masks values : List ℕ} {kept guess : ℕ} (w : Trying pass masks values kept guess) where
     pub go-on : (r : ℕ) → r ≤ guesses → Passed pass guess r → Trying pass masks values kept r
@@ -63,6 +64,10 @@ module _ (pass : ℕ → Bool) where
           stored = one-stored pass masks values kept m v (omega arith) (omega arith) (w .stored) refutes;
           passed = λ x a q. by-cases (ℕ-discrete x guess) (λ is. subst (λ (n : ℕ). pass n ≡ false) (sym is) e) (λ n. w .passed x a (omega arith));
         }
+
+-- A guess whose marks are there already.
+pub stays : {P : Program} {row base marks : List ℕ} {guess : ℕ} → guess < 2 ^ length row → Derived P row base guess marks → Descended P row base guess guess marks
+stays l d = record { onward = omega arith; inside = l; passed = λ x a m. absurd (omega arith); derived = d }
 
 module _ {P : Program} {R row base missing : List ℕ} (b : Base P R row base missing) where
   -- What the comparison with what a guess derives tells of the guess.

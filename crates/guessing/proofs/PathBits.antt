@@ -1,16 +1,17 @@
--- A number whose lowest bits are all set, the highest of these turned out, and the numbers between.
-use Prim.Native.Nat.{ℕ, suc, _+_, _*_, _-_, _/_, _%_, _^_, _<_, _≤_}
+-- A number whose lowest bits are all set, the highest of these turned out, and the numbers between; numbers with the same bits.
+use Prim.Native.Nat.{ℕ, zero, suc, _+_, _*_, _-_, _/_, _%_, _^_, _<_, _≤_}
 use native.Mathlib.Decide.{decLt}
 use native.Mathlib.Nat.{add-mul, one-mul, mul-assoc, mul-comm, pow-suc}
 use native.Mathlib.Omega.{arith}
 use mathlib.Core.Path.{_≡_, sym, ap, _∙_}
 use mathlib.Core.Bool.{true, false}
-use mathlib.Core.Logic.{by-cases}
+use mathlib.Core.Logic.{by-cases, _⊎_, inl, inr}
 use lib.Arith.{digits-mod}
 use lib.Dec.{eqb}
 use lib.Pow.{pow-pos, split}
 use Rattle.theory.specs.Guesses.{bit}
-use Rattle.theory.proofs.NumberBits.{bit-above, bit-below, bit-ones}
+use Rattle.theory.proofs.Bools.{never}
+use Rattle.theory.proofs.NumberBits.{digit-cases, bit-above, bit-below, bit-ones}
 
 -- where the lowest bits are all set, each is
 pub low-set : (p X j : ℕ) → X % 2 ^ p ≡ 2 ^ p - 1 → j < p → bit X j ≡ true
@@ -125,3 +126,21 @@ module _ (q X : ℕ) (top : X % 2 ^ suc q ≡ 2 ^ suc q - 1) where
             ∙ above-here X (d * 2 + 1) (B - 1) (j - suc q) in-form (omega (arith, B-pos)) in-half
             ∙ sym (above-here y (d * 2) rest (j - suc q) form rest-small out-half)
             ∙ ap (bit y) e ∙ t
+
+-- Numbers with the same bits are the same.
+pub same-bits : (k x y : ℕ) → x < 2 ^ k → y < 2 ^ k → ((j : ℕ) → j < k → bit x j ≡ bit y j) → x ≡ y
+same-bits zero x y a b e = omega arith
+same-bits (suc k) x y a b e =
+    let p : 2 ^ suc k ≡ 2 ^ k * 2 = pow-suc 2 k in
+    let halves : x / 2 ≡ y / 2 = same-bits k (x / 2) (y / 2) (omega arith) (omega arith) (λ j l. e (suc j) (omega arith)) in
+    let odd : x % 2 ≡ y % 2 = same-digit (x % 2) (y % 2) (omega arith) (omega arith) (e 0 (omega arith)) in
+    omega arith
+  where
+    same-digit : (c d : ℕ) → c < 2 → d < 2 → eqb c 1 ≡ eqb d 1 → c ≡ d
+    same-digit c d l m h = go (digit-cases c l) (digit-cases d m)
+      where
+        go : (c ≡ 0) ⊎ (c ≡ 1) → (d ≡ 0) ⊎ (d ≡ 1) → c ≡ d
+        go (inl p) (inl q) = p ∙ sym q
+        go (inr p) (inr q) = p ∙ sym q
+        go (inl p) (inr q) = never (ap (λ (n : ℕ). eqb n 1) q) (sym h ∙ ap (λ (n : ℕ). eqb n 1) p)
+        go (inr p) (inl q) = never (ap (λ (n : ℕ). eqb n 1) p) (h ∙ ap (λ (n : ℕ). eqb n 1) q)

@@ -1,13 +1,16 @@
 // The first guess that fits, as far as the nogoods that are kept decide it. Internal.
-ghost use Prim.Native.Nat.{_≤_};
+ghost use mathlib.Core.Path.{_≡_};
+ghost use mathlib.Core.Bool.{true};
 ghost use Rattle.tables.specs.Layout.{programIn};
 ghost use Rattle.propagation.specs.State.{Ready};
-ghost use Rattle.nogoods.specs.Nogoods.{guesses, Passed};
 ghost use Rattle.guessing.specs.Guessing.{Base, fitsAt};
-ghost use Rattle.guessing.specs.Bounds.{Between};
+ghost use Rattle.guessing.specs.Bounds.{Between, EndsRefuted};
 ghost use Rattle.guessing.specs.First.{Sought};
+ghost use Rattle.guessing.specs.Descended.{Descended};
 use crate::bounds::Bounds;
+use crate::bounds::gather;
 use crate::bounds::narrow_bounds;
+use crate::bounds::respond;
 use crate::bounds::store_bounds;
 use crate::compared::Compared;
 use crate::compared::compare;
@@ -42,21 +45,26 @@ fn search_between(
     requires { ⌜ Ready (now tables) (now index) ⌝ }
     requires { ⌜ Base (programIn (now tables)) (now index) (now row) (now base) (now missing) ⌝ }
     requires { ⌜ Between (programIn (now tables)) (now row) (now base) (bounds .low) (bounds .high) ⌝ }
-    requires { ⌜ (from ≤ guesses) × Passed (fitsAt (programIn (now tables)) (now row) (now base)) 0 from ⌝ }
+    requires { ⌜ (bounds .apart ≡ true → EndsRefuted (fitsAt (programIn (now tables)) (now row) (now base)) (bounds .low) (bounds .high)) ⌝ }
+    requires { ⌜ Descended (programIn (now tables)) (now row) (now base) 0 from (now marks) ⌝ }
     ensures { λ r. ⌜ Sought (programIn (now (tables .entry))) (now (row .entry)) (now (base .entry)) r (now (marks .exit)) ⌝ }
 {
     let mut masks = [0u32; MOST_KEPT];
     let mut values = [0u32; MOST_KEPT];
     let mut kept = store_bounds(bounds, row.len(), &mut masks, &mut values);
     let mut guess = from;
-    let free = bounds.low ^ bounds.high;
+    let mut low = bounds.low;
+    let mut high = bounds.high;
     let end = 1u32 << row.len();
     loop {
-        guess = next_open(&masks, &values, kept, guess);
+        guess = next_open(&masks, &values, kept, guess, end);
         if guess >= end {
             return First::Nothing;
         }
-        guess = descend(tables, index, row, base, missing, guess, marks);
+        // What the guess to begin with derives is marked already.
+        if guess != from {
+            guess = descend(tables, index, row, base, missing, guess, marks);
+        }
         match compare(row, guess, marks) {
             Compared::Same => {
                 return First::Fits;
@@ -65,9 +73,16 @@ fn search_between(
                 if kept == MOST_KEPT {
                     return First::Open(guess);
                 }
-                let nogood = learn(tables, index, row, base, missing, guess, conflict, free);
-                masks[kept] = nogood.mask;
-                values[kept] = nogood.value;
+                let between = Bounds {
+                    low,
+                    high,
+                    apart: false,
+                };
+                let lesson = learn(tables, index, row, base, missing, guess, conflict, between);
+                masks[kept] = lesson.mask;
+                values[kept] = lesson.value;
+                low = lesson.low;
+                high = lesson.high;
                 kept += 1;
                 guess += 1;
             }
@@ -93,6 +108,10 @@ pub fn first_guess(
     if let Compared::Same = compare(row, first, marks) {
         return First::Fits;
     }
-    let bounds = narrow_bounds(tables, index, row, base, missing);
+    let mut most = gather(row, marks);
+    if first > 0 {
+        most = respond(tables, index, row, base, missing, 0);
+    }
+    let bounds = narrow_bounds(tables, index, row, base, missing, most);
     search_between(tables, index, row, base, missing, bounds, first, marks)
 }

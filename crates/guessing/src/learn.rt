@@ -5,13 +5,14 @@ ghost use Rattle.tables.specs.Layout.{programIn};
 ghost use Rattle.propagation.specs.State.{Ready};
 ghost use Rattle.nogoods.specs.Nogoods.{Refutes};
 ghost use Rattle.guessing.specs.Guessing.{Base, fitsAt, Conflict};
+ghost use Rattle.guessing.specs.Bounds.{Between};
+use crate::bounds::Bounds;
 use crate::bounds::respond;
 use index::cells::INDEX_WORDS;
 use index::cells::LITERALS;
 use items::item::MAX_RULES;
 use nogoods::guess::has_bit;
 use nogoods::guess::turn_bit;
-use nogoods::nogood::Nogood;
 use tables::layout::TABLE_CELLS;
 
 // Every place of a guess.
@@ -78,7 +79,16 @@ fn widen(
     wide
 }
 
-// A nogood from a conflict: all guesses that contain a guess where a fact is in and not derived, or all within one where it is derived though it is out.
+// What a conflict teaches: a nogood, and the bounds, tightened where it asks for one place alone.
+pub struct Lesson {
+    pub mask: u32,
+    pub value: u32,
+    pub low: u32,
+    pub high: u32,
+}
+
+// A nogood from a conflict: all guesses that contain a guess where a fact is in and not derived, or all within one where it is derived though it is out. At the
+// places where all guesses that fit are the same it asks nothing, so that more of the guesses that come next are passed over with it.
 pub fn learn(
     tables: &[u16; TABLE_CELLS],
     index: &[u64; INDEX_WORDS],
@@ -87,22 +97,58 @@ pub fn learn(
     missing: &[u16; MAX_RULES],
     guess: u32,
     conflict: usize,
-    free: u32,
-) -> Nogood
+    bounds: Bounds,
+) -> Lesson
     requires { ⌜ Ready (now tables) (now index) ⌝ }
     requires { ⌜ Base (programIn (now tables)) (now index) (now row) (now base) (now missing) ⌝ }
     requires { ⌜ Conflict (programIn (now tables)) (now row) (now base) guess conflict ⌝ }
+    requires { ⌜ Between (programIn (now tables)) (now row) (now base) (bounds .low) (bounds .high) ⌝ }
     ensures { λ r. ⌜ Refutes (fitsAt (programIn (now (tables .entry))) (now (row .entry)) (now (base .entry))) (r .mask) (r .value) ⌝ }
+    ensures { λ r. ⌜ Between (programIn (now (tables .entry))) (now (row .entry)) (now (base .entry)) (r .low) (r .high) ⌝ }
 {
-    let wide = widen(tables, index, row, base, missing, guess, conflict, free);
+    let low = bounds.low;
+    let high = bounds.high;
+    let wide = widen(
+        tables,
+        index,
+        row,
+        base,
+        missing,
+        guess,
+        conflict,
+        low ^ high,
+    );
+    let place = 1u32 << conflict;
     if has_bit(wide, conflict) {
-        return Nogood {
-            mask: wide,
-            value: wide,
+        let mask = wide & (EVERY_PLACE ^ low);
+        if mask == place {
+            return Lesson {
+                mask,
+                value: mask,
+                low,
+                high: high & (EVERY_PLACE ^ place),
+            };
+        }
+        return Lesson {
+            mask,
+            value: mask,
+            low,
+            high,
         };
     }
-    Nogood {
-        mask: EVERY_PLACE ^ wide,
+    let mask = high & (EVERY_PLACE ^ wide);
+    if mask == place {
+        return Lesson {
+            mask,
+            value: 0,
+            low: low | place,
+            high,
+        };
+    }
+    Lesson {
+        mask,
         value: 0,
+        low,
+        high,
     }
 }

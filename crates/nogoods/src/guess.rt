@@ -8,9 +8,6 @@ ghost use Rattle.nogoods.specs.Nogoods.{guesses};
 // The most facts that are guessed.
 pub const MAX_GUESSED: usize = 16;
 
-// Every guess is below this.
-pub const GUESSES: u32 = 65536;
-
 // Is the bit of a place set?
 pub fn has_bit(number: u32, place: usize) -> bool
     requires { ⌜ place < maxGuessed ⌝ }

@@ -5,16 +5,10 @@ ghost use mathlib.Core.Bool.{Bool};
 ghost use lib.Bits.{bitAnd};
 ghost use Rattle.items.specs.Item.{maxGuessed};
 ghost use Rattle.nogoods.specs.Nogoods.{guesses, mostKept, Passed, Stored};
-use crate::guess::GUESSES;
 use crate::guess::MAX_GUESSED;
 
-// No guess that has the value under the mask passes. The term is that of conflict-driven search.
-pub struct Nogood {
-    pub mask: u32,
-    pub value: u32,
-}
-
-// The most nogoods that are kept: what these do not decide is not decided by many more either.
+// The most nogoods that are kept: what these do not decide is not decided by many more either. A nogood is a mask and a value: no guess that has the value under the
+// mask passes. The term is that of conflict-driven search.
 pub const MOST_KEPT: usize = 80;
 
 // How many of the lowest places a mask leaves free, as far as there are places.
@@ -38,16 +32,22 @@ pub fn after(guess: u32, mask: u32) -> u32
     (guess / block + 1) * block
 }
 
-// The first guess from one on that no nogood refutes, or the end. None that is passed over passes the test.
-pub fn next_open(masks: &[u32; MOST_KEPT], values: &[u32; MOST_KEPT], kept: usize, from: u32) -> u32
-    requires { ⌜ (kept ≤ mostKept) × (from ≤ guesses) ⌝ }
+// The first guess from one on that no nogood refutes, or one that is not before the end. None that is passed over passes the test.
+pub fn next_open(
+    masks: &[u32; MOST_KEPT],
+    values: &[u32; MOST_KEPT],
+    kept: usize,
+    from: u32,
+    end: u32,
+) -> u32
+    requires { ⌜ (kept ≤ mostKept) × (from ≤ guesses) × (end ≤ guesses) ⌝ }
     ensures { λ r. ⌜ (from ≤ r) × (r ≤ guesses) ⌝ }
     ensures { λ r. ⌜ ((pass : ℕ → Bool) → Stored pass (now (masks .entry)) (now (values .entry)) kept → Passed pass from r) ⌝ }
 {
     let mut guess = from;
     let mut i: usize = 0;
     while i < kept {
-        if guess == GUESSES {
+        if guess >= end {
             return guess;
         }
         let mask = masks[i];

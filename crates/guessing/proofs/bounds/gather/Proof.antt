@@ -59,7 +59,7 @@ loop-again-2 : tie.Need-loop-again-2 Inv-loop μ-loop
 loop-again-2 c = others-gathered (c .before .before .before .before .loop .inv) (omega arith) (c .if1 .left)
 
 returns : tie.Need-returns Inv-loop μ-loop
-returns c = all-gathered (c .before .loop .inv) (c .loop-test .left) (c .before .before .pre .0)
+returns c = all-gathered (c .before .loop .inv) (c .loop-test .left)
 
 pub gather-spec : {M : Type 1} → statement M
 gather-spec =

@@ -1,121 +1,86 @@
--- `store_bounds`: what is stored before the place at hand refutes, and each place at which the bounds agree gives one nogood more.
-use Prim.Native.Nat.{_-_}
+-- `store_bounds`: the nogoods of the places, and two of the bounds themselves.
+use Prim.Native.Nat.{ℕ, _+_}
 use native.Mathlib.Omega.{arith}
-use mathlib.Core.Path.{sym, _∙_}
+use mathlib.Core.List.{List}
+use lib.Bits.{bitXor}
+use mathlib.Core.Path.{_∙_}
+use lib.ListN.{set, length-set}
+use Rattle.guessing.proofs.BoundsStored.{ends-stored}
 use borrow.Author.Needs.{needs}
-use Rattle.guessing.proofs.BoundsStored.{Storing, none-stored, left-open, stores-low, stores-high}
 use Rattle.guessing.proofs.bounds.store_bounds.Statement.{statement}
 use Rattle.guessing.proofs.bounds.store_bounds.Tie as tie
 
-abbrev Inv-loop : tie.InvT-loop
-Inv-loop places masks₀ values₀ low high kept₀ place₀ masks values kept place = Storing places low high masks values kept place
+store-places-requires : tie.Need-store-places-requires
+store-places-requires c κs = search needs
 
-abbrev μ-loop : tie.MeasureT-loop
-μ-loop places masks₀ values₀ low high kept₀ place₀ masks values kept place = places - place
+add-if1 : tie.Need-add-if1
+add-if1 c = record { fits = omega (arith, c .store-places .ensures .0 .0) }
 
-loop-holds : tie.Need-loop-holds Inv-loop μ-loop
-loop-holds c = none-stored _ _ (c .pre .1) (c .pre .2)
+returns : tie.Need-returns
+returns c = let w = c .before .store-places .ensures in ((omega (arith, w .0 .0), w .0 .1, w .0 .2), λ pass between _. w .1 pass between)
 
-cast-bit : tie.Need-cast-bit Inv-loop μ-loop
-cast-bit c = search needs
-
-shl-bit : tie.Need-shl-bit Inv-loop μ-loop
-shl-bit c = omega arith
-
-has-bit-requires : tie.Need-has-bit-requires Inv-loop μ-loop
-has-bit-requires c κs = omega arith
-
-mul-masks : tie.Need-mul-masks Inv-loop μ-loop
+mul-masks : tie.Need-mul-masks
 mul-masks c = search needs
 
-element-write-masks : tie.Need-element-write-masks Inv-loop μ-loop
-element-write-masks c = omega arith
+element-write-masks : tie.Need-element-write-masks
+element-write-masks c = search needs
 
-mul-values : tie.Need-mul-values Inv-loop μ-loop
+mul-values : tie.Need-mul-values
 mul-values c = search needs
 
-element-write-values : tie.Need-element-write-values Inv-loop μ-loop
-element-write-values c = omega arith
+element-write-values : tie.Need-element-write-values
+element-write-values c = search needs
 
-add-kept : tie.Need-add-kept Inv-loop μ-loop
-add-kept c = search needs
+add-masks : tie.Need-add-masks
+add-masks c = search needs
 
-add-place : tie.Need-add-place Inv-loop μ-loop
-add-place c = search needs
-
-loop-less : tie.Need-loop-less Inv-loop μ-loop
-loop-less c = omega arith
-
-loop-again : tie.Need-loop-again Inv-loop μ-loop
-loop-again c = stores-low (c .before .before .before .loop .inv) (c .before .before .loop-test .taken) (c .before .before .before .before .pre .0) (sym (c .before .has-bit .ensures) ∙ c .if1 .taken)
-
-has-bit-requires-2 : tie.Need-has-bit-requires-2 Inv-loop μ-loop
-has-bit-requires-2 c κs = omega arith
-
-add-place-2 : tie.Need-add-place-2 Inv-loop μ-loop
-add-place-2 c = search needs
-
-loop-less-2 : tie.Need-loop-less-2 Inv-loop μ-loop
-loop-less-2 c = omega arith
-
-loop-again-2 : tie.Need-loop-again-2 Inv-loop μ-loop
-loop-again-2 c = left-open (c .before .before .before .before .before .loop .inv) (c .before .before .before .before .loop-test .taken)
-
-mul-masks-2 : tie.Need-mul-masks-2 Inv-loop μ-loop
+mul-masks-2 : tie.Need-mul-masks-2
 mul-masks-2 c = search needs
 
-element-write-masks-2 : tie.Need-element-write-masks-2 Inv-loop μ-loop
-element-write-masks-2 c = omega arith
+element-write-masks-2 : tie.Need-element-write-masks-2
+element-write-masks-2 c = search needs
 
-mul-values-2 : tie.Need-mul-values-2 Inv-loop μ-loop
+add-values : tie.Need-add-values
+add-values c = search needs
+
+mul-values-2 : tie.Need-mul-values-2
 mul-values-2 c = search needs
 
-element-write-values-2 : tie.Need-element-write-values-2 Inv-loop μ-loop
-element-write-values-2 c = omega arith
+element-write-values-2 : tie.Need-element-write-values-2
+element-write-values-2 c = search needs
 
-add-kept-2 : tie.Need-add-kept-2 Inv-loop μ-loop
-add-kept-2 c = search needs
+add-result : tie.Need-add-result
+add-result c = search needs
 
-add-place-3 : tie.Need-add-place-3 Inv-loop μ-loop
-add-place-3 c = search needs
+returns-2 : tie.Need-returns-2
+returns-2 c =
+    let w = c .before .before .store-places .ensures in
+    let kept = c .before .before .store-places .result in
+    let free = bitXor (c .before .before .before .before .before .args .bounds .low) (c .before .before .before .before .before .args .bounds .high) in
+    let masks : List ℕ = c .before .before .store-places .last .1 .1 .1 .0 in
+    let values : List ℕ = c .before .before .store-places .last .1 .1 .1 .1 .0 in
+    ((omega (arith, w .0 .0), length-set (set masks kept free) (kept + 1) free ∙ length-set masks kept free ∙ w .0 .1, length-set (set values kept 0) (kept + 1) free ∙ length-set values kept 0 ∙ w .0 .2), λ pass between e. ends-stored masks values kept (w .0 .0) (w .0 .1) (w .0 .2) (w .1 pass between) (e (c .if2 .taken)))
 
-loop-less-3 : tie.Need-loop-less-3 Inv-loop μ-loop
-loop-less-3 c = omega arith
-
-loop-again-3 : tie.Need-loop-again-3 Inv-loop μ-loop
-loop-again-3 c = stores-high (c .before .before .before .before .before .loop .inv) (c .before .before .before .before .loop-test .taken) (c .before .before .before .before .before .before .pre .0) (sym (c .before .has-bit2 .ensures) ∙ c .if2 .left)
-
-returns : tie.Need-returns Inv-loop μ-loop
-returns c = let w = c .before .loop .inv in ((omega arith, w .mask-places, w .value-places), w .stored)
+returns-3 : tie.Need-returns-3
+returns-3 c = let w = c .before .before .store-places .ensures in ((omega arith, w .0 .1, w .0 .2), λ pass between _. w .1 pass between)
 
 pub store-bounds-spec : {M : Type 1} → statement M
 store-bounds-spec =
     tie.close
     (tie.spec
-    Inv-loop
-    μ-loop
-    loop-holds
-    cast-bit
-    shl-bit
-    has-bit-requires
+    store-places-requires
+    add-if1
+    returns
     mul-masks
     element-write-masks
     mul-values
     element-write-values
-    add-kept
-    add-place
-    loop-less
-    loop-again
-    has-bit-requires-2
-    add-place-2
-    loop-less-2
-    loop-again-2
+    add-masks
     mul-masks-2
     element-write-masks-2
+    add-values
     mul-values-2
     element-write-values-2
-    add-kept-2
-    add-place-3
-    loop-less-3
-    loop-again-3
-    returns)
+    add-result
+    returns-2
+    returns-3)

@@ -1,11 +1,13 @@
 -- `first_guess`: the first guess that nothing on the way refutes, then the guesses between the bounds.
 use native.Mathlib.Omega.{arith}
 use mathlib.Core.Path.{refl}
+use mathlib.Core.Logic.{⊎-elim}
 use borrow.Author.Needs.{needs}
 use denote.Ref.{now}
 use lib.ListN.{length, replicate}
 use lib.Pow.{pow-pos}
 use Rattle.nogoods.specs.Nogoods.{mostKept}
+use Rattle.guessing.proofs.BoundsNarrowed.{none-responds}
 use Rattle.guessing.proofs.GuessDerived.{row-facts}
 use Rattle.guessing.proofs.GuessesTried.{begins, end-below, tells, fits-first}
 use Rattle.guessing.proofs.first.first_guess.Statement.{statement}
@@ -29,11 +31,22 @@ returns c =
 enum-told-2 : tie.Need-enum-told-2
 enum-told-2 c = search needs
 
+gather-requires : tie.Need-gather-requires
+gather-requires c κs = let p = c .before .before .before .before .before .before .before .before .pre in (p .1 .row-base .few, row-facts (p .0 .well-formed) (p .1 .row-base))
+
+respond-requires : tie.Need-respond-requires
+respond-requires c κs = search needs
+
+-- The marks of the first guess show what the guess of no fact derives, where it is that one.
 narrow-bounds-requires : tie.Need-narrow-bounds-requires
-narrow-bounds-requires c κs = search needs
+narrow-bounds-requires c κs =
+    let p = c .before .before .before .before .before .before .before .before .before .before .pre in
+    let derived = c .before .before .before .before .before .before .before .descend .ensures .derived in
+    let facts = row-facts (p .0 .well-formed) (p .1 .row-base) in
+    (p .0, (p .1, ⊎-elim (λ w. rw (w .2) (w .1 .ensures)) (λ w. rw (w .1) (none-responds facts (w .0 .left) derived (c .before .gather .ensures))) (c .if1 .came)))
 
 search-between-requires : tie.Need-search-between-requires
-search-between-requires c κs = let p = c .before .before .before .before .before .before .before .before .before .pre in (p .0, (p .1, (c .before .narrow-bounds .ensures, ((omega (arith, c .before .before .before .before .before .before .descend .ensures .inside, end-below (length (now (c .before .before .before .before .before .before .before .before .before .args .row))) (c .before .before .before .before .before .before .before .before .before .pre .1 .row-base .few))), c .before .before .before .before .before .before .descend .ensures .passed))))
+search-between-requires c κs = let p = c .before .before .before .before .before .before .before .before .before .before .before .before .pre in (p .0, (p .1, (c .before .narrow-bounds .ensures .0, (c .before .narrow-bounds .ensures .1, c .before .before .before .before .before .before .before .before .before .descend .ensures))))
 
 returns-2 : tie.Need-returns-2
 returns-2 c = search needs
@@ -47,6 +60,8 @@ first-guess-spec =
     enum-told
     returns
     enum-told-2
+    gather-requires
+    respond-requires
     narrow-bounds-requires
     search-between-requires
     returns-2)

@@ -10,10 +10,10 @@ use Rattle.nogoods.proofs.nogood.next_open.Statement.{statement}
 use Rattle.nogoods.proofs.nogood.next_open.Tie as tie
 
 abbrev Inv-loop : tie.InvT-loop
-Inv-loop masks values kept from guess₀ i₀ guess i = (from ≤ guess) × (guess ≤ guesses) × (i ≤ kept) × ((pass : ℕ → Bool) → Stored pass masks values kept → Passed pass from guess)
+Inv-loop masks values kept from end guess₀ i₀ guess i = (from ≤ guess) × (guess ≤ guesses) × (i ≤ kept) × ((pass : ℕ → Bool) → Stored pass masks values kept → Passed pass from guess)
 
 abbrev μ-loop : tie.MeasureT-loop
-μ-loop masks values kept from guess₀ i₀ guess i = (guesses - guess) * (mostKept + 1) + (kept - i)
+μ-loop masks values kept from end guess₀ i₀ guess i = (guesses - guess) * (mostKept + 1) + (kept - i)
 
 loop-holds : tie.Need-loop-holds Inv-loop μ-loop
 loop-holds c = (omega arith, c .pre .1, omega arith, λ pass stored. none-passed pass (c .args .from))
