@@ -15,7 +15,8 @@ use Rattle.reader.specs.Scanned.{Tabled}
 use Rattle.questions.specs.declared.answer.Answer.{Answer}
 use Rattle.questions.specs.declared.answer.Answer.the-variants.{Yes, No}
 use Rattle.questions.specs.Answer.{answerOf}
-use Rattle.questions.specs.Questions.{namedIn, orderQuestions, orderNo, bothQuestions, bothNo, betterQuestions, betterNo}
+use Rattle.questions.specs.Questions.{namedIn, orderQuestions, orderNo, bothQuestions, betterQuestions, betterNo}
+use Rattle.questions.specs.Parts.{bothNo}
 use Rattle.questions.proofs.OperationAsked.{Passed, file-refused, file-accepted, order-no, order-yes}
 use Rattle.run.specs.Stands.{MayOrder}
 use Rattle.run.proofs.RunAsked.{may-order}

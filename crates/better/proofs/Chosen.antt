@@ -16,7 +16,7 @@ use Rattle.reader.specs.Scanned.{Tabled}
 use Rattle.questions.specs.Questions.{betterNo}
 use Rattle.better.specs.declared.answer.Choice.{Choice}
 use Rattle.better.specs.declared.answer.Choice.the-variants.{First, Second, Refused}
-use Rattle.better.specs.Outcome.{asideOf, preferred, choiceOf, number, which, handed, betterOf, HandedBack, ChoiceMeans}
+use Rattle.better.specs.Outcome.{asideOf, preferred, choiceOf, choiceNumber, which, handed, betterOf, HandedBack, ChoiceMeans}
 use Rattle.better.specs.Counted.{asideIn}
 
 -- Which of two that set aside so many.
@@ -73,14 +73,14 @@ module _ (file first second : List ℕ) where
         second-chosen = λ e. rw (← choice-made e) (which-second (asideOf file first) (asideOf file second));
       }
     where
-      none-wrong : (a b : ℕ) → number (preferred a b) ≡ 0
+      none-wrong : (a b : ℕ) → choiceNumber (preferred a b) ≡ 0
       none-wrong a b = go (decLt b a)
         where
-          go : Dec (b < a) → number (preferred a b) ≡ 0
+          go : Dec (b < a) → choiceNumber (preferred a b) ≡ 0
           go (yes l) = rw (prefers-second a b l)
           go (no h) = rw (prefers-first a b (omega arith))
 
-      go : (o : Option Refusal) → betterNo file first second ≡ o → number (choiceOf file first second) ≡ noNumber (betterNo file first second)
+      go : (o : Option Refusal) → betterNo file first second ≡ o → choiceNumber (choiceOf file first second) ≡ noNumber (betterNo file first second)
       go none e = rw (← choice-made e, e) (none-wrong (asideOf file first) (asideOf file second))
       go (some r) e = rw (← choice-refused r e, e)
 

@@ -33,10 +33,10 @@ choiceOf file first second =
     ]
 
 -- The answer's number, 0 where there is a result, and which of the two it is, 1 or 2, 0 on a refusal.
-abbrev pub number : Choice → ℕ
-number First = 0
-number Second = 0
-number (Refused r) = refusal.number r
+abbrev pub choiceNumber : Choice → ℕ
+choiceNumber First = 0
+choiceNumber Second = 0
+choiceNumber (Refused r) = refusal.number r
 
 abbrev pub which : Choice → ℕ
 which First = 1
@@ -63,6 +63,6 @@ pub record HandedBack (choice : Choice) (first second back : RefT (List ℕ)) : 
 -- What an answer means: its number is that of the first no; else it is the second order exactly where that sets aside fewer rules, and the first where it sets
 -- aside no more.
 pub record ChoiceMeans (file first second : List ℕ) (r : Choice) : Type 0 where
-  pub numbered : number r ≡ noNumber (betterNo file first second)
+  pub numbered : choiceNumber r ≡ noNumber (betterNo file first second)
   pub first-chosen : betterNo file first second ≡ none → (which r ≡ 1) ↔ (asideOf file first ≤ asideOf file second)
   pub second-chosen : betterNo file first second ≡ none → (which r ≡ 2) ↔ (asideOf file second < asideOf file first)

@@ -13,7 +13,8 @@ use lib.Count.{trailingZeros}
 use lib.Dec.{eqb}
 use lib.ListN.{getD, set, length-set}
 use lib.Seq.{getD-set-same, getD-set-other}
-use Rattle.theory.specs.Rule.{seek, keep, range, upTo}
+use Rattle.theory.specs.Rule.{keep, range, upTo}
+use Rattle.theory.specs.Lists.{seek}
 use Rattle.theory.proofs.Bools.{either, never, and-right, and-false, false-of}
 use Rattle.theory.proofs.Lists.{Found, seek-some, seek-none, seek-append, upTo-mem, mem-range, length-range, getD-upTo, keep-same}
 use Rattle.items.specs.Item.{maxRules}

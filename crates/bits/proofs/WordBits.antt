@@ -12,7 +12,8 @@ use lib.Count.{trailingZeros, under}
 use lib.Pow.{pow-lt, shr-shr}
 use lib.Dec.{eqb}
 use Rattle.theory.specs.Guesses.{bit}
-use Rattle.theory.specs.Rule.{seek, range, adjoin}
+use Rattle.theory.specs.Rule.{range, adjoin}
+use Rattle.theory.specs.Lists.{seek}
 use Rattle.theory.proofs.Bools.{never, and-false}
 use Rattle.bits.specs.Flags.{digit, word, without}
 

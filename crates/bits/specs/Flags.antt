@@ -6,7 +6,8 @@ use mathlib.Core.List.{List, [], _∷_}
 use mathlib.Core.Option.{Option, none, some}
 use lib.ListN.{length, getD}
 use lib.Dec.{eqb}
-use Rattle.theory.specs.Rule.{seek, upTo}
+use Rattle.theory.specs.Rule.{upTo}
+use Rattle.theory.specs.Lists.{seek}
 use Rattle.items.specs.Item.{maxRules}
 use Rattle.bits.specs.declared.row.Lowest.{Lowest}
 use Rattle.bits.specs.declared.row.Lowest.the-variants.{At, Nothing}

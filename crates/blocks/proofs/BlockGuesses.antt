@@ -10,7 +10,8 @@ use mathlib.Core.Logic.{by-cases}
 use mathlib.Core.Option.{some}
 use lib.ListN.{length}
 use lib.Pow.{pow-mono}
-use Rattle.theory.specs.Rule.{all, mem, Program, FactSet, inForce, Bounded}
+use Rattle.theory.specs.Rule.{all, mem, Program, FactSet, inForce}
+use Rattle.theory.specs.Conditions.{Bounded}
 use Rattle.theory.specs.Search.{guessed, fits}
 use Rattle.theory.specs.Guesses.{bit, unlike, factAt, guessAt}
 use Rattle.theory.proofs.Bools.{never}

@@ -144,8 +144,8 @@ rule-fired P i {outs} {before} {middle} {body} {after} {new} size is m n joined 
         subst (λ (x : ℕ). getD after x 0 ≡ getD before x 0) is (j .same e (k / laneWords) (k % laneWords) (omega arith))
 
 -- Where nothing is new, the same places wait.
-pub stepped-same : {P : Program} {R : Places} {p : ℕ → Bool} {i : ℕ} {outs before waiting after : List ℕ} → Fired P i outs before after false → Flags p waiting → Stepped P R p i outs before waiting after waiting
-stepped-same {P} {R} {p} {i} {outs} {before} {waiting} {after} d f =
+pub stepped-same : {P : Program} {R : Places} {p : ℕ → Bool} {i : ℕ} {outs before waiting after : List ℕ} {new : Bool} → Fired P i outs before after new → new ≡ false → Flags p waiting → Stepped P R p i outs before waiting after waiting
+stepped-same {P} {R} {p} {i} {outs} {before} {waiting} {after} d none f =
     record {
       places = d .places;
       adds = d .adds;
@@ -154,13 +154,13 @@ stepped-same {P} {R} {p} {i} {outs} {before} {waiting} {after} d f =
       flags = f;
       still = λ k t. t;
       taken = λ k t o. never t o;
-      known = λ k t o w l h u. ap (λ (xs : List ℕ). all (laneIn xs w l) (premisesAt P R k)) (d .same refl);
-      forward = inl (refl, d .same refl);
+      known = λ k t o w l h u. ap (λ (xs : List ℕ). all (laneIn xs w l) (premisesAt P R k)) (d .same none);
+      forward = inl (refl, d .same none);
     }
 
 -- Else those that ask the conclusion wait too.
-pub stepped-new : {P : Program} {R : Places} {p : ℕ → Bool} {i : ℕ} {outs before waiting after waiting′ : List ℕ} → Fired P i outs before after true → Flags (λ k. p k || asksAt P R (rule P i .conclusion) k) waiting′ → Stepped P R p i outs before waiting after waiting′
-stepped-new {P} {R} {p} {i} {outs} {before} {waiting} {after} {waiting′} d f =
+pub stepped-new : {P : Program} {R : Places} {p : ℕ → Bool} {i : ℕ} {outs before waiting after waiting′ : List ℕ} {new : Bool} → Fired P i outs before after new → new ≡ true → Flags (λ k. p k || asksAt P R (rule P i .conclusion) k) waiting′ → Stepped P R p i outs before waiting after waiting′
+stepped-new {P} {R} {p} {i} {outs} {before} {waiting} {after} {waiting′} d some f =
     record {
       places = d .places;
       adds = d .adds;
@@ -170,7 +170,7 @@ stepped-new {P} {R} {p} {i} {outs} {before} {waiting} {after} {waiting′} d f =
       still = λ k t. or-left (p k) _ t;
       taken = λ k t o. and-left (R .taken k) _ (rw o at t);
       known = λ k t o w l h u. all-ext (laneIn after w l) (laneIn before w l) (premisesAt P R k) (λ g m. stays k t o w l h u g m);
-      forward = inr (d .more refl);
+      forward = inr (d .more some);
     }
   where
     stays : (k : ℕ) → R .taken k ≡ true → p k || asksAt P R (rule P i .conclusion) k ≡ false → (w t : ℕ) → w < laneWords → t < wordBits → (g : ℕ) → mem g (premisesAt P R k) ≡ true → laneIn after w t g ≡ laneIn before w t g

@@ -9,7 +9,8 @@ use borrow.Author.Tests.{eqb-true, eqb-false, lt-ltb, ltb-true}
 use lib.Dec.{eqb, ltb}
 use lib.ListN.{length, getD, take, set, replicate, length-set, length-replicate, getD-replicate}
 use lib.Seq.{getD-set-same, getD-set-other}
-use Rattle.theory.specs.Rule.{all, howMany, upTo, Program, Bounded, Sub, adjoin, withheld, inForce, count, rule}
+use Rattle.theory.specs.Rule.{all, howMany, upTo, Program, Sub, adjoin, withheld, inForce, count, rule}
+use Rattle.theory.specs.Conditions.{Bounded}
 use Rattle.theory.proofs.Bools.{either, never, and-both, or-right, or-cases, not-of-false, false-of-not, or-false-right}
 use Rattle.theory.proofs.Lists.{eqb-self, all-mono, howMany-le, howMany-less, length-range, upTo-mem}
 use Rattle.items.specs.Item.{narrow, maxFacts, maxRules, has}

@@ -4,7 +4,8 @@ use mathlib.Core.Path.{_≡_, refl, ap}
 use mathlib.Core.Bool.{Bool, true, false, not}
 use mathlib.Core.List.{List}
 use mathlib.Core.Logic.{⊎-elim}
-use Rattle.theory.specs.Rule.{all, Program, FactSet, Bounded, Closed, nothing, adjoin, rule, plain}
+use Rattle.theory.specs.Rule.{all, Program, FactSet, Closed, nothing, adjoin, rule, plain}
+use Rattle.theory.specs.Conditions.{Bounded}
 use Rattle.theory.proofs.Bools.{never, and-left, and-right, and-both, or-left, or-right, or-cases}
 use Rattle.theory.proofs.Lists.{all-mono}
 use Rattle.theory.proofs.Derive.{adjoin-above}

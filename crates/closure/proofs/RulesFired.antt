@@ -8,7 +8,8 @@ use native.Mathlib.Omega.{arith}
 use borrow.Author.Tests.{eq-eqb, ne-eqb}
 use lib.ListN.{length, getD, set, length-set}
 use lib.Seq.{take-set-le}
-use Rattle.theory.specs.Rule.{Program, Mask, FactSet, Bounded, count, rule}
+use Rattle.theory.specs.Rule.{Program, Mask, FactSet, count, rule}
+use Rattle.theory.specs.Conditions.{Bounded}
 use Rattle.theory.specs.Walk.{after}
 use Rattle.theory.specs.Derive.{lowest, conclude, fired, meets, derive}
 use Rattle.theory.proofs.Bools.{or-left, or-false, never}

@@ -13,7 +13,7 @@ use Rattle.cursors.specs.declared.cursor.Cursor.{Cursor}
 use Rattle.cursors.specs.declared.cursor.Read.{Read}
 use Rattle.items.specs.Question.{firstNo, noNumber}
 use Rattle.cursors.specs.Cursor as read
-use Rattle.cursors.specs.Cursor.{Token, item, bad, front, past, placeQuestions, stayed, readOf, nextAt, ReadNumbers}
+use Rattle.cursors.specs.Cursor.{Token, item, bad, front, past, placeQuestions, stayed, readOf, nextAt, ReadNumbers, readNumber}
 
 -- where a whole item stands every question gets yes
 item-asked : (row : Row) (i : Item) → _≡_ {A = Option Refusal} (firstNo (placeQuestions row (item i))) none
@@ -27,7 +27,7 @@ module _ (s : List ℕ) (c : Cursor) where
   unfolding nextAt
   read-numbers = record { numbered = numbered (front (c .row) (drop (c .at) s)); kept = kept (front (c .row) (drop (c .at) s)) }
     where
-      stayed-number : (o : Option Refusal) → read.number (stayed o c) ≡ noNumber o
+      stayed-number : (o : Option Refusal) → readNumber (stayed o c) ≡ noNumber o
       stayed-number none = refl
       stayed-number (some r) = refl
 
@@ -35,11 +35,11 @@ module _ (s : List ℕ) (c : Cursor) where
       stayed-there none = refl
       stayed-there (some r) = refl
 
-      numbered : (t : Token) → read.number (readOf t (past s c) c) ≡ noNumber (firstNo (placeQuestions (c .row) t))
+      numbered : (t : Token) → readNumber (readOf t (past s c) c) ≡ noNumber (firstNo (placeQuestions (c .row) t))
       numbered (item i) = sym (ap noNumber (item-asked (c .row) i))
       numbered (bad fault) = stayed-number (firstNo (placeQuestions (c .row) (bad fault)))
 
-      kept : (t : Token) → 0 < read.number (readOf t (past s c) c) → read.cursorOf (readOf t (past s c) c) ≡ c
+      kept : (t : Token) → 0 < readNumber (readOf t (past s c) c) → read.cursorOf (readOf t (past s c) c) ≡ c
       kept (item i) l = absurd (omega arith)
       kept (bad fault) l = stayed-there (firstNo (placeQuestions (c .row) (bad fault)))
 

@@ -100,10 +100,10 @@ unfoldable pub nextAt : List ℕ → Cursor → Read
 nextAt s c = readOf (front (c .row) (drop (c .at) s)) (past s c) c
 
 -- The number of a read, 0 unless it is refused, and the cursor that it hands out.
-abbrev pub number : Read → ℕ
-number (Found i next) = 0
-number (Ended here) = 0
-number (Refused r here) = refusal.number r
+abbrev pub readNumber : Read → ℕ
+readNumber (Found i next) = 0
+readNumber (Ended here) = 0
+readNumber (Refused r here) = refusal.number r
 
 abbrev pub cursorOf : Read → Cursor
 cursorOf (Found i next) = next
@@ -116,8 +116,8 @@ placeNo s c = firstNo (placeQuestions (c .row) (front (c .row) (drop (c .at) s))
 
 -- A read in numbers: the number of the first no on its place; and a refusal hands out the cursor as it was.
 pub record ReadNumbers (s : List ℕ) (c : Cursor) (r : Read) : Type 0 where
-  pub numbered : number r ≡ noNumber (placeNo s c)
-  pub kept : 0 < number r → cursorOf r ≡ c
+  pub numbered : readNumber r ≡ noNumber (placeNo s c)
+  pub kept : 0 < readNumber r → cursorOf r ≡ c
 
 -- Nothing is read where no item stands.
 abbrev pub followed : Token → List Token → List Token

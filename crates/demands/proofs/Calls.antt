@@ -1,6 +1,5 @@
 -- Each public operation refuses exactly: the instances, by the one law.
 use Prim.Native.Nat.{ℕ}
-use native.Mathlib.Omega.{arith}
 use mathlib.Core.Path.{_≡_, refl, ap, _∙_}
 use mathlib.Core.Bool.{Bool, true, false, cond}
 use mathlib.Core.List.{List}
@@ -15,26 +14,22 @@ use Rattle.questions.specs.Questions.{rowOf, listQuestions, orderQuestions, set
 use Rattle.run.specs.Outcome.{runOutcome, runWritten}
 use Rattle.keeping.specs.Outcome.{groundsOutcome, groundsWritten}
 use Rattle.judge.specs.declared.answer.Judged.the-variants.{Stable, NotStable}
-use Rattle.judge.specs.Judged.{unlisted, judged}
-use Rattle.judge.specs.Judged as judgement
+use Rattle.judge.specs.Judged.{unlisted, judged, judgedNumber}
 use Rattle.proofcheck.specs.declared.answer.Checked.the-variants.{Yes, No}
-use Rattle.proofcheck.specs.Checked.{checked}
-use Rattle.proofcheck.specs.Checked as checking
+use Rattle.proofcheck.specs.Checked.{checked, checkedNumber}
 use Rattle.search.specs.Outcome.{searchOutcome, searchWritten}
 use Rattle.layers.specs.Outcome.{layeredOutcome, orderedBy}
 use Rattle.better.specs.Outcome.{choiceOf}
 use Rattle.better.proofs.Chosen.{choice-means, none-handed}
 use Rattle.generator.specs.Outcome.{loadOutcome, loadWritten}
-use Rattle.panel_lines.specs.Text.{panelText}
-use Rattle.panel_text.proofs.RefusalText.{panel-refusal}
-use Rattle.grounds_text.specs.Text.{groundsText}
-use Rattle.grounds_text.proofs.RefusalTold.{grounds-refusal}
 use Rattle.replies.specs.Reply.{fileOf, countsOfRan, countsOfSearched, verdictOfJudged, verdictOfChecked, runReply, searchReply, countOfGrounds, groundsReply, countOfLayered, layeredReply, countOfLoaded, loadReply, replyOfChoice}
 use Rattle.demands.specs.Demands.{Demand1}
-use Rattle.demands.specs.Calls.{RefusesExactly, listNumbers, orderNumbers, setNumbers, rowNumbers, acceptCall, askCall, askListCall, askOrderCall, askSetCall, askRowCall, runCall, groundsCall, judgeCall, checkCall, searchCall, layeredCall, chooseCall, betterCall, loadCall, textCall, retentionAcceptCall, retentionRunCall, retentionGroundsCall, retentionJudgeCall, retentionCheckCall, retentionSearchCall, retentionLayeredCall, retentionBetterCall, retentionLoadCall}
+use Rattle.demands.specs.Calls.{RefusesExactly, listNumbers, orderNumbers, setNumbers, rowNumbers, acceptCall, askCall, askListCall, askOrderCall, askSetCall, askRowCall, runCall, groundsCall, judgeCall, checkCall, searchCall, layeredCall, chooseCall, betterCall, loadCall}
+use Rattle.demands.specs.RetentionCalls.{retentionAcceptCall, retentionRunCall, retentionGroundsCall, retentionJudgeCall, retentionCheckCall, retentionSearchCall, retentionLayeredCall, retentionBetterCall, retentionLoadCall}
 use Rattle.demands.proofs.RefusesExactly.{Own, refuses-exactly}
 use Rattle.demands.proofs.OwnNumbers.{file-own, after-file, list-own, order-own, set-own, row-own, run-own, grounds-own, judge-own, check-own, search-own, layered-own, better-own, load-own}
 use Rattle.demands.proofs.CursorNext.{next-exactly, next-stays}
+use Rattle.demands.proofs.PanelShows.{panel-shows, grounds-show, rendered}
 
 pub accept-exactly : (file : List ℕ) → RefusesExactly (acceptCall file)
 unfolding acceptOf
@@ -102,7 +97,7 @@ judge-exactly file list set =
       first-no = λ r h. rw (h, judged);
     })
   where
-    either-way : (b : Bool) → judgement.number (cond b Stable NotStable) ≡ 0
+    either-way : (b : Bool) → judgedNumber (cond b Stable NotStable) ≡ 0
     either-way true = refl
     either-way false = refl
 
@@ -116,7 +111,7 @@ check-exactly file set fact row =
       first-no = λ r h. rw (h, checked);
     })
   where
-    either-way : (b : Bool) → checking.number (cond b Yes No) ≡ 0
+    either-way : (b : Bool) → checkedNumber (cond b Yes No) ≡ 0
     either-way true = refl
     either-way false = refl
 
@@ -168,12 +163,6 @@ load-exactly start facts rules out =
       all-yes = λ h. rw (h, loadOutcome);
       first-no = λ r h. rw (h, loadOutcome);
     })
-
--- nothing is asked
-pub text-exactly : (text out : List ℕ) → RefusesExactly (textCall text out)
-text-exactly text out =
-    refuses-exactly 0 (textCall text out)
-    (record { own-numbers = tt; all-yes = λ h. refl; first-no = λ r h. absurd (let z : _≡_ {A = ℕ} 0 1 = cc in omega arith) })
 
 -- The operations for C. But for `retention_accept`, which has one count more, the plain numbers are those of the answer.
 pub retention-accept-exactly : (file : List ℕ) → RefusesExactly (retentionAcceptCall file)
@@ -234,8 +223,6 @@ every-call =
       choose = choose-exactly;
       better = better-exactly;
       load = load-exactly;
-      render = λ file. text-exactly (panelText file);
-      render-grounds = λ file fact. text-exactly (groundsText file fact);
       retention-accept = retention-accept-exactly;
       retention-run = retention-run-exactly;
       retention-grounds = retention-grounds-exactly;
@@ -245,7 +232,7 @@ every-call =
       retention-layered = retention-layered-exactly;
       retention-better = retention-better-exactly;
       retention-load = retention-load-exactly;
-      retention-panel = λ file. text-exactly (panelText file);
-      panel-text = panel-refusal;
-      grounds-text = grounds-refusal;
+      panel-shows = panel-shows;
+      grounds-show = grounds-show;
+      rendered = rendered;
     }

@@ -82,6 +82,6 @@ module _ (file : List ℕ) (n : ℕ) (above : 0 < n) (stopped : noNumber (fileNo
         retention-search = λ facts rules steps order. says (demand-1 .retention-search file facts rules steps order) (search-stops _ _ _ _);
         retention-layered = λ order. says (demand-1 .retention-layered file order) (layered-stops _);
         retention-better = λ first second. says (demand-1 .retention-better file first second) (better-stops _ _);
-        panel-text = demand-1 .panel-text file n .1 file-stops;
-        grounds-text = λ fact. demand-1 .grounds-text file fact n .1 (stops-there _);
+        panel-text = demand-1 .panel-shows file .refusal-shown n .1 file-stops;
+        grounds-text = λ fact. demand-1 .grounds-show file fact .refusal-shown n .1 (stops-there _);
       }

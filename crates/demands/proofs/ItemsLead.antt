@@ -20,8 +20,7 @@ use Rattle.items.specs.Question.{number, Question, firstNo, noNumber}
 use Rattle.items.proofs.ItemSays.{by-tags, alone, either-said}
 use Rattle.cursors.specs.declared.cursor.Fault.the-variants.{NoByte, OtherKind, ShortBody}
 use Rattle.cursors.specs.Cursor.{Token, item, bad, itemsAt, fileStart, ended}
-use Rattle.reader.specs.declared.answer.Scan.{Scan}
-use Rattle.reader.specs.Questions.{ruleOf, rulesOf, factCount, fresh, opened, lengthened, bodyQuestions, openingQuestions, fileQuestions, fileNo}
+use Rattle.reader.specs.Questions.{ruleOf, rulesOf, factCount, fresh, opened, lengthened, bodyQuestions, openingQuestions, fileQuestions, fileNo, Scan}
 use Rattle.reader.specs.RuleLength.{ruleLength}
 use Rattle.reader.proofs.Accepted.{opens-rule, opens-none, own-none, own-opens-none, unread-opens-none, unread-own-none}
 use Rattle.reader.proofs.RuleLengths.{ownAhead, own-ahead}

@@ -1,11 +1,13 @@
 pub mod RefusesExactly
 pub mod OwnNumbers
 pub mod CursorNext
-pub mod Calls
 pub mod Outcomes
 pub mod SetsReadBack
 pub mod RowChecked
 pub mod RunIs
+pub mod Wish01
+pub mod PanelShows
+pub mod Calls
 pub mod RunJudged
 pub mod OrderLeads
 pub mod LeadsTo
@@ -13,8 +15,9 @@ pub mod SearchIs
 pub mod Searches
 pub mod SameReplies
 pub mod Demands
+pub mod View
 pub mod Starred
-pub mod Wish01
+pub mod InTurn
 pub mod EachRefuses
 pub mod ItemsLead
 pub mod Wish02

@@ -10,7 +10,8 @@ use lib.ListN.{length}
 use lib.Dec.{eqb}
 use Rattle.theory.specs.Rule.{howMany, Program, FactSet, Same, inForce, count, exception, Step}
 use Rattle.theory.specs.Run.{Stand, run}
-use Rattle.theory.specs.Stable.{Stable, Within, Proof, Admits, rowTo}
+use Rattle.theory.specs.Stable.{Stable, Proof, Admits, rowTo}
+use Rattle.theory.specs.Conditions.{Within}
 use Rattle.theory.proofs.Bools.{never}
 use Rattle.theory.proofs.Order.{stable-none-aside}
 use Rattle.theory.proofs.Rows.{run-proof, run-admits}
@@ -23,13 +24,11 @@ use Rattle.items.specs.Item.{narrow, nameWidth}
 use Rattle.questions.specs.Questions.{orderQuestions, orderNo, rowOf, bufferQuestions, runQuestions, buffersNo, runNo, naming, runOf}
 use Rattle.questions.proofs.Orders.{naming-names, naming-length, once-yes}
 use Rattle.closure.specs.Steps.{stepBytes}
-use Rattle.run.specs.Outcome.{RunOutcome, runWritten, runOutcome}
-use Rattle.run.specs.Outcome as running
+use Rattle.run.specs.Outcome.{RunOutcome, runWritten, runOutcome, runNumber}
 use Rattle.run.proofs.ReadSteps.{steps-read}
 use Rattle.proofcheck.specs.declared.answer.Checked.{Checked}
 use Rattle.proofcheck.specs.declared.answer.Checked.the-variants as checking
-use Rattle.proofcheck.specs.Checked.{checked}
-use Rattle.proofcheck.specs.Checked as check
+use Rattle.proofcheck.specs.Checked.{checked, checkedNumber, checkedVerdict}
 use Rattle.proofcheck.proofs.Meaning.{checked-means}
 use Rattle.demands.specs.Results.{setBytes, RowsProve, rowUpTo, EndsAt, LeadsTo}
 use Rattle.demands.proofs.RowChecked.{set-is, row-checked}
@@ -43,7 +42,7 @@ pub record NamesOnce (P : Program) (row : List ℕ) : Type 0 where
   pub long : length row ≡ exceptions P
 
 -- a verdict that is not yes is 0
-not-yes : (a : Checked) → (check.number a ≡ 0 → check.verdict a ≡ 1 → ⊥) → check.verdict a ≡ 0
+not-yes : (a : Checked) → (checkedNumber a ≡ 0 → checkedVerdict a ≡ 1 → ⊥) → checkedVerdict a ≡ 0
 not-yes checking.Yes n = absurd (n refl refl)
 not-yes checking.No n = refl
 not-yes (checking.Refused r) n = refl
@@ -120,7 +119,7 @@ module _ (file : List ℕ) (accepted : _≡_ {A = Option Refusal} (fileNo file) 
     unfolding runWritten
     ends =
         record {
-          number = ap (λ (x : RunOutcome). running.number (x .answer)) ran;
+          number = ap (λ (x : RunOutcome). runNumber (x .answer)) ran;
           ends-there = derived-is file (naming row) facts rules steps may-run ∙ (ap (λ (t : Stand). t .derived) ran-under ∙ reached);
           none-aside = λ i. rw (aside-is file (naming row) facts rules steps may-run, ran-under, reached) (stable-none-aside P (inForce P) M stable i);
           rows-are = λ f. rows-read (λ g. rowUpTo g o) row-there f ∙ ap (rowTo f) (sym (trace-is file (naming row) facts rules steps may-run ∙ ap (λ (t : Stand). t .trace) ran-under));
@@ -130,7 +129,7 @@ module _ (file : List ℕ) (accepted : _≡_ {A = Option Refusal} (fileNo file) 
   outside : (f : ℕ) → M f ≡ false → (taken : List Step) → Proof P (inForce P) taken f → Admits P M taken → ⊥
   outside f out taken p a = outside-no-proof P (inForce P) M f stable out taken p a
 
-  no-said : (f : ℕ) → M f ≡ false → (bytes : List ℕ) → check.verdict (checked file (setBytes file M) f bytes) ≡ 0
+  no-said : (f : ℕ) → M f ≡ false → (bytes : List ℕ) → checkedVerdict (checked file (setBytes file M) f bytes) ≡ 0
   no-said f out bytes =
       not-yes (checked file (setBytes file M) f bytes)
       (λ n v.

@@ -6,7 +6,8 @@ use mathlib.Core.List.{List, _++_}
 use mathlib.Core.Option.{Option, none}
 use borrow.Author.Tests.{lt-ltb}
 use Rattle.theory.specs.Rule.{Program, FactSet, inForce, Step}
-use Rattle.theory.specs.Stable.{Within, Proof, Admits}
+use Rattle.theory.specs.Stable.{Proof, Admits}
+use Rattle.theory.specs.Conditions.{Within}
 use Rattle.theory.proofs.Check.{test-of-proof}
 use Rattle.items.specs.declared.refusal.Refusal.{Refusal}
 use Rattle.items.specs.Item.{narrow, has}

@@ -6,18 +6,20 @@ use mathlib.Core.List.{List}
 use mathlib.Core.Option.{Option, none}
 use lib.ListN.{length, getD, take, drop}
 use lib.Dec.{eqb}
-use Rattle.theory.specs.Rule.{howMany, mem, Program, Bounded, withheld, inForce, count, plain, exception, Step}
+use Rattle.theory.specs.Rule.{howMany, mem, Program, FactSet, withheld, inForce, count, plain, exception, Step}
+use Rattle.theory.specs.Conditions.{Bounded, Names}
 use Rattle.theory.specs.Run.{Stand, rejected, setAside, factMark, ruleMark, factMarks, ruleMarks}
 use Rattle.theory.specs.Stable.{rowTo}
-use Rattle.theory.specs.Chaining.{Names}
-use Rattle.theory.proofs.Bools.{never}
+use Rattle.theory.proofs.Bools.{never, both-ways}
 use Rattle.theory.proofs.Run.{run-sound, run-none-eligible, exception-known}
+use Rattle.theory.proofs.Absent.{run-absent}
 use Rattle.theory.proofs.RunStable.{run-stable, none-aside-stable}
 use Rattle.theory.proofs.Counts.{run-stages}
 use Rattle.theory.proofs.Stages.{stands}
 use Rattle.theory.proofs.Rows.{run-proof, run-admits}
 use Rattle.theory.proofs.Chaining.{applicable-eligible, run-chains, chaining-derived, chaining-rejected, chaining-disjoint, chaining-applied, chaining-taken}
-use Rattle.theory.proofs.Marks.{aside-inconsistent}
+use Rattle.theory.proofs.StepsInTurn.{run-in-turn, in-turn-unique}
+use Rattle.theory.proofs.Marks.{aside-supported, supported-aside, aside-inconsistent}
 use Rattle.theory.proofs.Withheld.{read-on}
 use Rattle.items.specs.declared.refusal.Refusal.{Refusal}
 use Rattle.items.specs.Item.{narrow, stepWidth}
@@ -27,9 +29,8 @@ use Rattle.items.proofs.FirstNo.{both-yes}
 use Rattle.questions.specs.Questions.{namedIn, orderQuestions, orderNo, rowOf, bufferQuestions, runQuestions, buffersNo, runNo, runOf}
 use Rattle.questions.proofs.OperationAsked.{yes-to-order}
 use Rattle.closure.specs.Steps.{stepBytes}
-use Rattle.run.specs.Outcome.{RunOutcome, runWritten, runOutcome}
-use Rattle.run.specs.Outcome as run
-use Rattle.demands.specs.Results.{derivedSet, rejectedSet, plainSet, appliedSet, asideSet, withheldSet, stepRow, RunIs, takenSteps, rowUpTo}
+use Rattle.run.specs.Outcome.{RunOutcome, runWritten, runOutcome, runNumber, runStages, runSteps}
+use Rattle.demands.specs.Results.{derivedSet, rejectedSet, plainSet, appliedSet, asideSet, withheldSet, stepRow, ChainsAlong, RunIs, takenSteps, rowUpTo}
 use Rattle.results.proofs.StepsWritten.{step-bytes-length}
 use Rattle.theory.proofs.Lists.{mapped-length}
 use Rattle.run.proofs.ReadMarks.{mark-at, marks-front, read-derived, read-rejected, read-plain, read-applied, read-aside, read-withheld, over-kept}
@@ -109,20 +110,20 @@ module _ (file order facts rules steps : List ℕ) (passed : _≡_ {A = Option R
       ∙ (mark-at (ruleMark P (inForce P) s) (count P) rules c l
       ∙ other-mark (plain P c) (mem c (s .applied)) (setAside P (inForce P) (s .derived) c) (inForce P c) (rw plain-is at p) (rw applied-is at a) (rw aside-is at x) (read-on P c (rw withheld-is at w)))
 
-  stages-are : run.stages (o .answer) ≡ howMany (λ m. eqb m 1) (take (count P) (o .rule-marks))
+  stages-are : runStages (o .answer) ≡ howMany (λ m. eqb m 1) (take (count P) (o .rule-marks))
   unfolding runWritten
   stages-are =
       rw o-is
       (sym (run-stages P (inForce P) names)
       ∙ ap (howMany (λ m. eqb m 1)) (sym (marks-front (ruleMark P (inForce P) s) (count P) rules)))
 
-  stage-count : run.stages (o .answer) ≡ length (s .applied)
+  pub stage-count : runStages (o .answer) ≡ length (s .applied)
   unfolding runWritten
-  stage-count = ap (λ (x : RunOutcome). run.stages (x .answer)) o-is
+  stage-count = ap (λ (x : RunOutcome). runStages (x .answer)) o-is
 
-  step-count : run.steps (o .answer) ≡ length (s .trace)
+  step-count : runSteps (o .answer) ≡ length (s .trace)
   unfolding runWritten
-  step-count = ap (λ (x : RunOutcome). run.steps (x .answer)) o-is
+  step-count = ap (λ (x : RunOutcome). runSteps (x .answer)) o-is
 
   pub steps-are : stepRow o ≡ stepBytes narrow (s .trace)
   unfolding runWritten
@@ -138,7 +139,7 @@ module _ (file order facts rules steps : List ℕ) (passed : _≡_ {A = Option R
       ap (λ (row : List Step). take (stepWidth narrow * length (rowTo f row)) (o .steps)) trace-is
       ∙ (ap (λ (x : RunOutcome). take (stepWidth narrow * length (rowTo f (s .trace))) (x .steps)) o-is ∙ row-front f (s .trace) steps)
 
-  steps-stay : drop (stepWidth narrow * run.steps (o .answer)) (o .steps) ≡ drop (stepWidth narrow * run.steps (o .answer)) steps
+  steps-stay : drop (stepWidth narrow * runSteps (o .answer)) (o .steps) ≡ drop (stepWidth narrow * runSteps (o .answer)) steps
   unfolding runWritten
   steps-stay = rw o-is (over-kept (stepBytes narrow (s .trace)) steps (stepWidth narrow * length (s .trace)) (step-bytes-length (s .trace)))
 
@@ -164,16 +165,19 @@ module _ (file order facts rules steps : List ℕ) (passed : _≡_ {A = Option R
         disjoint = λ D R c. chaining-disjoint P (inForce P) names D R c;
         plain-rules = λ c. ap (λ (p : ℕ → Bool). p c) plain-is;
         applied = λ D R h c. rw applied-is (chaining-applied P (inForce P) names D R h c);
+        set-aside = λ c. rw (aside-is, derived-is) (aside-supported P (inForce P) (s .derived) c, supported-aside P (inForce P) (s .derived) c);
         inconsistent = λ c. rw (aside-is, derived-is, rejected-is) (aside-inconsistent P (inForce P) names all-named c);
         withheld-rules = λ c. ap (λ (p : ℕ → Bool). p c) withheld-is;
         other-rules = other-is;
         stages-taken = λ D R h n. rw stage-count (chaining-taken P (inForce P) names D R h n);
         stages = stages-are;
         none-applicable = λ c a. never (applicable-eligible P (inForce P) s c (rw (derived-is, rejected-is) at a)) (run-none-eligible P (inForce P) names all-named c);
+        absent = λ f h. rw derived-is (run-absent P (inForce P) names f h);
         stable = rw (aside-is, derived-is) (run-stable P (inForce P) names);
         whole-stable = λ h. rw derived-is (none-aside-stable P (inForce P) names (λ i. sym (ap (λ (p : ℕ → Bool). p i) aside-is) ∙ h i));
         step-count = ap length trace-is ∙ sym step-count;
         step-facts = λ f. rw (trace-is, derived-is) (sym (run-sound P (inForce P) names .facts f));
+        in-turn = λ D R h. rw trace-is (run-in-turn P (inForce P) names D R h);
         row-proves = λ f d. rw trace-is (run-proof P (inForce P) names f (sym (ap (λ (p : ℕ → Bool). p f) derived-is) ∙ d));
         row-admitted = λ f _. rw (trace-is, derived-is) (run-admits P (inForce P) names f);
         fact-marks-kept = facts-stay;
@@ -182,6 +186,21 @@ module _ (file order facts rules steps : List ℕ) (passed : _≡_ {A = Option R
       }
 
 -- Number 0 is a result.
-pub run-is : (file order facts rules steps : List ℕ) → run.number (runOutcome file order facts rules steps .answer) ≡ 0 → RunIs file order facts rules steps (runOutcome file order facts rules steps)
+pub run-is : (file order facts rules steps : List ℕ) → runNumber (runOutcome file order facts rules steps .answer) ≡ 0 → RunIs file order facts rules steps (runOutcome file order facts rules steps)
 run-is file order facts rules steps e =
     run-passed file order facts rules steps (run-answered file order facts rules steps e)
+
+-- It leaves no step open: of all outcomes for a file and an order of which it holds, the steps are the same.
+pub steps-determined : (file order : List ℕ) {facts rules steps facts′ rules′ steps′ : List ℕ} (o o′ : RunOutcome) → RunIs file order facts rules steps o → RunIs file order facts′ rules′ steps′ o′ → takenSteps o ≡ takenSteps o′
+steps-determined file order o o′ r r′ =
+    in-turn-unique (programOf file) (inForce (programOf file)) (namedIn order) D R (takenSteps o) (takenSteps o′) (r .in-turn D R chain) (r′ .in-turn D R chain)
+    (λ f. r .step-facts f ∙ (both-ways _ _ (λ t. r′ .derived D R chain f .1 (r .derived D R chain f .0 t)) (λ t. r .derived D R chain f .1 (r′ .derived D R chain f .0 t)) ∙ sym (r′ .step-facts f)))
+  where
+    D : ℕ → FactSet
+    D = r .chains .0
+
+    R : ℕ → FactSet
+    R = r .chains .1 .0
+
+    chain : ChainsAlong file order D R
+    chain = r .chains .1 .1

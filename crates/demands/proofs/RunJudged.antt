@@ -15,8 +15,7 @@ use Rattle.reader.specs.Questions.{programOf, fileQuestions}
 use Rattle.items.proofs.FirstNo.{all-yes}
 use Rattle.items.specs.Item.{has}
 use Rattle.questions.specs.Questions.{namedIn, listQuestions, setQuestions, runNo, judgeQuestions, judgeNo, runOf}
-use Rattle.run.specs.Outcome.{RunOutcome, runOutcome}
-use Rattle.run.specs.Outcome as run
+use Rattle.run.specs.Outcome.{RunOutcome, runOutcome, runNumber}
 use Rattle.demands.specs.Results.{derivedSet, asideSet, listed, setOf, RunIs, JudgedStable}
 use Rattle.run.proofs.ReadMarks.{marked-past}
 use Rattle.judge.specs.declared.answer.Judged.the-variants as judgement
@@ -26,7 +25,7 @@ use Rattle.demands.proofs.SetsReadBack.{listed-back, listed-yes, set-ba
 use Rattle.demands.proofs.Outcomes.{run-answered}
 use Rattle.demands.proofs.RunIs.{yeses, in-bounds, aside-is, run-passed}
 
-pub run-judged : (file order facts rules steps : List ℕ) → run.number (runOutcome file order facts rules steps .answer) ≡ 0 → JudgedStable file (runOutcome file order facts rules steps)
+pub run-judged : (file order facts rules steps : List ℕ) → runNumber (runOutcome file order facts rules steps .answer) ≡ 0 → JudgedStable file (runOutcome file order facts rules steps)
 unfolding judgeQuestions
 run-judged file order facts rules steps e =
     judge-judged file list set passed ∙ ap (λ (b : Bool). cond b judgement.Stable judgement.NotStable) stable

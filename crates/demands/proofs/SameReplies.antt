@@ -2,16 +2,16 @@
 -- their way from one file to the other.
 use Prim.Native.Nat.{ℕ, _*_}
 use mathlib.Core.Path.{_≡_, refl, sym, _∙_, ap}
-use mathlib.Core.Bool.{Bool, true, false, cond, not, _&&_}
+use mathlib.Core.Bool.{Bool, true, false, cond}
 use mathlib.Core.List.{List, [], _∷_, _++_, append-assoc}
 use mathlib.Core.Option.{Option, none, some}
 use lib.ListN.{length}
 use lib.Dec.{eqb, leb}
-use Rattle.theory.specs.Rule.{mem, keep, upTo, Program, FactSet, inForce, nothing, null, count, exception, Alike}
+use Rattle.theory.specs.Rule.{keep, upTo, Program, FactSet, inForce, nothing, null, count, exception, Alike}
 use Rattle.theory.specs.Run.{run, stageCount, stepCount}
 use Rattle.theory.specs.Stable.{orderFor}
 use Rattle.theory.specs.Search.{search}
-use Rattle.theory.proofs.Repeats.{alike-inForce, alike-exception, alike-exception-count, alike-constraint-count, alike-run, alike-aside, alike-asideCount, alike-factMark, alike-factMarks, alike-ruleMarks, alike-grounds, alike-isStable, alike-isProof, alike-search, alike-orderFor, alike-isLayered, alike-layeredOrder}
+use Rattle.theory.proofs.Repeats.{alike-exception, alike-exception-count, alike-constraint-count, alike-run, alike-aside, alike-asideCount, alike-factMark, alike-factMarks, alike-ruleMarks, alike-grounds, alike-isStable, alike-isProof, alike-search, alike-orderFor, alike-isLayered, alike-layeredOrder}
 use Rattle.reader.specs.declared.answer.Accept.the-variants.{Accepted}
 use Rattle.items.specs.declared.refusal.Refusal.{Refusal}
 use Rattle.items.specs.declared.refusal.Refusal.the-variants.{FactMarksShort, RuleMarksShort, StepsShort, OrderShort, TooManyConstraints, NoStableSet, NotDerived, NotLayered}
@@ -55,10 +55,6 @@ module _ (s t : List ℕ) (yes-s : _≡_ {A = Option Refusal} (fileNo s) none) (
   abbrev Q : Program
   Q = programOf t
 
-  -- the same rules are in force
-  force : inForce P ≡ inForce Q
-  force = alike-inForce a
-
   -- The file's questions got yes; what is asked behind them is the same.
   behind : (xs ys : List Question) → firstNo xs ≡ firstNo ys → firstNo (fileQuestions s ++ xs) ≡ firstNo (fileQuestions t ++ ys)
   behind xs ys e = first-yes (fileQuestions s) xs yes-s ∙ (e ∙ sym (first-yes (fileQuestions t) ys yes-t))
@@ -89,7 +85,7 @@ module _ (s t : List ℕ) (yes-s : _≡_ {A = Option Refusal} (fileNo s) none) (
 
   same-constraints : constraintFacts P ≡ constraintFacts Q
   unfolding constraintFacts
-  same-constraints i = alike-constraint-count a (force i) i
+  same-constraints = alike-constraint-count a
 
   same-limits : (order : ℕ) → limitQuestions P order ≡ limitQuestions Q order
   unfolding limitQuestions
@@ -137,15 +133,15 @@ module _ (s t : List ℕ) (yes-s : _≡_ {A = Option Refusal} (fileNo s) none) (
       elim (run-asked order (length facts) (length rules) (length steps) i) as (λ _. RunOutcome) [
         | none ↦ record {
           answer = ran.Done (stageCount (end i)) (stepCount (end i));
-          fact-marks = over (alike-factMarks a (end i) i) facts;
-          rule-marks = over (alike-ruleMarks a (force i) (end i) i) rules;
+          fact-marks = over (alike-factMarks a (namedIn order) i) facts;
+          rule-marks = over (alike-ruleMarks a (namedIn order) i) rules;
           steps = over (stepBytes narrow (end i .trace)) steps;
         }
         | some r ↦ record { answer = ran.Refused r; fact-marks = facts; rule-marks = rules; steps = steps }
       ]
     where
       end : runOf s order ≡ runOf t order
-      end i = alike-run a (force i) (namedIn order) i
+      end = alike-run a (namedIn order)
 
   -- The grounds for one fact.
   grounds-asked : (order : List ℕ) (fact facts rules steps : ℕ) → groundsNo s order fact facts rules steps ≡ groundsNo t order fact facts rules steps
@@ -153,7 +149,7 @@ module _ (s t : List ℕ) (yes-s : _≡_ {A = Option Refusal} (fileNo s) none) (
   grounds-asked order fact facts rules steps =
       ap firstNo (append-assoc (fileQuestions s) (orderQuestions (exception P) (count P) order ++ bufferQuestions narrow P facts rules steps) (derivedQuestion (runOf s order) fact ∷ []))
       ∙ (behind ((orderQuestions (exception P) (count P) order ++ bufferQuestions narrow P facts rules steps) ++ (derivedQuestion (runOf s order) fact ∷ [])) ((orderQuestions (exception Q) (count Q) order ++ bufferQuestions narrow Q facts rules steps) ++ (derivedQuestion (runOf t order) fact ∷ []))
-      (λ i. firstNo ((same-order order i ++ same-buffers facts rules steps i) ++ (ask NotDerived (alike-run a (force i) (namedIn order) i .derived fact) ∷ [])))
+      (λ i. firstNo ((same-order order i ++ same-buffers facts rules steps i) ++ (ask NotDerived (alike-run a (namedIn order) i .derived fact) ∷ [])))
       ∙ sym (ap firstNo (append-assoc (fileQuestions t) (orderQuestions (exception Q) (count Q) order ++ bufferQuestions narrow Q facts rules steps) (derivedQuestion (runOf t order) fact ∷ []))))
 
   same-grounds : (order : List ℕ) (fact : ℕ) (facts rules steps : List ℕ) → groundsOutcome s order fact facts rules steps ≡ groundsOutcome t order fact facts rules steps
@@ -161,16 +157,16 @@ module _ (s t : List ℕ) (yes-s : _≡_ {A = Option Refusal} (fileNo s) none) (
   same-grounds order fact facts rules steps i =
       elim (grounds-asked order fact (length facts) (length rules) (length steps) i) as (λ _. GroundsOutcome) [
         | none ↦ record {
-          answer = told.Given (length (alike-grounds a fact (end i .trace) i));
-          fact-marks = over (alike-factMarks a (end i) i) facts;
-          rule-marks = over (alike-ruleMarks a (force i) (end i) i) rules;
-          steps = over (stepBytes narrow (alike-grounds a fact (end i .trace) i)) steps;
+          answer = told.Given (length (alike-grounds a (namedIn order) fact i));
+          fact-marks = over (alike-factMarks a (namedIn order) i) facts;
+          rule-marks = over (alike-ruleMarks a (namedIn order) i) rules;
+          steps = over (stepBytes narrow (alike-grounds a (namedIn order) fact i)) steps;
         }
         | some r ↦ groundsRefused r facts rules steps
       ]
     where
       end : runOf s order ≡ runOf t order
-      end i = alike-run a (force i) (namedIn order) i
+      end = alike-run a (namedIn order)
 
   -- The judge and the proof check.
   judge-asked : (list set : List ℕ) → judgeNo s list set ≡ judgeNo t list set
@@ -183,7 +179,7 @@ module _ (s t : List ℕ) (yes-s : _≡_ {A = Option Refusal} (fileNo s) none) (
   unfolding judged
   same-judge list set i =
       elim (judge-asked list set i) as (λ _. Judged) [
-        | none ↦ cond (alike-isStable a (λ r. force i r && not (mem r (namedIn list))) (has set) i) judgement.Stable judgement.NotStable
+        | none ↦ cond (alike-isStable a (namedIn list) (has set) i) judgement.Stable judgement.NotStable
         | some r ↦ judgement.Refused r
       ]
 
@@ -197,18 +193,18 @@ module _ (s t : List ℕ) (yes-s : _≡_ {A = Option Refusal} (fileNo s) none) (
   unfolding checked
   same-check set fact row i =
       elim (check-asked set fact row i) as (λ _. Checked) [
-        | none ↦ cond (alike-isProof a (force i) (has set) (rowOf row) fact i) checking.Yes checking.No
+        | none ↦ cond (alike-isProof a (has set) (rowOf row) fact i) checking.Yes checking.No
         | some r ↦ checking.Refused r
       ]
 
   -- The search.
   same-stable : someStable P ≡ someStable Q
   unfolding someStable
-  same-stable i = elim (alike-search a (force i) i) as (λ _. Bool) [ some M ↦ true | none ↦ false ]
+  same-stable i = elim (alike-search a i) as (λ _. Bool) [ some M ↦ true | none ↦ false ]
 
   same-taken : takenSet P ≡ takenSet Q
   unfolding takenSet
-  same-taken i = elim (alike-search a (force i) i) as (λ _. FactSet) [ some M ↦ M | none ↦ nothing ]
+  same-taken i = elim (alike-search a i) as (λ _. FactSet) [ some M ↦ M | none ↦ nothing ]
 
   later : Program → ℕ → ℕ → ℕ → ℕ → List Question
   later R facts rules steps order =
@@ -228,10 +224,10 @@ module _ (s t : List ℕ) (yes-s : _≡_ {A = Option Refusal} (fileNo s) none) (
 
   -- the order for the set that is taken, and the run under it
   same-written : orderFor P (inForce P) (takenSet P) ≡ orderFor Q (inForce Q) (takenSet Q)
-  same-written i = alike-orderFor a (force i) (same-taken i) i
+  same-written i = alike-orderFor a i (same-taken i)
 
   same-end : run P (inForce P) (orderFor P (inForce P) (takenSet P)) ≡ run Q (inForce Q) (orderFor Q (inForce Q) (takenSet Q))
-  same-end i = alike-run a (force i) (same-written i) i
+  same-end i = alike-run a (same-written i) i
 
   same-search : (facts rules steps order : List ℕ) → searchOutcome s facts rules steps order ≡ searchOutcome t facts rules steps order
   unfolding searchOutcome searchWritten
@@ -239,8 +235,8 @@ module _ (s t : List ℕ) (yes-s : _≡_ {A = Option Refusal} (fileNo s) none) (
       elim (search-asked (length facts) (length rules) (length steps) (length order) i) as (λ _. SearchOutcome) [
         | none ↦ record {
           answer = searched.Found (stageCount (same-end i)) (stepCount (same-end i));
-          fact-marks = over (alike-factMarks a (same-end i) i) facts;
-          rule-marks = over (alike-ruleMarks a (force i) (same-end i) i) rules;
+          fact-marks = over (alike-factMarks a (same-written i) i) facts;
+          rule-marks = over (alike-ruleMarks a (same-written i) i) rules;
           steps = over (stepBytes narrow (same-end i .trace)) steps;
           order = over (naming (same-written i)) order;
         }
@@ -252,13 +248,13 @@ module _ (s t : List ℕ) (yes-s : _≡_ {A = Option Refusal} (fileNo s) none) (
   unfolding layeredQuestions
   layered-asked order =
       behind (orderRoomQuestion P order ∷ layeredQuestion P ∷ []) (orderRoomQuestion Q order ∷ layeredQuestion Q ∷ [])
-      (λ i. firstNo (ask OrderShort (leb (nameWidth * same-exceptions i) order) ∷ ask NotLayered (alike-isLayered a (force i) i) ∷ []))
+      (λ i. firstNo (ask OrderShort (leb (nameWidth * same-exceptions i) order) ∷ ask NotLayered (alike-isLayered a i) ∷ []))
 
   same-layered : (order : List ℕ) → layeredOutcome s order ≡ layeredOutcome t order
   unfolding layeredOutcome orderedBy
   same-layered order i =
       elim (layered-asked (length order) i) as (λ _. LayeredOutcome) [
-        | none ↦ record { answer = layers.Ordered (length (alike-layeredOrder a (force i) i)); order = over (naming (alike-layeredOrder a (force i) i)) order }
+        | none ↦ record { answer = layers.Ordered (length (alike-layeredOrder a i)); order = over (naming (alike-layeredOrder a i)) order }
         | some r ↦ record { answer = layers.Refused r; order = order }
       ]
 
@@ -268,7 +264,7 @@ module _ (s t : List ℕ) (yes-s : _≡_ {A = Option Refusal} (fileNo s) none) (
   better-asked first second = behind (bothQuestions P first second) (bothQuestions Q first second) (λ i. firstNo (same-order first i ++ same-order second i))
 
   same-asides : (order : List ℕ) → asideOf s order ≡ asideOf t order
-  same-asides order i = alike-asideCount a (force i) (namedIn order) i
+  same-asides order = alike-asideCount a (namedIn order)
 
   same-choice : (first second : List ℕ) → choiceOf s first second ≡ choiceOf t first second
   unfolding choiceOf
@@ -283,14 +279,17 @@ module _ (s t : List ℕ) (yes-s : _≡_ {A = Option Refusal} (fileNo s) none) (
   unfolding panelText
   text-of u e = rw (e, panelText)
 
+  ascending-same : ascending P ≡ ascending Q
+  ascending-same i = keep (alike-exception a i) (upTo (a .same-count i))
+
   same-ascending : run P (inForce P) (ascending P) ≡ run Q (inForce Q) (ascending Q)
-  same-ascending i = alike-run a (force i) (keep (alike-exception a i) (upTo (a .same-count i))) i
+  same-ascending i = alike-run a (ascending-same i) i
 
   same-rejected : rejectedFacts P (run P (inForce P) (ascending P)) ≡ rejectedFacts Q (run Q (inForce Q) (ascending Q))
-  same-rejected i = keep (λ f. eqb (alike-factMark a i (same-ascending i) f) 2) (upTo (a .same-facts i))
+  same-rejected i = keep (λ f. eqb (alike-factMark a (ascending-same i) i f) 2) (upTo (a .same-facts i))
 
   same-aside : asideRules P (run P (inForce P) (ascending P)) ≡ asideRules Q (run Q (inForce Q) (ascending Q))
-  same-aside i = keep (alike-aside a (force i) i (same-ascending i .derived)) (upTo (a .same-count i))
+  same-aside i = keep (alike-aside a i (same-ascending i .derived)) (upTo (a .same-count i))
 
   same-lines : runText P (run P (inForce P) (ascending P)) ≡ runText Q (run Q (inForce Q) (ascending Q))
   unfolding runText
@@ -314,7 +313,7 @@ module _ (s t : List ℕ) (yes-s : _≡_ {A = Option Refusal} (fileNo s) none) (
   unfolding groundsText
   same-grounds-text fact i =
       elim (text-asked fact i) as (λ _. List ℕ) [
-        | none ↦ each stepLine (alike-grounds a fact (same-ascending i .trace) i)
+        | none ↦ each stepLine (alike-grounds a (ascending-same i) fact i)
         | some r ↦ line 0x45 (refusal.number r)
       ]
 

@@ -7,7 +7,8 @@ use mathlib.Core.Option.{Option, none, some}
 use lib.ListN.{length, take, drop}
 use lib.Seq.{take-at}
 use lib.Dec.{eqb}
-use Rattle.theory.specs.Rule.{howMany, Program, FactSet, Bounded, inForce, count, Step}
+use Rattle.theory.specs.Rule.{howMany, Program, FactSet, inForce, count, Step}
+use Rattle.theory.specs.Conditions.{Bounded}
 use Rattle.theory.specs.Run.{Stand, run, factMark, ruleMark, factMarks, ruleMarks}
 use Rattle.theory.specs.Stable.{rowTo, Earliest, anySet, orderFor}
 use Rattle.theory.specs.Search.{search}
@@ -24,15 +25,13 @@ use Rattle.items.proofs.FirstNo.{both-yes}
 use Rattle.questions.specs.Questions.{namedIn, rowOf, bufferQuestions, buffersNo, someStable, stableQuestion, limitQuestions, earlyQuestions, searchQuestions, searchNo, naming}
 use Rattle.questions.proofs.Orders.{naming-names}
 use Rattle.closure.specs.Steps.{stepBytes}
-use Rattle.run.specs.Outcome.{RunOutcome, runWritten, runOutcome}
-use Rattle.run.specs.Outcome as running
+use Rattle.run.specs.Outcome.{RunOutcome, runWritten, runOutcome, runStages, runSteps}
 use Rattle.demands.specs.Results.{stepRow, foundSet, writtenOrder, writtenSteps, writtenProof, SameResult, SearchIs}
 use Rattle.results.proofs.StepsWritten.{step-bytes-length}
 use Rattle.theory.proofs.Lists.{mapped-length}
 use Rattle.run.proofs.ReadMarks.{marks-front, read-derived, read-aside, read-withheld, over-kept}
 use Rattle.run.proofs.ReadSteps.{steps-front, row-front, steps-read}
-use Rattle.search.specs.Outcome.{SearchOutcome, searchWritten, foundAt, takenSet, searchOutcome}
-use Rattle.search.specs.Outcome as searching
+use Rattle.search.specs.Outcome.{SearchOutcome, searchWritten, foundAt, takenSet, searchOutcome, searchNumber, searchStages, searchSteps}
 use Rattle.orders.proofs.OrderGroups.{order-width}
 use Rattle.demands.proofs.Outcomes.{search-found, search-answered}
 use Rattle.demands.proofs.LeadsTo.{reaches, rows-read, rows-prove, ran, leads-to}
@@ -117,8 +116,8 @@ module _ (file facts rules steps order : List ℕ) (passed : _≡_ {A = Option R
           fact-marks = ap (λ (x : RunOutcome). take (P .facts) (x .fact-marks)) ran-so ∙ (marks-front (factMark P s) (P .facts) facts′ ∙ sym (ap (λ (x : SearchOutcome). take (P .facts) (x .fact-marks)) o-is ∙ marks-front (factMark P s) (P .facts) facts));
           rule-marks = ap (λ (x : RunOutcome). take (count P) (x .rule-marks)) ran-so ∙ (marks-front (ruleMark P (inForce P) s) (count P) rules′ ∙ sym (ap (λ (x : SearchOutcome). take (count P) (x .rule-marks)) o-is ∙ marks-front (ruleMark P (inForce P) s) (count P) rules));
           steps = ap stepRow ran-so ∙ (steps-front (s .trace) steps′ ∙ sym steps-are);
-          stage-count = ap (λ (x : RunOutcome). running.stages (x .answer)) ran-so ∙ sym (ap (λ (x : SearchOutcome). searching.stages (x .answer)) o-is);
-          step-count = ap (λ (x : RunOutcome). running.steps (x .answer)) ran-so ∙ sym (ap (λ (x : SearchOutcome). searching.steps (x .answer)) o-is);
+          stage-count = ap (λ (x : RunOutcome). runStages (x .answer)) ran-so ∙ sym (ap (λ (x : SearchOutcome). searchStages (x .answer)) o-is);
+          step-count = ap (λ (x : RunOutcome). runSteps (x .answer)) ran-so ∙ sym (ap (λ (x : SearchOutcome). searchSteps (x .answer)) o-is);
         }
 
   same-bytes : runOutcome file (writtenOrder file o) facts rules steps ≡ runWritten P s facts rules steps
@@ -147,6 +146,6 @@ module _ (file facts rules steps order : List ℕ) (passed : _≡_ {A = Option R
       }
 
 -- Number 0 is a result.
-pub search-is : (file facts rules steps order : List ℕ) → searching.number (searchOutcome file facts rules steps order .answer) ≡ 0 → SearchIs file facts rules steps order (searchOutcome file facts rules steps order)
+pub search-is : (file facts rules steps order : List ℕ) → searchNumber (searchOutcome file facts rules steps order .answer) ≡ 0 → SearchIs file facts rules steps order (searchOutcome file facts rules steps order)
 search-is file facts rules steps order e =
     search-passed file facts rules steps order (search-answered file facts rules steps order e)

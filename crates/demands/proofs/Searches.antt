@@ -19,8 +19,9 @@ use Rattle.items.specs.Question.{firstNo}
 use Rattle.items.specs.Item.{narrow, nameWidth, stepWidth}
 use Rattle.reader.specs.Questions.{programOf, fileQuestions, fileNo, exceptions, constraintFacts}
 use Rattle.items.proofs.FirstNo.{first-no, first-yes}
-use Rattle.questions.specs.Questions.{bufferQuestions, buffersNo, guessedQuestion, someStable, stableQuestion, limitQuestions, earlyQuestions, searchQuestions, earlyNo, searchNo}
-use Rattle.search.specs.Outcome.{SearchOutcome, searchWritten, searchOutcome}
+use Rattle.questions.specs.Questions.{bufferQuestions, buffersNo, guessedQuestion, someStable, stableQuestion, limitQuestions, earlyQuestions, searchQuestions, searchNo}
+use Rattle.questions.specs.Parts.{earlyNo}
+use Rattle.search.specs.Outcome.{SearchOutcome, searchWritten, searchOutcome, searchNumber}
 use Rattle.search.specs.Outcome as searching
 use Rattle.search.proofs.SearchMeaning.{stable-asked}
 use Rattle.demands.specs.Results.{LargeEnough, Searchable, Searches, FortyExactly}
@@ -34,12 +35,12 @@ module _ (file facts rules steps order : List ℕ) where
   abbrev o : SearchOutcome
   o = searchOutcome file facts rules steps order
 
-  found-number : _≡_ {A = Option Refusal} (searchNo file (length facts) (length rules) (length steps) (length order)) none → searching.number (o .answer) ≡ 0
+  found-number : _≡_ {A = Option Refusal} (searchNo file (length facts) (length rules) (length steps) (length order)) none → searchNumber (o .answer) ≡ 0
   unfolding searchWritten
-  found-number e = ap (λ (x : SearchOutcome). searching.number (x .answer)) (search-found file facts rules steps order e)
+  found-number e = ap (λ (x : SearchOutcome). searchNumber (x .answer)) (search-found file facts rules steps order e)
 
-  refused-number : (r : Refusal) → searchNo file (length facts) (length rules) (length steps) (length order) ≡ some r → searching.number (o .answer) ≡ searching.number (searching.refusedWith r facts rules steps order .answer)
-  refused-number r e = ap (λ (x : SearchOutcome). searching.number (x .answer)) (search-refused file facts rules steps order r e)
+  refused-number : (r : Refusal) → searchNo file (length facts) (length rules) (length steps) (length order) ≡ some r → searchNumber (o .answer) ≡ searchNumber (searching.refusedWith r facts rules steps order .answer)
+  refused-number r e = ap (λ (x : SearchOutcome). searchNumber (x .answer)) (search-refused file facts rules steps order r e)
 
   module _ (accepted : _≡_ {A = Option Refusal} (fileNo file) none) (large : LargeEnough file facts rules steps order) where
     buffers-fit : _≡_ {A = Option Refusal} (buffersNo narrow P (length facts) (length rules) (length steps)) none
@@ -55,7 +56,7 @@ module _ (file facts rules steps order : List ℕ) where
         ∙ (first-yes (bufferQuestions narrow P (length facts) (length rules) (length steps)) (limitQuestions P (length order)) buffers-fit
         ∙ rw (le-leb (nameWidth * exceptions P) (length order) (large .rule-items)))
 
-    too-many : leb (constraintFacts P) 16 ≡ false → searching.number (o .answer) ≡ 40
+    too-many : leb (constraintFacts P) 16 ≡ false → searchNumber (o .answer) ≡ 40
     unfolding searchQuestions
     too-many e =
         refused-number TooManyConstraints
@@ -68,10 +69,10 @@ module _ (file facts rules steps order : List ℕ) where
           first-yes (earlyQuestions file (length facts) (length rules) (length steps) (length order)) (stableQuestion P ∷ [])
           (guessed-left ∙ rw (le-leb (constraintFacts P) 16 few))
 
-      yes-found : someStable P ≡ true → searching.number (o .answer) ≡ 0
+      yes-found : someStable P ≡ true → searchNumber (o .answer) ≡ 0
       yes-found e = found-number (stable-left ∙ rw e)
 
-      no-refused : someStable P ≡ false → searching.number (o .answer) ≡ 41
+      no-refused : someStable P ≡ false → searchNumber (o .answer) ≡ 41
       no-refused e = refused-number NoStableSet (stable-left ∙ rw e)
 
       answers : Searches file facts rules steps order o
@@ -79,7 +80,7 @@ module _ (file facts rules steps order : List ℕ) where
         where
           go : (b : Bool) → someStable P ≡ b → Searches file facts rules steps order o
           go true e =
-              let n : searching.number (o .answer) ≡ 0 = yes-found e in
+              let n : searchNumber (o .answer) ≡ 0 = yes-found e in
               let t = stable-asked file accepted .0 e in
               record {
                 none-exactly = (λ z. absurd (omega arith), λ h. absurd (h (t .0) (t .1)));
@@ -88,7 +89,7 @@ module _ (file facts rules steps order : List ℕ) where
                 one-or-other = inl n;
               }
           go false e =
-              let n : searching.number (o .answer) ≡ 41 = no-refused e in
+              let n : searchNumber (o .answer) ≡ 41 = no-refused e in
               let none-stable : (M : FactSet) → Stable P (inForce P) M → ⊥ = λ M m. never (stable-asked file accepted .1 (M, m)) e in
               record {
                 none-exactly = (λ _. none-stable, λ _. n);

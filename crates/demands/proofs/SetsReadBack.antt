@@ -14,7 +14,8 @@ use Rattle.theory.proofs.Bools.{and-right}
 use Rattle.theory.proofs.Lists.{all-of, mem-keep, upTo-mem, mapped-length, mapped-at}
 use Rattle.items.specs.declared.refusal.Refusal.{Refusal}
 use Rattle.items.specs.Item.{has}
-use Rattle.questions.specs.Questions.{namedIn, zeroOrOne, setQuestions, setNo, listNo}
+use Rattle.questions.specs.Questions.{namedIn, zeroOrOne, setQuestions}
+use Rattle.questions.specs.Parts.{setNo, listNo}
 use Rattle.questions.proofs.Orders.{naming-names, list-yes, keep-once}
 use Rattle.demands.specs.Results.{listed, setOf}
 

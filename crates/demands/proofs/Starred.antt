@@ -15,19 +15,16 @@ use Rattle.cursors.specs.Cursor.{front, itemsAt}
 use Rattle.reader.specs.Questions.{programOf, fileQuestions, exceptions, constraintFacts}
 use Rattle.questions.specs.Questions.{listQuestions, orderQuestions, setQuestions, rowQuestions, bufferQuestions, runQuestions, judgeQuestions, checkQuestions, someStable, limitQuestions, earlyQuestions, searchQuestions, naming}
 use Rattle.questions.proofs.Orders.{naming-names}
-use Rattle.run.specs.Outcome.{runWritten, runOutcome}
-use Rattle.run.specs.Outcome as running
+use Rattle.run.specs.Outcome.{runWritten, runOutcome, runNumber}
 use Rattle.run.proofs.ReadMarks.{marked-past}
 use Rattle.judge.specs.declared.answer.Judged.the-variants as judgement
-use Rattle.judge.specs.Judged.{judged}
+use Rattle.judge.specs.Judged.{judged, judgedNumber, judgedVerdict}
 use Rattle.judge.specs.Judged as judge
 use Rattle.judge.proofs.Meaning.{judged-means}
 use Rattle.proofcheck.specs.declared.answer.Checked.the-variants as checking
-use Rattle.proofcheck.specs.Checked.{checked}
-use Rattle.proofcheck.specs.Checked as check
+use Rattle.proofcheck.specs.Checked.{checked, checkedNumber, checkedVerdict}
 use Rattle.proofcheck.proofs.Meaning.{checked-means}
-use Rattle.search.specs.Outcome.{searchWritten, takenSet, searchOutcome}
-use Rattle.search.specs.Outcome as searching
+use Rattle.search.specs.Outcome.{searchWritten, takenSet, searchOutcome, searchNumber}
 use Rattle.demands.specs.Results.{foundSet, setOf, RunIs, SearchIs}
 use Rattle.search.proofs.SearchMeaning.{searched-means}
 use Rattle.demands.specs.Examples.{A, B, C, D, E, F}
@@ -37,7 +34,7 @@ use Rattle.demands.proofs.RunIs.{run-is}
 use Rattle.demands.proofs.SearchIs.{search-is}
 
 -- What the bytes mean, by the theorems.
-pub ran-so : (file order : List ℕ) → running.number (runs file order .answer) ≡ 0 → RunIs file (naming order) (factRoom file) (ruleRoom file) (stepRoom file) (runs file order)
+pub ran-so : (file order : List ℕ) → runNumber (runs file order .answer) ≡ 0 → RunIs file (naming order) (factRoom file) (ruleRoom file) (stepRoom file) (runs file order)
 ran-so file order e = run-is file (naming order) (factRoom file) (ruleRoom file) (stepRoom file) e
 
 stable-so : (file rs set : List ℕ) → judged file (naming rs) set ≡ judgement.Stable → IsStable file rs set
@@ -46,7 +43,7 @@ stable-so file rs set e =
       says = e;
       is =
           subst (λ (named : List ℕ). Stable (programOf file) (less (programOf file) named) (has set)) (naming-names rs)
-          (judged-means file (naming rs) set .stable-exactly (ap judge.number e) .0 (ap judge.verdict e));
+          (judged-means file (naming rs) set .stable-exactly (ap judgedNumber e) .0 (ap judgedVerdict e));
     }
 
 not-stable-so : (file rs set : List ℕ) → judged file (naming rs) set ≡ judgement.NotStable → IsNotStable file rs set
@@ -55,24 +52,24 @@ not-stable-so file rs set e = record { says = e; is-not = not-so }
     not-so : Stable (programOf file) (less (programOf file) rs) (has set) → ⊥
     not-so m =
         let listed : Stable (programOf file) (judge.unlisted (programOf file) (naming rs)) (has set) = subst (λ (named : List ℕ). Stable (programOf file) (less (programOf file) named) (has set)) (sym (naming-names rs)) m in
-        let one : judge.verdict (judged file (naming rs) set) ≡ 1 = judged-means file (naming rs) set .stable-exactly (ap judge.number e) .1 listed in
-        let zero : judge.verdict (judged file (naming rs) set) ≡ 0 = ap judge.verdict e in
+        let one : judgedVerdict (judged file (naming rs) set) ≡ 1 = judged-means file (naming rs) set .stable-exactly (ap judgedNumber e) .1 listed in
+        let zero : judgedVerdict (judged file (naming rs) set) ≡ 0 = ap judgedVerdict e in
         omega arith
 
 proof-so : (file set : List ℕ) (fact : ℕ) (row : List ℕ) → checked file set fact row ≡ checking.Yes → IsProof file set fact row
 proof-so file set fact row e =
-    let t = checked-means file set fact row .yes-exactly (ap check.number e) .0 (ap check.verdict e) in
+    let t = checked-means file set fact row .yes-exactly (ap checkedNumber e) .0 (ap checkedVerdict e) in
     record { says = e; proves = t .0; admitted = t .1 }
 
-pub taken-so : (file : List ℕ) → searching.number (searches file .answer) ≡ 0 → SearchIs file (factRoom file) (ruleRoom file) (stepRoom file) (orderRoom file) (searches file)
+pub taken-so : (file : List ℕ) → searchNumber (searches file .answer) ≡ 0 → SearchIs file (factRoom file) (ruleRoom file) (stepRoom file) (orderRoom file) (searches file)
 taken-so file e = search-is file (factRoom file) (ruleRoom file) (stepRoom file) (orderRoom file) e
 
-pub earliest-so : (file set : List ℕ) → setOf (programOf file .facts) (foundSet file (searches file)) ≡ set → searching.number (searches file .answer) ≡ 0 → Earliest (programOf file) (inForce (programOf file)) anySet (has set)
+pub earliest-so : (file set : List ℕ) → setOf (programOf file .facts) (foundSet file (searches file)) ≡ set → searchNumber (searches file .answer) ≡ 0 → Earliest (programOf file) (inForce (programOf file)) anySet (has set)
 earliest-so file set r e =
     let back : has set ≡ foundSet file (searches file) = ap has (sym r) ∙ set-back (programOf file .facts) (foundSet file (searches file)) (marked-past (programOf file .facts) 1 (searches file .fact-marks)) in
     rw back (taken-so file e .earliest)
 
-none-so : (file : List ℕ) → searching.number (searches file .answer) ≡ 41 → (M : FactSet) → Stable (programOf file) (inForce (programOf file)) M → ⊥
+none-so : (file : List ℕ) → searchNumber (searches file .answer) ≡ 41 → (M : FactSet) → Stable (programOf file) (inForce (programOf file)) M → ⊥
 none-so file e = searched-means file (factRoom file) (ruleRoom file) (stepRoom file) (orderRoom file) .none-stable e
 
 pub starred : Starred

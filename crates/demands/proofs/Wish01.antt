@@ -3,44 +3,35 @@ use Prim.Native.Nat.{ℕ, _*_, _<_}
 use native.Mathlib.Omega.{arith}
 use native.Mathlib.Decide.{decLt}
 use mathlib.Core.Path.{_≡_, refl, sym, _∙_, ap}
-use mathlib.Core.Bool.{Bool, true, false, cond}
+use mathlib.Core.Bool.{Bool, true, false}
 use mathlib.Core.List.{List}
 use mathlib.Core.Logic.{_↔_}
 use mathlib.Core.Option.{Option, none, some}
 use lib.ListN.{length}
-use Rattle.theory.specs.Rule.{mem, Program, inForce, rule}
-use Rattle.theory.specs.Run.{Stand, run}
-use Rattle.theory.specs.Stable.{Within}
+use Rattle.theory.specs.Rule.{Program, inForce, rule}
+use Rattle.theory.specs.Run.{Stand}
+use Rattle.theory.specs.Conditions.{Within}
 use Rattle.theory.specs.Keeping.{groundsOf, keptSteps}
 use Rattle.theory.proofs.Bools.{never, false-of}
 use Rattle.theory.proofs.Absent.{run-absent}
 use Rattle.theory.proofs.Keeping.{run-traced, run-kept, kept-is, grounds-subsequence, grounds-admitted, grounds-minimal}
 use Rattle.items.specs.declared.refusal.Refusal.{Refusal}
 use Rattle.items.specs.declared.refusal.Refusal.the-variants.{NotDerived}
-use Rattle.items.specs.Question as refusal
 use Rattle.items.specs.Item.{narrow, stepWidth}
-use Rattle.items.proofs.FirstNo.{first-yes, both-yes}
-use Rattle.reader.specs.Questions.{programOf, fileQuestions, fileNo}
-use Rattle.reader.proofs.FileRefusals.{each-first}
-use Rattle.questions.specs.Questions.{namedIn, naming, each, rowOf, runQuestions, runNo, groundsQuestions, groundsNo, runOf}
+use Rattle.items.proofs.FirstNo.{both-yes}
+use Rattle.reader.specs.Questions.{programOf}
+use Rattle.questions.specs.Questions.{namedIn, rowOf, runQuestions, runNo, groundsQuestions, groundsNo, runOf}
 use Rattle.closure.specs.Steps.{stepBytes}
 use Rattle.results.proofs.StepsWritten.{step-bytes-length}
-use Rattle.run.specs.Outcome.{RunOutcome, runWritten, runOutcome}
-use Rattle.run.specs.Outcome as running
+use Rattle.run.specs.Outcome.{RunOutcome, runWritten, runOutcome, runNumber}
 use Rattle.run.proofs.Outcomes.{outcome-refused}
 use Rattle.run.proofs.ReadMarks.{over-kept}
 use Rattle.run.proofs.ReadSteps.{steps-front, steps-read}
-use Rattle.keeping.specs.Outcome.{GroundsOutcome, groundsWritten, groundsOutcome}
-use Rattle.keeping.specs.Outcome as grounds
+use Rattle.keeping.specs.Outcome.{GroundsOutcome, groundsWritten, groundsOutcome, groundsCount, groundsNumber}
 use Rattle.keeping.proofs.GroundsAsked.{written-there, refused-there, run-refused, last-asked}
-use Rattle.questions.proofs.Orders.{naming-names}
-use Rattle.panel_lines.specs.Text.{ascending, line, stepLine}
-use Rattle.grounds_text.specs.Text.{ascendingRun, textQuestions, textNo, groundsText}
-use Rattle.demands.specs.Calls.{runNumbers}
 use Rattle.demands.specs.Results.{derivedSet, takenSteps}
-use Rattle.demands.specs.Wish01.{keptBytes, keptRow, GroundsAre, ShorterGrounds, ascendingGrounds, Wish01}
+use Rattle.demands.specs.Wish01.{keptBytes, keptRow, GroundsAre, ShorterGrounds, Wish01}
 use Rattle.demands.proofs.Outcomes.{answered, run-written, run-answered}
-use Rattle.demands.proofs.OwnNumbers.{run-own}
 use Rattle.demands.proofs.RunIs.{yeses, in-bounds, derived-is, trace-is}
 use Rattle.demands.proofs.RowChecked.{row-checked}
 
@@ -78,14 +69,14 @@ module _ (file order : List ℕ) (fact : ℕ) (facts rules steps : List ℕ) whe
         (λ i k _ e. let c : rule P i .conclusion < P .facts = in-bounds file order facts rules steps yes-to-run .conclusion-below i k in absurd (omega arith))
 
     -- 50 is asked last
-    not-derived : s .derived fact ≡ false → grounds.number (o .answer) ≡ 50
+    pub not-derived : s .derived fact ≡ false → groundsNumber (o .answer) ≡ 50
     not-derived e =
-        sym (ap (λ (x : GroundsOutcome). grounds.number (x .answer)) (refused-there file order fact facts rules steps NotDerived (last-asked file order fact facts rules steps yes-to-run ∙ rw e)))
+        sym (ap (λ (x : GroundsOutcome). groundsNumber (x .answer)) (refused-there file order fact facts rules steps NotDerived (last-asked file order fact facts rules steps yes-to-run ∙ rw e)))
 
-    was-derived : s .derived fact ≡ true → grounds.number (o .answer) ≡ 0
+    pub was-derived : s .derived fact ≡ true → groundsNumber (o .answer) ≡ 0
     unfolding groundsWritten
     was-derived e =
-        sym (ap (λ (x : GroundsOutcome). grounds.number (x .answer)) (written-there file order fact facts rules steps (last-asked file order fact facts rules steps yes-to-run ∙ rw e)))
+        sym (ap (λ (x : GroundsOutcome). groundsNumber (x .answer)) (written-there file order fact facts rules steps (last-asked file order fact facts rules steps yes-to-run ∙ rw e)))
 
   -- a result: every question got yes
   module _ (passed : _≡_ {A = Option Refusal} asked none) where
@@ -105,15 +96,15 @@ module _ (file order : List ℕ) (fact : ℕ) (facts rules steps : List ℕ) whe
     o-is : o ≡ groundsWritten P s fact facts rules steps
     o-is = sym (written-there file order fact facts rules steps passed)
 
-    count-is : grounds.count (o .answer) ≡ length (groundsOf P fact (s .trace))
+    count-is : groundsCount (o .answer) ≡ length (groundsOf P fact (s .trace))
     unfolding groundsWritten
-    count-is = ap (λ (x : GroundsOutcome). grounds.count (x .answer)) o-is
+    count-is = ap (λ (x : GroundsOutcome). groundsCount (x .answer)) o-is
 
     bytes-are : keptBytes o ≡ stepBytes narrow (groundsOf P fact (s .trace))
     unfolding groundsWritten
     bytes-are = ap keptBytes o-is ∙ steps-front (groundsOf P fact (s .trace)) steps
 
-    row-is : keptRow o ≡ groundsOf P fact (s .trace)
+    pub row-is : keptRow o ≡ groundsOf P fact (s .trace)
     row-is = ap rowOf bytes-are ∙ steps-read (groundsOf P fact (s .trace))
 
     below : fact < P .facts
@@ -127,7 +118,7 @@ module _ (file order : List ℕ) (fact : ℕ) (facts rules steps : List ℕ) whe
     unfolding groundsWritten runWritten
     grounds-are =
         record {
-          run-result = ap (λ (x : RunOutcome). running.number (x .answer)) (run-written file order facts rules steps run-passed);
+          run-result = ap (λ (x : RunOutcome). runNumber (x .answer)) (run-written file order facts rules steps run-passed);
           fact-marks = ap (λ (x : GroundsOutcome). x .fact-marks) o-is ∙ sym (ap (λ (x : RunOutcome). x .fact-marks) (run-written file order facts rules steps run-passed));
           rule-marks = ap (λ (x : GroundsOutcome). x .rule-marks) o-is ∙ sym (ap (λ (x : RunOutcome). x .rule-marks) (run-written file order facts rules steps run-passed));
           counted = ap length row-is ∙ sym count-is;
@@ -141,30 +132,30 @@ module _ (file order : List ℕ) (fact : ℕ) (facts rules steps : List ℕ) whe
         }
 
   -- a number 0 is a result, of the run and of its grounds
-  no-refusal : grounds.number (o .answer) ≡ 0 → _≡_ {A = Option Refusal} asked none
+  pub no-refusal : groundsNumber (o .answer) ≡ 0 → _≡_ {A = Option Refusal} asked none
   no-refusal =
-      answered asked (grounds.number (o .answer))
-      (λ r e. sym (ap (λ (x : GroundsOutcome). grounds.number (x .answer)) (refused-there file order fact facts rules steps r e)))
+      answered asked (groundsNumber (o .answer))
+      (λ r e. sym (ap (λ (x : GroundsOutcome). groundsNumber (x .answer)) (refused-there file order fact facts rules steps r e)))
 
-  run-answers : running.number (ran .answer) ≡ 0 → _≡_ {A = Option Refusal} runAsked none
+  run-answers : runNumber (ran .answer) ≡ 0 → _≡_ {A = Option Refusal} runAsked none
   run-answers = run-answered file order facts rules steps
 
   -- what the run refuses
-  refused-first : 0 < running.number (ran .answer) → grounds.number (o .answer) ≡ running.number (ran .answer)
+  refused-first : 0 < runNumber (ran .answer) → groundsNumber (o .answer) ≡ runNumber (ran .answer)
   unfolding runWritten
   refused-first l = go runAsked refl
     where
-      go : (no : Option Refusal) → runAsked ≡ no → grounds.number (o .answer) ≡ running.number (ran .answer)
+      go : (no : Option Refusal) → runAsked ≡ no → groundsNumber (o .answer) ≡ runNumber (ran .answer)
       go none e =
-          let z : running.number (ran .answer) ≡ 0 = ap (λ (x : RunOutcome). running.number (x .answer)) (run-written file order facts rules steps e) in
+          let z : runNumber (ran .answer) ≡ 0 = ap (λ (x : RunOutcome). runNumber (x .answer)) (run-written file order facts rules steps e) in
           absurd (omega arith)
       go (some r) e =
-          sym (ap (λ (x : GroundsOutcome). grounds.number (x .answer)) (run-refused file order fact facts rules steps r e))
-          ∙ ap (λ (x : RunOutcome). running.number (x .answer)) (outcome-refused file order facts rules steps r e)
+          sym (ap (λ (x : GroundsOutcome). groundsNumber (x .answer)) (run-refused file order fact facts rules steps r e))
+          ∙ ap (λ (x : RunOutcome). runNumber (x .answer)) (outcome-refused file order facts rules steps r e)
 
-  fifty-exactly : running.number (ran .answer) ≡ 0 → (grounds.number (o .answer) ≡ 50) ↔ (derivedSet file ran fact ≡ false)
+  fifty-exactly : runNumber (ran .answer) ≡ 0 → (groundsNumber (o .answer) ≡ 50) ↔ (derivedSet file ran fact ≡ false)
   fifty-exactly n = (
-    λ e. rw (set (run-answers n)) (false-of (s .derived fact) (λ d. let z : grounds.number (o .answer) ≡ 0 = was-derived (run-answers n) d in omega arith)),
+    λ e. rw (set (run-answers n)) (false-of (s .derived fact) (λ d. let z : groundsNumber (o .answer) ≡ 0 = was-derived (run-answers n) d in omega arith)),
     λ e. not-derived (run-answers n) (rw (set (run-answers n)) at e),
   )
 
@@ -178,51 +169,5 @@ module _ (file order : List ℕ) (fact : ℕ) (facts rules steps : List ℕ) whe
         run-first = refused-first;
       }
 
--- no question of a run has the number 50
-not-fifty : (file order : List ℕ) (facts rules steps : ℕ) (r : Refusal) → runNo file order facts rules steps ≡ some r → refusal.number r ≡ 50 → ⊥
-not-fifty file order facts rules steps r e q =
-    let own : mem (refusal.number r) runNumbers ≡ true = each-first _ (runQuestions file order facts rules steps) r (run-own file order facts rules steps) e in
-    never {b = mem 50 runNumbers} (rw q at own) refl
-
--- The text under the ascending order.
-module _ (file : List ℕ) (fact : ℕ) (facts rules steps : List ℕ) where
-  abbrev ascendingOrder : List ℕ
-  ascendingOrder = naming (ascending (programOf file))
-
-  same-run : runOf file ascendingOrder ≡ ascendingRun (programOf file)
-  same-run = ap (run (programOf file) (inForce (programOf file))) (naming-names (ascending (programOf file)))
-
-  -- the questions of the text are among those of the operation
-  module _ (accepted : _≡_ {A = Option Refusal} (fileNo file) none) where
-    text-last : textNo file fact ≡ cond (runOf file ascendingOrder .derived fact) none (some NotDerived)
-    unfolding textQuestions
-    text-last = first-yes (fileQuestions file) _ accepted ∙ ap (λ (x : Stand). cond (x .derived fact) none (some NotDerived)) (sym same-run)
-
-    text-kept : runOf file ascendingOrder .derived fact ≡ true → groundsText file fact ≡ each stepLine (groundsOf (programOf file) fact (runOf file ascendingOrder .trace))
-    unfolding groundsText
-    text-kept d = let n : _≡_ {A = Option Refusal} (textNo file fact) none = text-last ∙ rw d in rw (n, groundsText) (ap (λ (x : Stand). each stepLine (groundsOf (programOf file) fact (x .trace))) (sym same-run))
-
-    text-fifty : runOf file ascendingOrder .derived fact ≡ false → groundsText file fact ≡ line 0x45 50
-    unfolding groundsText
-    text-fifty d = let n : textNo file fact ≡ some NotDerived = text-last ∙ rw d in rw (n, groundsText)
-
-  kept-lines : grounds.number (ascendingGrounds file fact facts rules steps .answer) ≡ 0 → groundsText file fact ≡ each stepLine (keptRow (ascendingGrounds file fact facts rules steps))
-  kept-lines n =
-      let passed = no-refusal file ascendingOrder fact facts rules steps n in
-      text-kept (yeses file ascendingOrder facts rules steps (run-passed file ascendingOrder fact facts rules steps passed) .0) (derived file ascendingOrder fact facts rules steps passed)
-      ∙ ap (each stepLine) (sym (row-is file ascendingOrder fact facts rules steps passed))
-
-  -- 50 is said only where the run gives a result
-  fifty-line : grounds.number (ascendingGrounds file fact facts rules steps .answer) ≡ 50 → groundsText file fact ≡ line 0x45 50
-  fifty-line n = go (runNo file ascendingOrder (length facts) (length rules) (length steps)) refl
-    where
-      go : (no : Option Refusal) → runNo file ascendingOrder (length facts) (length rules) (length steps) ≡ no → groundsText file fact ≡ line 0x45 50
-      go none e =
-          text-fifty (yeses file ascendingOrder facts rules steps e .0)
-          (false-of (runOf file ascendingOrder .derived fact) (λ d. let z : grounds.number (ascendingGrounds file fact facts rules steps .answer) ≡ 0 = was-derived file ascendingOrder fact facts rules steps e d in omega arith))
-      go (some r) e =
-          let same : grounds.number (ascendingGrounds file fact facts rules steps .answer) ≡ refusal.number r = sym (ap (λ (x : GroundsOutcome). grounds.number (x .answer)) (run-refused file ascendingOrder fact facts rules steps r e)) in
-          absurd (not-fifty file ascendingOrder (length facts) (length rules) (length steps) r e (sym same ∙ n))
-
 pub wish-01 : Wish01
-wish-01 = record { shorter = shorter; lines = kept-lines; says-fifty = fifty-line }
+wish-01 = record { shorter = shorter }

@@ -16,8 +16,7 @@ use Rattle.items.specs.Question.{number, Question, firstNo, noNumber}
 use Rattle.items.proofs.ItemSays.{by-tags, alone, either-said}
 use Rattle.cursors.specs.declared.cursor.Fault.the-variants.{NoByte, OtherKind, ShortBody}
 use Rattle.cursors.specs.Cursor.{Token, item, bad, itemsAt, fileStart}
-use Rattle.reader.specs.declared.answer.Scan.{Scan}
-use Rattle.reader.specs.Questions.{ruleOf, rulesOf, programOf, fresh, opened, lengthened, bodyQuestions, openingQuestions, fileQuestions, fileNo}
+use Rattle.reader.specs.Questions.{ruleOf, rulesOf, programOf, fresh, opened, lengthened, bodyQuestions, openingQuestions, fileQuestions, fileNo, Scan}
 use Rattle.reader.specs.RuleLength.{ruleLength, WithinCap}
 use Rattle.reader.proofs.Accepted.{all-asked, AllYes, EachRule, opens-rule, opens-none, own-opens-none, unread-opens-none, accepted-file}
 use Rattle.reader.proofs.RuleLengths.{ownAhead, own-ahead, Short, within-cap, together-few}

@@ -20,7 +20,7 @@ use Rattle.cursors.specs.declared.cursor.Row.the-variants.{Opening, Body, Order
 use Rattle.cursors.specs.declared.cursor.Fault.the-variants.{OtherKind}
 use Rattle.cursors.specs.declared.cursor.Cursor.{Cursor}
 use Rattle.cursors.specs.declared.cursor.Read.the-variants.{Found}
-use Rattle.cursors.specs.Cursor.{number, cursorOf, ofRow, bad, placeQuestions, stayed, widthIn, nextAt}
+use Rattle.cursors.specs.Cursor.{readNumber, cursorOf, ofRow, bad, placeQuestions, stayed, widthIn, nextAt}
 use Rattle.cursors.proofs.EachKind.{all-narrow, known}
 use Rattle.cursors.proofs.Items.{found}
 use Rattle.cursors.proofs.CursorWays.{other-kind}
@@ -86,10 +86,10 @@ row-listed row k h = go (isListed listed k) refl
     go true q = refl
     go false q = absurd (omega (arith, known row k (sym (row-kinds row k) ∙ h), each-kind k ∙ marked listed refl k .1 q))
 
-row-decides : (s : List ℕ) (c : Cursor) → c .at < length s → mem (getD s (c .at) 0) (kindsOf (c .row)) ≡ false → (number (nextAt s c) ≡ otherKind (c .row)) × (cursorOf (nextAt s c) ≡ c)
+row-decides : (s : List ℕ) (c : Cursor) → c .at < length s → mem (getD s (c .at) 0) (kindsOf (c .row)) ≡ false → (readNumber (nextAt s c) ≡ otherKind (c .row)) × (cursorOf (nextAt s c) ≡ c)
 row-decides s c more h = rw (other-kind s c more (sym (row-kinds (c .row) (getD s (c .at) 0)) ∙ h)) (go (c .row))
   where
-    go : (row : Row) → (number (stayed (firstNo (placeQuestions row (bad OtherKind))) c) ≡ otherKind row) × (cursorOf (stayed (firstNo (placeQuestions row (bad OtherKind))) c) ≡ c)
+    go : (row : Row) → (readNumber (stayed (firstNo (placeQuestions row (bad OtherKind))) c) ≡ otherKind row) × (cursorOf (stayed (firstNo (placeQuestions row (bad OtherKind))) c) ≡ c)
     go Opening = (refl, refl)
     go Body = (refl, refl)
     go Order = (refl, refl)

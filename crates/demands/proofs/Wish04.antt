@@ -8,7 +8,8 @@ use mathlib.Core.Logic.{⊎-elim}
 use mathlib.Core.Option.{Option, none}
 use borrow.Author.Tests.{le-leb, lt-leb, leb-true}
 use lib.ListN.{length, drop}
-use Rattle.theory.specs.Rule.{Program, FactSet, Bounded, inForce, constraintFact}
+use Rattle.theory.specs.Rule.{Program, FactSet, inForce, constraintFact}
+use Rattle.theory.specs.Conditions.{Bounded}
 use Rattle.theory.specs.Stable.{Stable}
 use Rattle.theory.specs.Layers.{LeastRanks, Cycle, ranksOf, isLayered, layeredOrder}
 use Rattle.theory.proofs.Bools.{either}
@@ -24,7 +25,7 @@ use Rattle.questions.specs.Questions.{buffersNo, naming, layeredNo}
 use Rattle.questions.proofs.Orders.{naming-length}
 use Rattle.run.specs.Outcome.{runOutcome}
 use Rattle.run.proofs.ReadMarks.{over-kept}
-use Rattle.layers.specs.Outcome.{LayeredOutcome, orderedBy, layeredOutcome, count}
+use Rattle.layers.specs.Outcome.{LayeredOutcome, orderedBy, layeredOutcome, layeredCount}
 use Rattle.layers.proofs.LayeredAnswers.{AllYesses, all-yes}
 use Rattle.layers.proofs.LayersMeaning.{no-refusal, fifty-two, last-fifty-two, last-room, passed-all, o-is, named-are, least, sorted, ordered-front}
 use Rattle.demands.specs.Results.{LeadsTo}
@@ -71,9 +72,9 @@ module _ (file order : List ℕ) where
     unfolding layeredOrder
     leading M m = order-leads file (yeses .accepted) M m row names (rank-reaches P (inForce P) (ranksOf P (inForce P)) (found .ranks) few M m)
 
-    counts : count (o .answer) ≡ length row
+    counts : layeredCount (o .answer) ≡ length row
     unfolding orderedBy
-    counts = ap (λ (x : LayeredOutcome). count (x .answer)) (o-is file order passed)
+    counts = ap (λ (x : LayeredOutcome). layeredCount (x .answer)) (o-is file order passed)
 
     one : (facts rules steps : List ℕ) → _≡_ {A = Option Refusal} (buffersNo narrow P (length facts) (length rules) (length steps)) none → OneReading file (runOutcome file (handedOut o) facts rules steps)
     one facts rules steps fit =
@@ -100,7 +101,7 @@ module _ (file order : List ℕ) where
           order-kept = kept;
         }
       where
-        kept : drop (nameWidth * count (o .answer)) (o .order) ≡ drop (nameWidth * count (o .answer)) order
+        kept : drop (nameWidth * layeredCount (o .answer)) (o .order) ≡ drop (nameWidth * layeredCount (o .answer)) order
         kept = rw (o-is file order passed) (over-kept (naming row) order (nameWidth * length row) (naming-length row))
 
   -- Of an accepted file with a large enough buffer.

@@ -23,12 +23,11 @@ use Rattle.items.specs.Item.{bodyLength, itemOf}
 use Rattle.cursors.specs.Cursor.{front, itemsAt, orderStart}
 use Rattle.reader.specs.Questions.{programOf, fileNo, fileQuestions, exceptions}
 use Rattle.questions.specs.Questions.{listQuestions, orderQuestions, bufferQuestions, runQuestions, naming, namedIn, namesQuestions, orderNo, whole}
-use Rattle.run.specs.Outcome.{RunOutcome, runWritten, runOutcome}
-use Rattle.run.specs.Outcome as running
+use Rattle.run.specs.Outcome.{RunOutcome, runWritten, runOutcome, runNumber}
 use Rattle.run.proofs.ReadMarks.{over-kept}
 use Rattle.generator.specs.Draws.{stateAfter, taken}
 use Rattle.generator.specs.Load.{ruleItems, loadBytes, ruleDrawn, loadProgram}
-use Rattle.generator.specs.Outcome.{LoadOutcome, loadOutcome, loadWritten, number, count, fileIn}
+use Rattle.generator.specs.Outcome.{LoadOutcome, loadOutcome, loadWritten, loadNumber, loadCount, fileIn}
 use Rattle.generator.proofs.Sums.{state-sum}
 use Rattle.generator.proofs.Quotients.{draw-below}
 use Rattle.generator.proofs.LoadRead.{load-length, load-accepted, program-back}
@@ -44,10 +43,10 @@ module _ (start n m : ℕ) (out : List ℕ) where
 
   -- the number by each way that the questions can go
   data Way : Type 0 where
-    facts-outside : Outside n → number (o .answer) ≡ 53 → Way
-    rules-outside : 1 ≤ n → n ≤ 255 → 512 < m → number (o .answer) ≡ 54 → Way
-    room-short : 1 ≤ n → n ≤ 255 → m ≤ 512 → length out < 5 + 6 * m → number (o .answer) ≡ 55 → Way
-    all-well : 1 ≤ n → n ≤ 255 → m ≤ 512 → 5 + 6 * m ≤ length out → number (o .answer) ≡ 0 → Way
+    facts-outside : Outside n → loadNumber (o .answer) ≡ 53 → Way
+    rules-outside : 1 ≤ n → n ≤ 255 → 512 < m → loadNumber (o .answer) ≡ 54 → Way
+    room-short : 1 ≤ n → n ≤ 255 → m ≤ 512 → length out < 5 + 6 * m → loadNumber (o .answer) ≡ 55 → Way
+    all-well : 1 ≤ n → n ≤ 255 → m ≤ 512 → 5 + 6 * m ≤ length out → loadNumber (o .answer) ≡ 0 → Way
 
   way : Way
   unfolding loadWritten
@@ -56,8 +55,8 @@ module _ (start n m : ℕ) (out : List ℕ) where
       at-most : (a b : ℕ) → (a ≤ b) ⊎ (b < a)
       at-most a b = ⊎-elim (λ t. inl (leb-true a b t)) (λ f. inr (leb-false a b f)) (either (leb a b))
 
-      numbered : (x : LoadOutcome) → o ≡ x → number (o .answer) ≡ number (x .answer)
-      numbered x e = ap (λ (y : LoadOutcome). number (y .answer)) e
+      numbered : (x : LoadOutcome) → o ≡ x → loadNumber (o .answer) ≡ loadNumber (x .answer)
+      numbered x e = ap (λ (y : LoadOutcome). loadNumber (y .answer)) e
 
       none-at-all : n ≤ 0 → Way
       none-at-all z = let e : n ≡ 0 = omega arith in facts-outside (inl e) (numbered _ (no-facts start n m out e))
@@ -77,9 +76,9 @@ module _ (start n m : ℕ) (out : List ℕ) where
 
   -- Each number says which way they went.
   record Numbered : Type 0 where
-    fifty-three : (number (o .answer) ≡ 53) ↔ Outside n
-    fifty-four : (number (o .answer) ≡ 54) ↔ ((1 ≤ n) × (n ≤ 255) × (512 < m))
-    fifty-five : (number (o .answer) ≡ 55) ↔ ((1 ≤ n) × (n ≤ 255) × (m ≤ 512) × (length out < 5 + 6 * m))
+    fifty-three : (loadNumber (o .answer) ≡ 53) ↔ Outside n
+    fifty-four : (loadNumber (o .answer) ≡ 54) ↔ ((1 ≤ n) × (n ≤ 255) × (512 < m))
+    fifty-five : (loadNumber (o .answer) ≡ 55) ↔ ((1 ≤ n) × (n ≤ 255) × (m ≤ 512) × (length out < 5 + 6 * m))
 
   never-outside : 1 ≤ n → n ≤ 255 → Outside n → ⊥
   never-outside a b (inl z) = omega arith
@@ -111,16 +110,16 @@ module _ (start n m : ℕ) (out : List ℕ) where
         fifty-five = (λ z. absurd (omega arith), λ v. absurd (omega (arith, v .3)));
       }
 
-  module _ (z : number (o .answer) ≡ 0) where
+  module _ (z : loadNumber (o .answer) ≡ 0) where
     answered-yes : AllYesses n m (length out)
     answered-yes = all-yes n m (length out) (no-refusal start n m out z)
 
     written : o ≡ loadWritten (loadBytes start n m) out
     written = load-is start n m out (no-refusal start n m out z)
 
-    counts : count (o .answer) ≡ 5 + 6 * m
+    counts : loadCount (o .answer) ≡ 5 + 6 * m
     unfolding loadWritten
-    counts = ap (λ (x : LoadOutcome). count (x .answer)) written ∙ load-length start n m
+    counts = ap (λ (x : LoadOutcome). loadCount (x .answer)) written ∙ load-length start n m
 
     read : programOf (fileIn o) ≡ loadProgram start n m
     read = rw (file-is start n m out z) (program-back start n m)
@@ -149,7 +148,7 @@ module _ (start n m : ℕ) (out : List ℕ) where
         fifty-three = numbers way .fifty-three;
         fifty-four = numbers way .fifty-four;
         fifty-five = numbers way .fifty-five;
-        else-written = λ a b c d. ap (λ (x : LoadOutcome). number (x .answer)) (load-is start n m out (passed start n m out a b c d));
+        else-written = λ a b c d. ap (λ (x : LoadOutcome). loadNumber (x .answer)) (load-is start n m out (passed start n m out a b c d));
       }
 
 -- Where rule 0 is the one exception rule, the orders that the run takes name it and nothing else.
@@ -175,7 +174,7 @@ module _ (known : ℕ → Bool) (zero-known : known 0 ≡ true) (only-zero : (r 
 abbrev example : Program
 example = programOf (loadBytes 0 4 1)
 
-the-order : (order facts rules steps : List ℕ) → running.number (runOutcome (loadBytes 0 4 1) order facts rules steps .answer) ≡ 0 → namedIn order ≡ 0 ∷ []
+the-order : (order facts rules steps : List ℕ) → runNumber (runOutcome (loadBytes 0 4 1) order facts rules steps .answer) ≡ 0 → namedIn order ≡ 0 ∷ []
 unfolding loadBytes ruleItems stateAfter taken itemsAt front bodyLength itemOf exception
 the-order order facts rules steps z =
     order-zero (exception example) refl only order (yeses (loadBytes 0 4 1) order facts rules steps (run-answered (loadBytes 0 4 1) order facts rules steps z) .1 .0)

@@ -19,8 +19,7 @@ use Rattle.items.proofs.FirstNo.{first-no, first-yes}
 use Rattle.cursors.specs.Cursor.{front, itemsAt}
 use Rattle.reader.specs.Questions.{programOf, fileQuestions, fileNo, exceptions}
 use Rattle.questions.specs.Questions.{namedIn, listQuestions, orderQuestions, orderNo, bothQuestions, betterQuestions, betterNo, runOf}
-use Rattle.run.specs.Outcome.{runWritten, runOutcome}
-use Rattle.run.specs.Outcome as running
+use Rattle.run.specs.Outcome.{runWritten, runOutcome, runNumber}
 use Rattle.run.proofs.ReadMarks.{marks-front}
 use Rattle.better.specs.Outcome.{asideOf, choiceOf, which, betterOf}
 use Rattle.better.proofs.BetterAsked.{both-right, right-both}
@@ -108,7 +107,7 @@ module _ (file : List ℕ) where
           ap (λ (w : List ℕ). betterOf file x w) two-three
           ∙ better-handed file x (better (asideOf file) y z) (asked-both _ _ p (handed-questioned y z q r))
 
-  marks-counted : (order facts rules steps : List ℕ) → running.number (runOutcome file order facts rules steps .answer) ≡ 0 → asideOf file order ≡ howMany (λ m. eqb m 2) (take (count P) (runOutcome file order facts rules steps .rule-marks))
+  marks-counted : (order facts rules steps : List ℕ) → runNumber (runOutcome file order facts rules steps .answer) ≡ 0 → asideOf file order ≡ howMany (λ m. eqb m 2) (take (count P) (runOutcome file order facts rules steps .rule-marks))
   unfolding runWritten
   marks-counted order facts rules steps e =
       rw (run-written file order facts rules steps (run-answered file order facts rules steps e))

@@ -2,14 +2,15 @@
 use Prim.Native.Nat.{ℕ, zero, suc, _+_, _<_, _≤_}
 use native.Mathlib.Omega.{arith}
 use native.Mathlib.Nat.{zero-add}
-use mathlib.Core.Path.{_≡_, refl, ap, subst, _∙_}
+use mathlib.Core.Path.{_≡_, refl, sym, ap, subst, _∙_}
 use mathlib.Core.Bool.{Bool, true, false, cond, _&&_}
 use mathlib.Core.List.{List, [], _∷_, map}
 use mathlib.Core.Option.{Option, none}
 use borrow.Author.Tests.{eqb-true}
-use lib.ListN.{length, take}
+use lib.ListN.{length, getD, take}
 use lib.Dec.{eqb}
-use Rattle.theory.specs.Rule.{mem, keep, range, upTo, howMany, Program, Mask, FactSet, Bounded, count, rule, plain}
+use Rattle.theory.specs.Rule.{mem, keep, range, upTo, howMany, Program, Mask, FactSet, count, rule, plain, plainRules, inForce}
+use Rattle.theory.specs.Conditions.{Bounded}
 use Rattle.theory.specs.Walk.{after}
 use Rattle.theory.specs.Derive.{conclude, Fresh, fired, meets, derive, steps, stepBy}
 use Rattle.theory.proofs.Bools.{never, and-left, and-right, and-both, or-false, false-of, both-ways}
@@ -23,7 +24,7 @@ use Rattle.marking.specs.Marks.{barredIn}
 use Rattle.tables.proofs.ProgramHeld.{facts-below}
 use Rattle.reader.specs.Questions.{programOf, fileNo}
 use Rattle.reader.proofs.Accepted.{accepted-file, bounded}
-use Rattle.premises.specs.Premises.{plainOnes, lacking}
+use Rattle.premises.specs.Premises.{plainOnes, lacking, Counted}
 use Rattle.premises.specs.Plain.{plainWith, RowsAre}
 use Rattle.premises.proofs.PremisesCounted.{lacks-none, none-lacks, asked-lacking, unasked-lacking}
 use Rattle.closure.specs.declared.derivation.Derivation.{Derivation}
@@ -31,7 +32,7 @@ use Rattle.closure.specs.Room.{Room}
 use Rattle.closure.specs.Deriving.{Derived}
 use Rattle.premises.proofs.PlainRows.{plain-known}
 use Rattle.closure.proofs.RulesFired.{has-derived}
-use Rattle.demands.specs.Wish08.{Ascending, concluded, FoundByFact, ClosureIs, RulesFoundByFact}
+use Rattle.demands.specs.Wish08.{Ascending, concluded, FoundByFact, ClosureIs, DerivesFrom, Wish08}
 
 -- A number below all of an ascending list goes in front of it.
 in-front : (x : ℕ) (xs : List ℕ) → ((y : ℕ) → mem y xs ≡ true → x < y) → Ascending xs → Ascending (x ∷ xs)
@@ -130,22 +131,34 @@ module _ {P : Program} (b : Bounded P) (few : P .facts < maxFacts narrow) (on : 
       front : take (length rules) fired′ ≡ rules
       front = rw zero-add at (ap (take (0 + length rules)) (d .rules none-met) ∙ placed-front rules fired₀ 0 (omega (arith, few-rules, cells)))
 
-      ended-closure : ClosureIs P on marks marks′ fired′ r
+      ended-closure : ClosureIs P on marks marks′ missing′ fired′ r
       unfolding steps
       ended-closure =
           record {
             closes = rw (none-met, zero-add) at (d .answer);
             set = ap has (d .facts none-met) ∙ has-derived P on b marks (omega (arith, room .places));
             in-order = ap (map (stepBy P)) front;
+            missing = d .counted none-met;
+            cells-fall = fall;
           }
+        where
+          fall : (missing₀ : List ℕ) → Counted P (plainOnes P) (has marks) missing₀ → (i : ℕ) → plain P i ≡ true → getD missing₀ i 0 ≡ getD missing′ i 0 + howMany (λ f. mem f (rule P i .premises)) (concluded P rules)
+          fall missing₀ c i p =
+              c .counts i p
+              ∙ (found-by-fact P b .falls on (has marks) i
+              ∙ ap (λ n. n + howMany (λ f. mem f (rule P i .premises)) (concluded P rules)) (sym (d .counted none-met .counts i p)))
 
 -- So for every accepted file, whose program its tables hold.
-pub rules-found-by-fact : (file : List ℕ) → _≡_ {A = Option Refusal} (fileNo file) none → RulesFoundByFact file
-rules-found-by-fact file a =
+pub wish-08 : (file : List ℕ) → _≡_ {A = Option Refusal} (fileNo file) none → Wish08 file
+wish-08 file a =
     record {
       counted = found-by-fact (programOf file) (bounded (accepted-file file a));
       indexed = λ T index s rows. subst (λ (P : Program). RowsAre P index) (s a .program) rows;
-      closed = λ T on marks fired₀ marks′ missing′ fired′ r s room cells none-barred d.
-          subst (λ (P : Program). ClosureIs P on marks marks′ fired′ r) (s a .program)
-          (ended-closure (s a .well-formed .in-bounds) (facts-below (s a .well-formed)) on room none-barred cells d);
+      closed = closes;
+      by-plain = closes (plainRules (programOf file) (inForce (programOf file)));
     }
+  where
+    closes : (on : Mask) (marks marks′ missing′ fired′ : List ℕ) (r : Derivation) → DerivesFrom file on marks marks′ missing′ fired′ r
+    closes on marks marks′ missing′ fired′ r T fired₀ s room cells none-barred d =
+        subst (λ (P : Program). ClosureIs P on marks marks′ missing′ fired′ r) (s a .program)
+        (ended-closure (s a .well-formed .in-bounds) (facts-below (s a .well-formed)) on room none-barred cells d)

@@ -15,37 +15,21 @@ use Rattle.cursors.specs.declared.cursor.Row.{Row}
 use Rattle.cursors.specs.declared.cursor.Row.the-variants.{Opening, Body, Order, Steps}
 use Rattle.cursors.specs.declared.cursor.Cursor.{Cursor}
 use Rattle.cursors.specs.declared.cursor.Read.the-variants.{Ended, Refused}
-use Rattle.cursors.specs.Cursor.{front, placeQuestions, nextAt}
+use Rattle.cursors.specs.Cursor.{front, placeQuestions, nextAt, readNumber}
 use Rattle.reader.specs.Questions.{fileQuestions}
-use Rattle.reader.specs.Accept.{acceptOf}
+use Rattle.reader.specs.Accept.{acceptOf, acceptNumber}
 use Rattle.questions.specs.Questions.{askListQuestions, askOrderQuestions, askSetQuestions, askRowQuestions, runQuestions, groundsQuestions, judgeQuestions, checkQuestions, searchQuestions, layeredQuestions, betterQuestions, betterNo}
-use Rattle.questions.specs.Answer.{answerOf}
-use Rattle.run.specs.Outcome.{runOutcome}
-use Rattle.keeping.specs.Outcome.{groundsOutcome}
-use Rattle.judge.specs.Judged.{judged}
-use Rattle.proofcheck.specs.Checked.{checked}
-use Rattle.search.specs.Outcome.{searchOutcome}
-use Rattle.layers.specs.Outcome.{layeredOutcome}
-use Rattle.better.specs.Outcome.{choiceOf, betterOf}
-use Rattle.generator.specs.Outcome.{loadQuestions, loadOutcome}
-use Rattle.panel_lines.specs.Text.{panelText, shown}
-use Rattle.grounds_text.specs.Text.{groundsText}
-use Rattle.replies.specs.declared.ChoiceReply.{ChoiceReply}
-use Rattle.replies.specs.declared.FileReply.{FileReply}
-use Rattle.replies.specs.declared.Verdict.{Verdict}
-use Rattle.replies.specs.Reply.{fileOf, verdictOfJudged, verdictOfChecked, RunReply, runReply, SearchReply, searchReply, GroundsReply, groundsReply, LayeredReply, layeredReply, LoadReply, loadReply, replyOfChoice}
+use Rattle.questions.specs.Answer.{answerOf, answerNumber}
+use Rattle.run.specs.Outcome.{runOutcome, runNumber, runStages, runSteps, RunOutcome}
+use Rattle.keeping.specs.Outcome.{groundsOutcome, groundsCount, groundsNumber, GroundsOutcome}
+use Rattle.judge.specs.Judged.{judged, judgedNumber, judgedVerdict}
+use Rattle.proofcheck.specs.Checked.{checked, checkedNumber, checkedVerdict}
+use Rattle.search.specs.Outcome.{searchOutcome, searchNumber, searchStages, searchSteps, SearchOutcome}
+use Rattle.layers.specs.Outcome.{layeredOutcome, layeredCount, layeredNumber, LayeredOutcome}
+use Rattle.better.specs.Outcome.{choiceOf, betterOf, choiceNumber, which}
+use Rattle.generator.specs.Outcome.{loadQuestions, loadOutcome, loadCount, loadNumber, LoadOutcome}
 use Rattle.items.specs.Question as refusal
-use Rattle.cursors.specs.Cursor as read
 use Rattle.reader.specs.Accept as accepted
-use Rattle.questions.specs.Answer as answer
-use Rattle.run.specs.Outcome as ran
-use Rattle.keeping.specs.Outcome as grounds
-use Rattle.judge.specs.Judged as judgement
-use Rattle.proofcheck.specs.Checked as checking
-use Rattle.search.specs.Outcome as searched
-use Rattle.layers.specs.Outcome as layers
-use Rattle.better.specs.Outcome as choice
-use Rattle.generator.specs.Outcome as loads
 
 -- The number of the first no; none where every question gets yes.
 abbrev pub firstNumber : List Question → Option ℕ
@@ -73,7 +57,8 @@ pub record RefusesExactly (c : Call) : Type 0 where
   pub lent-kept : (n : ℕ) → firstNumber (c .questions) ≡ some n → c .reply .left ≡ c .lent
   pub else-zero : _≡_ {A = Option ℕ} (firstNumber (c .questions)) none → c .reply .number ≡ 0
 
--- Every public operation as a call, from its inputs: its questions, its own numbers, what it is lent, and its reply.
+-- Every public operation but the texts, which refuse nothing, as a call, from its inputs: its questions, its own numbers, what it is lent, and
+-- its reply.
 
 -- The numbers of the questions on a file, a list of rules, an order, a fact set, a proof row, the run's buffers, and of the search alone.
 abbrev pub fileNumbers : List ℕ
@@ -132,7 +117,7 @@ lentNothing questions own number counts =
 abbrev pub acceptCall : List ℕ → Call
 acceptCall file =
     let a = acceptOf file in
-    lentNothing (fileQuestions file) fileNumbers (accepted.number a)
+    lentNothing (fileQuestions file) fileNumbers (acceptNumber a)
     (accepted.facts a ∷ accepted.rules a ∷ accepted.exceptionRules a ∷ accepted.constraints a ∷ [])
 
 -- `Cursor::next`: the questions on the place where it stands.
@@ -144,7 +129,7 @@ placeNumbers Steps = 23 ∷ []
 
 abbrev pub nextCall : List ℕ → Cursor → Call
 nextCall bytes c =
-    lentNothing (placeQuestions (c .row) (front (c .row) (drop (c .at) bytes))) (placeNumbers (c .row)) (read.number (nextAt bytes c)) []
+    lentNothing (placeQuestions (c .row) (front (c .row) (drop (c .at) bytes))) (placeNumbers (c .row)) (readNumber (nextAt bytes c)) []
 
 -- A refusal hands out the cursor as it was, and so does an end. Where no byte is left an order, a list and a proof row have ended.
 pub record Stays (bytes : List ℕ) (c : Cursor) : Type 0 where
@@ -155,7 +140,7 @@ pub record Stays (bytes : List ℕ) (c : Cursor) : Type 0 where
 
 -- `ask_list`, `ask_order`, `ask_set` and `ask_row`: the answer to their questions.
 abbrev pub askCall : List Question → List ℕ → Call
-askCall questions own = lentNothing questions own (answer.number (answerOf (firstNo questions))) []
+askCall questions own = lentNothing questions own (answerNumber (answerOf (firstNo questions))) []
 
 abbrev pub askListCall : List ℕ → List ℕ → Call
 askListCall file list = askCall (askListQuestions file list) (fileNumbers ++ listNumbers)
@@ -170,11 +155,11 @@ abbrev pub askRowCall : List ℕ → ℕ → List ℕ → Call
 askRowCall file fact row = askCall (askRowQuestions file fact row) (fileNumbers ++ rowNumbers)
 
 -- `run`
-abbrev pub runReplied : ran.RunOutcome → Reply
+abbrev pub runReplied : RunOutcome → Reply
 runReplied o =
     record {
-      number = ran.number (o .answer);
-      counts = ran.stages (o .answer) ∷ ran.steps (o .answer) ∷ [];
+      number = runNumber (o .answer);
+      counts = runStages (o .answer) ∷ runSteps (o .answer) ∷ [];
       left = o .fact-marks ∷ o .rule-marks ∷ o .steps ∷ [];
     }
 
@@ -188,11 +173,11 @@ runCall file order facts rules steps =
     }
 
 -- `grounds`
-abbrev pub groundsReplied : grounds.GroundsOutcome → Reply
+abbrev pub groundsReplied : GroundsOutcome → Reply
 groundsReplied o =
     record {
-      number = grounds.number (o .answer);
-      counts = grounds.count (o .answer) ∷ [];
+      number = groundsNumber (o .answer);
+      counts = groundsCount (o .answer) ∷ [];
       left = o .fact-marks ∷ o .rule-marks ∷ o .steps ∷ [];
     }
 
@@ -209,20 +194,20 @@ groundsCall file order fact facts rules steps =
 abbrev pub judgeCall : List ℕ → List ℕ → List ℕ → Call
 judgeCall file list set =
     let a = judged file list set in
-    lentNothing (judgeQuestions file list set) judgeNumbers (judgement.number a) (judgement.verdict a ∷ [])
+    lentNothing (judgeQuestions file list set) judgeNumbers (judgedNumber a) (judgedVerdict a ∷ [])
 
 -- `check`
 abbrev pub checkCall : List ℕ → List ℕ → ℕ → List ℕ → Call
 checkCall file set fact row =
     let a = checked file set fact row in
-    lentNothing (checkQuestions file set fact row) checkNumbers (checking.number a) (checking.verdict a ∷ [])
+    lentNothing (checkQuestions file set fact row) checkNumbers (checkedNumber a) (checkedVerdict a ∷ [])
 
 -- `search`
-abbrev pub searchReplied : searched.SearchOutcome → Reply
+abbrev pub searchReplied : SearchOutcome → Reply
 searchReplied o =
     record {
-      number = searched.number (o .answer);
-      counts = searched.stages (o .answer) ∷ searched.steps (o .answer) ∷ [];
+      number = searchNumber (o .answer);
+      counts = searchStages (o .answer) ∷ searchSteps (o .answer) ∷ [];
       left = o .fact-marks ∷ o .rule-marks ∷ o .steps ∷ o .order ∷ [];
     }
 
@@ -236,8 +221,8 @@ searchCall file facts rules steps order =
     }
 
 -- `layered`
-abbrev pub layeredReplied : layers.LayeredOutcome → Reply
-layeredReplied o = record { number = layers.number (o .answer); counts = layers.count (o .answer) ∷ []; left = o .order ∷ [] }
+abbrev pub layeredReplied : LayeredOutcome → Reply
+layeredReplied o = record { number = layeredNumber (o .answer); counts = layeredCount (o .answer) ∷ []; left = o .order ∷ [] }
 
 abbrev pub layeredCall : List ℕ → List ℕ → Call
 layeredCall file order =
@@ -252,7 +237,7 @@ layeredCall file order =
 abbrev pub chooseCall : List ℕ → List ℕ → List ℕ → Call
 chooseCall file first second =
     let a = choiceOf file first second in
-    lentNothing (betterQuestions file first second) betterNumbers (choice.number a) (choice.which a ∷ [])
+    lentNothing (betterQuestions file first second) betterNumbers (choiceNumber a) (which a ∷ [])
 
 -- `better` and, on the same inputs, `better_number`: the number is that of the second; the first hands back so many bytes, 0 on a refusal.
 abbrev pub betterCall : List ℕ → List ℕ → List ℕ → Call
@@ -260,8 +245,8 @@ betterCall file first second =
     lentNothing (betterQuestions file first second) betterNumbers (noNumber (betterNo file first second)) (length (betterOf file first second) ∷ [])
 
 -- `load`
-abbrev pub loadReplied : loads.LoadOutcome → Reply
-loadReplied o = record { number = loads.number (o .answer); counts = loads.count (o .answer) ∷ []; left = o .out ∷ [] }
+abbrev pub loadReplied : LoadOutcome → Reply
+loadReplied o = record { number = loadNumber (o .answer); counts = loadCount (o .answer) ∷ []; left = o .out ∷ [] }
 
 abbrev pub loadCall : ℕ → ℕ → ℕ → List ℕ → Call
 loadCall start facts rules out =
@@ -271,111 +256,3 @@ loadCall start facts rules out =
       lent = out ∷ [];
       reply = loadReplied (loadOutcome start facts rules out);
     }
-
--- A text: it asks nothing and refuses nothing. The first no stands in it.
-abbrev pub textCall : List ℕ → List ℕ → Call
-textCall text out =
-    record {
-      questions = [];
-      own = [];
-      lent = out ∷ [];
-      reply = record { number = 0; counts = length text ∷ []; left = shown text out ∷ [] };
-    }
-
--- `render` of the panel's text, and of the text of the grounds for a fact.
-abbrev pub renderCall : List ℕ → List ℕ → Call
-renderCall file out = textCall (panelText file) out
-
-abbrev pub renderGroundsCall : List ℕ → ℕ → List ℕ → Call
-renderGroundsCall file fact out = textCall (groundsText file fact) out
-
--- The operations for C: each is the one above, and replies in plain numbers.
-abbrev pub replying : Call → Reply → Call
-replying c reply = record { questions = c .questions; own = c .own; lent = c .lent; reply = reply }
-
--- `retention_accept`: with the bytes of one step beside the counts.
-abbrev pub retentionAcceptCall : List ℕ → Call
-retentionAcceptCall file = replying (acceptCall file) (counted (fileOf (acceptOf file)))
-  where
-    counted : FileReply → Reply
-    counted c =
-        record {
-          number = c .refusal;
-          counts = c .facts ∷ c .rules ∷ c .exceptions ∷ c .constraints ∷ c .«step_bytes» ∷ [];
-          left = [];
-        }
-
--- `retention_run`
-abbrev pub retentionRunCall : List ℕ → List ℕ → List ℕ → List ℕ → List ℕ → Call
-retentionRunCall file order facts rules steps =
-    replying (runCall file order facts rules steps) (counted (runReply (runOutcome file order facts rules steps)))
-  where
-    counted : RunReply → Reply
-    counted o =
-        record {
-          number = o .reply .refusal;
-          counts = o .reply .stages ∷ o .reply .steps ∷ [];
-          left = o .fact-marks ∷ o .rule-marks ∷ o .steps ∷ [];
-        }
-
--- `retention_grounds`
-abbrev pub retentionGroundsCall : List ℕ → List ℕ → ℕ → List ℕ → List ℕ → List ℕ → Call
-retentionGroundsCall file order fact facts rules steps =
-    replying (groundsCall file order fact facts rules steps) (counted (groundsReply (groundsOutcome file order fact facts rules steps)))
-  where
-    counted : GroundsReply → Reply
-    counted o =
-        record {
-          number = o .reply .refusal;
-          counts = o .reply .count ∷ [];
-          left = o .fact-marks ∷ o .rule-marks ∷ o .steps ∷ [];
-        }
-
--- `retention_judge` and `retention_check`
-abbrev pub verdictReplied : Verdict → Reply
-verdictReplied v = record { number = v .refusal; counts = v .verdict ∷ []; left = [] }
-
-abbrev pub retentionJudgeCall : List ℕ → List ℕ → List ℕ → Call
-retentionJudgeCall file list set = replying (judgeCall file list set) (verdictReplied (verdictOfJudged (judged file list set)))
-
-abbrev pub retentionCheckCall : List ℕ → List ℕ → ℕ → List ℕ → Call
-retentionCheckCall file set fact row =
-    replying (checkCall file set fact row) (verdictReplied (verdictOfChecked (checked file set fact row)))
-
--- `retention_search`
-abbrev pub retentionSearchCall : List ℕ → List ℕ → List ℕ → List ℕ → List ℕ → Call
-retentionSearchCall file facts rules steps order =
-    replying (searchCall file facts rules steps order) (counted (searchReply (searchOutcome file facts rules steps order)))
-  where
-    counted : SearchReply → Reply
-    counted o =
-        record {
-          number = o .reply .refusal;
-          counts = o .reply .stages ∷ o .reply .steps ∷ [];
-          left = o .fact-marks ∷ o .rule-marks ∷ o .steps ∷ o .order ∷ [];
-        }
-
--- `retention_layered`
-abbrev pub retentionLayeredCall : List ℕ → List ℕ → Call
-retentionLayeredCall file order = replying (layeredCall file order) (counted (layeredReply (layeredOutcome file order)))
-  where
-    counted : LayeredReply → Reply
-    counted o = record { number = o .reply .refusal; counts = o .reply .count ∷ []; left = o .order ∷ [] }
-
--- `retention_better`
-abbrev pub retentionBetterCall : List ℕ → List ℕ → List ℕ → Call
-retentionBetterCall file first second = replying (chooseCall file first second) (counted (replyOfChoice (choiceOf file first second)))
-  where
-    counted : ChoiceReply → Reply
-    counted c = record { number = c .refusal; counts = c .which ∷ []; left = [] }
-
--- `retention_load`
-abbrev pub retentionLoadCall : ℕ → ℕ → ℕ → List ℕ → Call
-retentionLoadCall start facts rules out = replying (loadCall start facts rules out) (counted (loadReply (loadOutcome start facts rules out)))
-  where
-    counted : LoadReply → Reply
-    counted o = record { number = o .reply .refusal; counts = o .reply .count ∷ []; left = o .out ∷ [] }
-
--- `retention_panel`
-abbrev pub retentionPanelCall : List ℕ → List ℕ → Call
-retentionPanelCall file out = renderCall file out

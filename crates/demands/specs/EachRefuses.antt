@@ -7,7 +7,8 @@ use lib.Dec.{eqb}
 use Rattle.theory.specs.Rule.{all}
 use Rattle.panel_lines.specs.Text.{panelText, line}
 use Rattle.grounds_text.specs.Text.{groundsText}
-use Rattle.demands.specs.Calls.{Call, acceptCall, askListCall, askOrderCall, askSetCall, askRowCall, runCall, groundsCall, judgeCall, checkCall, searchCall, layeredCall, chooseCall, betterCall, retentionAcceptCall, retentionRunCall, retentionGroundsCall, retentionJudgeCall, retentionCheckCall, retentionSearchCall, retentionLayeredCall, retentionBetterCall}
+use Rattle.demands.specs.Calls.{Call, acceptCall, askListCall, askOrderCall, askSetCall, askRowCall, runCall, groundsCall, judgeCall, checkCall, searchCall, layeredCall, chooseCall, betterCall}
+use Rattle.demands.specs.RetentionCalls.{retentionAcceptCall, retentionRunCall, retentionGroundsCall, retentionJudgeCall, retentionCheckCall, retentionSearchCall, retentionLayeredCall, retentionBetterCall}
 
 -- A refusal with a number: every count is 0, and every lent buffer is as it was.
 pub record RefusedWith (n : ℕ) (c : Call) : Type 0 where

@@ -1,9 +1,13 @@
 -- What is promised.
 pub mod Calls
+pub mod RetentionCalls
 pub mod Results
+pub mod PanelShows
 pub mod Demands
+pub mod View
 pub mod Examples
 pub mod Starred
+pub mod InTurn
 pub mod Wish01
 pub mod EachRefuses
 pub mod Wish02

@@ -3,23 +3,23 @@
 use Prim.Native.Nat.{ℕ, _*_, _<_, _≤_}
 use mathlib.Core.Bool.{Bool, cond, true, false, not, _&&_}
 use mathlib.Core.List.{List, map}
-use Rattle.theory.specs.Rule.{keep, upTo, howMany, FactSet, count, withheld, inForce, plain, exception, Step}
+use Rattle.theory.specs.Rule.{keep, upTo, howMany, FactSet, count, withheld, inForce, plain, exception, Step, rule}
 use Rattle.items.specs.Item.{narrow, stepWidth, nameWidth, marked}
 use Rattle.questions.specs.Questions.{naming, namedIn, orderNo, rowOf, buffersNo, askListQuestions, askOrderQuestions, askSetQuestions, askRowQuestions, betterNo}
 use lib.ListN.{take, length, getD, drop}
 use Rattle.reader.specs.Questions.{programOf, fileNo, exceptions, constraintFacts}
-use Rattle.run.specs.Outcome.{RunOutcome, runOutcome}
+use Rattle.run.specs.Outcome.{RunOutcome, runOutcome, runNumber, runStages, runSteps}
 use mathlib.Core.Path.{_≡_}
 use mathlib.Core.Logic.{_↔_, _⊎_}
 use lib.Dec.{eqb}
-use Rattle.theory.specs.Chaining.{Disjoint, Applicable, First, Chaining, IsUnion, Inconsistent}
+use Rattle.theory.specs.Chaining.{Disjoint, Supported, Applicable, First, Chaining, IsUnion, Inconsistent, StepsInTurn}
 use Rattle.theory.specs.Stable.{Stable, rowTo, Earliest, anySet, Proof, Admits, factsOf, orderFor}
 use Rattle.keeping.specs.Outcome.{groundsOutcome}
 use Rattle.judge.specs.Judged.{judged}
 use mathlib.Core.Option.{none}
 use Rattle.proofcheck.specs.declared.answer.Checked.the-variants.{Yes}
-use Rattle.proofcheck.specs.Checked.{checked}
-use Rattle.search.specs.Outcome.{SearchOutcome, searchOutcome}
+use Rattle.proofcheck.specs.Checked.{checked, checkedVerdict}
+use Rattle.search.specs.Outcome.{SearchOutcome, searchOutcome, searchNumber, searchStages, searchSteps}
 use Rattle.layers.specs.Outcome.{layeredOutcome}
 use Rattle.better.specs.Outcome.{choiceOf, betterOf}
 use Rattle.items.specs.Question.{firstNo, noNumber}
@@ -28,10 +28,7 @@ use Rattle.questions.specs.Answer.{answerOf}
 use Rattle.panel_lines.specs.Text.{panelText, shown}
 use Rattle.grounds_text.specs.Text.{groundsText}
 use Rattle.replies.specs.Reply.{fileOf, verdictOfJudged, verdictOfChecked, runReply, searchReply, groundsReply, layeredReply, replyOfChoice}
-use Rattle.run.specs.Outcome as run
 use Rattle.judge.specs.declared.answer.Judged.the-variants as judgement
-use Rattle.proofcheck.specs.Checked as check
-use Rattle.search.specs.Outcome as search
 
 -- the numbers below n that pass a test, as the bytes of an order or a list
 abbrev pub listed : ℕ → (ℕ → Bool) → List ℕ
@@ -63,7 +60,7 @@ withheldSet file o = marked (count (programOf file)) 4 (o .rule-marks)
 
 -- the bytes of the steps that it wrote, as many as it counts
 abbrev pub stepRow : RunOutcome → List ℕ
-stepRow o = take (stepWidth narrow * run.steps (o .answer)) (o .steps)
+stepRow o = take (stepWidth narrow * runSteps (o .answer)) (o .steps)
 
 -- What a run is that gives a result (demand 2): the forward chaining of document 000 along the order given, read off the bytes that it leaves.
 
@@ -96,28 +93,34 @@ pub record RunIs (file order facts rules steps : List ℕ) (o : RunOutcome) : Ty
   pub plain-rules : (c : ℕ) → plainSet file o c ≡ plain (programOf file) c
   -- .. mark 1 on those that are taken at some stage, ..
   pub applied : (D R : ℕ → FactSet) → ChainsAlong file order D R → (c : ℕ) → (appliedSet file o c ≡ true) ↔ ((n : ℕ) × TakenAt file order D R n c)
-  -- .. mark 2 on the inconsistent clauses (clause 5), mark 4 on the withheld rules, and mark 3 on all others.
+  -- .. mark 2 on those set aside (document 01: "its premises are in D, none of its constraints is, and its conclusion is not"), which are the inconsistent clauses
+  -- (clause 5), mark 4 on the withheld rules, and mark 3 on all others.
+  pub set-aside : (c : ℕ) → (asideSet file o c ≡ true) ↔ Supported (programOf file) (inForce (programOf file)) (derivedSet file o) c
   pub inconsistent : (c : ℕ) → (asideSet file o c ≡ true) ↔ Inconsistent (programOf file) (inForce (programOf file)) (derivedSet file o) (rejectedSet file o) c
   pub withheld-rules : (c : ℕ) → withheldSet file o c ≡ withheld (programOf file) c
   pub other-rules : (c : ℕ) → c < count (programOf file) → plainSet file o c ≡ false → appliedSet file o c ≡ false → asideSet file o c ≡ false → withheldSet file o c ≡ false → getD (o .rule-marks) c 0 ≡ 3
   -- A rule is taken at each stage that is counted, and at none after these; the stage count is the number of rule marks 1.
-  pub stages-taken : (D R : ℕ → FactSet) → ChainsAlong file order D R → (n : ℕ) → (n < run.stages (o .answer)) ↔ ((c : ℕ) × TakenAt file order D R n c)
-  pub stages : run.stages (o .answer) ≡ howMany (λ m. eqb m 1) (take (count (programOf file)) (o .rule-marks))
+  pub stages-taken : (D R : ℕ → FactSet) → ChainsAlong file order D R → (n : ℕ) → (n < runStages (o .answer)) ↔ ((c : ℕ) × TakenAt file order D R n c)
+  pub stages : runStages (o .answer) ≡ howMany (λ m. eqb m 1) (take (count (programOf file)) (o .rule-marks))
   -- No applicable rule is left.
   pub none-applicable : (c : ℕ) → Applicable (programOf file) (inForce (programOf file)) (derivedSet file o) (rejectedSet file o) c → ⊥
+  -- A fact that no rule in force concludes counts as absent.
+  pub absent : (f : ℕ) → ((i : ℕ) → i < count (programOf file) → inForce (programOf file) i ≡ true → rule (programOf file) i .conclusion ≡ f → ⊥) → derivedSet file o f ≡ false
   -- Theorem 3.3: the facts with mark 1 are stable for the rules in force less those with mark 2; where no rule has mark 2, for all rules in force.
   pub stable : Stable (programOf file) (λ i. inForce (programOf file) i && not (asideSet file o i)) (derivedSet file o)
   pub whole-stable : ((i : ℕ) → asideSet file o i ≡ false) → Stable (programOf file) (inForce (programOf file)) (derivedSet file o)
   -- The steps are as many as counted, and their facts are those with mark 1.
-  pub step-count : length (takenSteps o) ≡ run.steps (o .answer)
+  pub step-count : length (takenSteps o) ≡ runSteps (o .answer)
   pub step-facts : (f : ℕ) → factsOf (takenSteps o) f ≡ derivedSet file o f
+  -- Each stands in its turn: by the lowest-numbered plain rule that is ready on the facts so far, and where none is, by the rule taken at the next stage. No fact has two steps.
+  pub in-turn : (D R : ℕ → FactSet) → ChainsAlong file order D R → StepsInTurn (programOf file) (inForce (programOf file)) (namedIn order) D R (takenSteps o)
   -- For each fact with mark 1 the steps up to its own are a proof of it that D admits.
   pub row-proves : (f : ℕ) → derivedSet file o f ≡ true → Proof (programOf file) (inForce (programOf file)) (stepsUpTo f o) f
   pub row-admitted : (f : ℕ) → derivedSet file o f ≡ true → Admits (programOf file) (derivedSet file o) (stepsUpTo f o)
   -- Past what is written each buffer keeps its contents.
   pub fact-marks-kept : drop (programOf file .facts) (o .fact-marks) ≡ drop (programOf file .facts) facts
   pub rule-marks-kept : drop (count (programOf file)) (o .rule-marks) ≡ drop (count (programOf file)) rules
-  pub steps-kept : drop (stepWidth narrow * run.steps (o .answer)) (o .steps) ≡ drop (stepWidth narrow * run.steps (o .answer)) steps
+  pub steps-kept : drop (stepWidth narrow * runSteps (o .answer)) (o .steps) ≡ drop (stepWidth narrow * runSteps (o .answer)) steps
 
 -- Handed the rules with mark 2 as a list and the facts with mark 1 as a set, the judge says stable.
 abbrev pub JudgedStable : List ℕ → RunOutcome → Type 0
@@ -144,7 +147,7 @@ rowUpTo f o = take (stepWidth narrow * length (stepsUpTo f o)) (o .steps)
 
 -- A run gives a result, ends at M, sets nothing aside, and its steps prove the facts of M.
 pub record EndsAt (file : List ℕ) (M : FactSet) (o : RunOutcome) : Type 0 where
-  pub number : run.number (o .answer) ≡ 0
+  pub number : runNumber (o .answer) ≡ 0
   pub ends-there : derivedSet file o ≡ M
   pub none-aside : (i : ℕ) → asideSet file o i ≡ false
   pub rows-are : (f : ℕ) → rowOf (rowUpTo f o) ≡ stepsUpTo f o
@@ -161,7 +164,7 @@ pub record LeadsTo (file order : List ℕ) (M : FactSet) : Type 0 where
   pub run-ends : (facts rules steps : List ℕ) → buffersNo narrow (programOf file) (length facts) (length rules) (length steps) ≡ none → EndsAt file M (runOutcome file order facts rules steps)
   -- No fact outside has any proof that M admits, and whatever row is handed to the check, it does not say yes.
   pub outside-unproved : (f : ℕ) → M f ≡ false → (row : List Step) → Proof (programOf file) (inForce (programOf file)) row f → Admits (programOf file) M row → ⊥
-  pub outside-unchecked : (f : ℕ) → M f ≡ false → (row : List ℕ) → check.verdict (checked file (setBytes file M) f row) ≡ 0
+  pub outside-unchecked : (f : ℕ) → M f ≡ false → (row : List ℕ) → checkedVerdict (checked file (setBytes file M) f row) ≡ 0
 
 -- the set that a search found: the facts with mark 1
 abbrev pub foundSet : List ℕ → SearchOutcome → FactSet
@@ -173,7 +176,7 @@ writtenOrder file o = take (nameWidth * exceptions (programOf file)) (o .order)
 
 -- the steps that it wrote: as many as it counts
 abbrev pub writtenSteps : SearchOutcome → List ℕ
-writtenSteps o = take (stepWidth narrow * search.steps (o .answer)) (o .steps)
+writtenSteps o = take (stepWidth narrow * searchSteps (o .answer)) (o .steps)
 
 -- the steps from the first up to the fact's own, the proof that it gives for the fact
 abbrev pub writtenProof : ℕ → SearchOutcome → List ℕ
@@ -186,8 +189,8 @@ pub record SameResult (file : List ℕ) (o : SearchOutcome) (r : RunOutcome) : T
   pub fact-marks : take (programOf file .facts) (r .fact-marks) ≡ take (programOf file .facts) (o .fact-marks)
   pub rule-marks : take (count (programOf file)) (r .rule-marks) ≡ take (count (programOf file)) (o .rule-marks)
   pub steps : stepRow r ≡ writtenSteps o
-  pub stage-count : run.stages (r .answer) ≡ search.stages (o .answer)
-  pub step-count : run.steps (r .answer) ≡ search.steps (o .answer)
+  pub stage-count : runStages (r .answer) ≡ searchStages (o .answer)
+  pub step-count : runSteps (r .answer) ≡ searchSteps (o .answer)
 
 -- The buffers are those lent, before the search.
 pub record SearchIs (file facts rules steps order : List ℕ) (o : SearchOutcome) : Type 0 where
@@ -206,14 +209,14 @@ pub record SearchIs (file facts rules steps order : List ℕ) (o : SearchOutcome
   -- By the search's own rule marks nothing is set aside, mark 4 is on exactly the withheld rules, and the stage count is the number of rule marks 1.
   pub none-aside : (i : ℕ) → marked (count (programOf file)) 2 (o .rule-marks) i ≡ false
   pub withheld-rules : (i : ℕ) → marked (count (programOf file)) 4 (o .rule-marks) i ≡ withheld (programOf file) i
-  pub stages : search.stages (o .answer) ≡ howMany (λ m. eqb m 1) (take (count (programOf file)) (o .rule-marks))
+  pub stages : searchStages (o .answer) ≡ howMany (λ m. eqb m 1) (take (count (programOf file)) (o .rule-marks))
   -- Its own steps, from the first up to a fact's own, prove each fact of the set.
   pub rows-are : (f : ℕ) → rowOf (writtenProof f o) ≡ rowTo f (rowOf (writtenSteps o))
   pub rows-prove : RowsProve file (foundSet file o) (λ f. writtenProof f o)
   -- Past what is written each buffer keeps its contents.
   pub fact-marks-kept : drop (programOf file .facts) (o .fact-marks) ≡ drop (programOf file .facts) facts
   pub rule-marks-kept : drop (count (programOf file)) (o .rule-marks) ≡ drop (count (programOf file)) rules
-  pub steps-kept : drop (stepWidth narrow * search.steps (o .answer)) (o .steps) ≡ drop (stepWidth narrow * search.steps (o .answer)) steps
+  pub steps-kept : drop (stepWidth narrow * searchSteps (o .answer)) (o .steps) ≡ drop (stepWidth narrow * searchSteps (o .answer)) steps
   pub order-kept : drop (nameWidth * exceptions (programOf file)) (o .order) ≡ drop (nameWidth * exceptions (programOf file)) order
 
 -- What the search answers (demand 3), by what it is handed.
@@ -234,18 +237,18 @@ pub record Searchable (file facts rules steps order : List ℕ) : Type 0 where
 -- What the search answers there.
 pub record Searches (file facts rules steps order : List ℕ) (o : SearchOutcome) : Type 0 where
   -- 41 exactly when no set is stable, ..
-  pub none-exactly : (search.number (o .answer) ≡ 41) ↔ ((M : FactSet) → Stable (programOf file) (inForce (programOf file)) M → ⊥)
+  pub none-exactly : (searchNumber (o .answer) ≡ 41) ↔ ((M : FactSet) → Stable (programOf file) (inForce (programOf file)) M → ⊥)
   -- .. else a result, and nothing else.
-  pub else-found : (M : FactSet) → Stable (programOf file) (inForce (programOf file)) M → search.number (o .answer) ≡ 0
-  pub found : search.number (o .answer) ≡ 0 → SearchIs file facts rules steps order o
-  pub one-or-other : (search.number (o .answer) ≡ 0) ⊎ (search.number (o .answer) ≡ 41)
+  pub else-found : (M : FactSet) → Stable (programOf file) (inForce (programOf file)) M → searchNumber (o .answer) ≡ 0
+  pub found : searchNumber (o .answer) ≡ 0 → SearchIs file facts rules steps order o
+  pub one-or-other : (searchNumber (o .answer) ≡ 0) ⊎ (searchNumber (o .answer) ≡ 41)
 
 -- What it answers whatever the number of constraint facts, for an accepted file in large enough buffers: 40 exactly when there are more than 16.
 abbrev pub FortyExactly : List ℕ → SearchOutcome → Type 0
-FortyExactly file o = (search.number (o .answer) ≡ 40) ↔ (16 < constraintFacts (programOf file))
+FortyExactly file o = (searchNumber (o .answer) ≡ 40) ↔ (16 < constraintFacts (programOf file))
 
--- Repeats within a rule change nothing: two files get equal replies, and leave equal bytes in the buffers lent, from every operation that asks
--- the file's questions. Each field is the definition that the operation's contract names.
+-- Two files get equal replies, and leave equal bytes in the buffers lent, from every operation that asks the file's questions. Each field is the
+-- definition that the operation's contract names.
 pub record SameReplies (s t : List ℕ) : Type 0 where
   pub accept : acceptOf s ≡ acceptOf t
   pub ask-list : (list : List ℕ) → answerOf (firstNo (askListQuestions s list)) ≡ answerOf (firstNo (askListQuestions t list))

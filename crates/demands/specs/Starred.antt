@@ -17,8 +17,7 @@ use Rattle.judge.specs.Judged.{judged}
 use Rattle.proofcheck.specs.declared.answer.Checked.the-variants as checking
 use Rattle.proofcheck.specs.Checked.{checked}
 use Rattle.search.specs.declared.answer.Searched.the-variants.{Found}
-use Rattle.search.specs.Outcome.{SearchOutcome, refusedWith, searchOutcome}
-use Rattle.search.specs.Outcome as searching
+use Rattle.search.specs.Outcome.{SearchOutcome, refusedWith, searchOutcome, searchNumber}
 use Rattle.demands.specs.Results.{foundSet, setOf, RunIs, SearchIs}
 use Rattle.demands.specs.Examples as bytes
 
@@ -79,7 +78,7 @@ pub record SearchTakes (file set : List ℕ) (o : SearchOutcome) : Type 0 where
 -- The search says 41 and leaves every byte as it was. No set is stable.
 pub record SearchTakesNone (file : List ℕ) : Type 0 where
   pub leaves : searches file ≡ refusedWith NoStableSet (factRoom file) (ruleRoom file) (stepRoom file) (orderRoom file)
-  pub number : searching.number (searches file .answer) ≡ 41
+  pub number : searchNumber (searches file .answer) ≡ 41
   pub none-stable : (M : FactSet) → Stable (programOf file) (inForce (programOf file)) M → ⊥
 
 pub record Starred : Type 0 where

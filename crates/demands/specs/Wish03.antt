@@ -14,7 +14,7 @@ use Rattle.cursors.specs.declared.cursor.Row.{Row}
 use Rattle.cursors.specs.declared.cursor.Row.the-variants.{Opening, Body, Order, Steps}
 use Rattle.cursors.specs.declared.cursor.Cursor.{Cursor}
 use Rattle.cursors.specs.declared.cursor.Read.the-variants.{Found}
-use Rattle.cursors.specs.Cursor.{number, cursorOf, nextAt}
+use Rattle.cursors.specs.Cursor.{readNumber, cursorOf, nextAt}
 
 -- A kind, and how many bytes of body follow it.
 pub record Entry : Type 0 where
@@ -60,4 +60,4 @@ pub record Wish03 : Type 0 where
   pub written : (i : Item) → length (itemBytes narrow i) ≡ 1 + lengthIn listed (getD (itemBytes narrow i) 0 0)
   -- A row decides which kinds may stand in it. Each of them is listed; of the others none is read there, listed or not, whatever follows.
   pub row-listed : (row : Row) (k : ℕ) → mem k (kindsOf row) ≡ true → isListed listed k ≡ true
-  pub row-decides : (s : List ℕ) (c : Cursor) → c .at < length s → mem (getD s (c .at) 0) (kindsOf (c .row)) ≡ false → (number (nextAt s c) ≡ otherKind (c .row)) × (cursorOf (nextAt s c) ≡ c)
+  pub row-decides : (s : List ℕ) (c : Cursor) → c .at < length s → mem (getD s (c .at) 0) (kindsOf (c .row)) ≡ false → (readNumber (nextAt s c) ≡ otherKind (c .row)) × (cursorOf (nextAt s c) ≡ c)

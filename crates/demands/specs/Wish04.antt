@@ -12,18 +12,17 @@ use Rattle.theory.specs.Layers.{Ranks, LeastRanks, Cycle, ByRank}
 use Rattle.items.specs.Item.{narrow, nameWidth}
 use Rattle.reader.specs.Questions.{programOf, fileNo, exceptions}
 use Rattle.questions.specs.Questions.{namedIn, buffersNo}
-use Rattle.run.specs.Outcome.{RunOutcome, runOutcome}
-use Rattle.run.specs.Outcome as run
-use Rattle.layers.specs.Outcome.{LayeredOutcome, layeredOutcome, number, count}
+use Rattle.run.specs.Outcome.{RunOutcome, runOutcome, runNumber}
+use Rattle.layers.specs.Outcome.{LayeredOutcome, layeredOutcome, layeredNumber, layeredCount}
 use Rattle.demands.specs.Results.{derivedSet, asideSet, LeadsTo}
 
 -- The order that was handed out: an item for each rule that is counted.
 abbrev pub handedOut : LayeredOutcome → List ℕ
-handedOut o = take (nameWidth * count (o .answer)) (o .order)
+handedOut o = take (nameWidth * layeredCount (o .answer)) (o .order)
 
 -- A run gives a result and sets nothing aside, and its facts are the one stable set of the file.
 pub record OneReading (file : List ℕ) (r : RunOutcome) : Type 0 where
-  pub result : run.number (r .answer) ≡ 0
+  pub result : runNumber (r .answer) ≡ 0
   pub none-aside : (i : ℕ) → asideSet file r i ≡ false
   pub stable : Stable (programOf file) (inForce (programOf file)) (derivedSet file r)
   pub only : (M : FactSet) → Stable (programOf file) (inForce (programOf file)) M → Same M (derivedSet file r)
@@ -35,23 +34,23 @@ pub record LayeredIs (file order : List ℕ) (o : LayeredOutcome) : Type 0 where
   pub ranked : (rank : ℕ → ℕ) × LeastRanks (programOf file) (inForce (programOf file)) rank
   pub by-rank : (rank : ℕ → ℕ) → LeastRanks (programOf file) (inForce (programOf file)) rank → ByRank (programOf file) (inForce (programOf file)) rank (namedIn (handedOut o))
   -- "It returns the count of rules named", which is that of all exception rules.
-  pub counted : length (namedIn (handedOut o)) ≡ count (o .answer)
-  pub every-exception : count (o .answer) ≡ exceptions (programOf file)
+  pub counted : length (namedIn (handedOut o)) ≡ layeredCount (o .answer)
+  pub every-exception : layeredCount (o .answer) ≡ exceptions (programOf file)
   -- It names every exception rule once and gets yes to 11 to 14; the run under it ends at the one stable set, with a proof for each fact of it and for no other.
   pub leads : (M : FactSet) → Stable (programOf file) (inForce (programOf file)) M → LeadsTo file (handedOut o) M
   -- "Under it the run sets nothing aside, and the file has just one stable set, which is the run's", in any buffers that suffice for the run.
   pub one-reading : (facts rules steps : List ℕ) → buffersNo narrow (programOf file) (length facts) (length rules) (length steps) ≡ none → OneReading file (runOutcome file (handedOut o) facts rules steps)
   -- Past what is written the buffer keeps its contents.
-  pub order-kept : drop (nameWidth * count (o .answer)) (o .order) ≡ drop (nameWidth * count (o .answer)) order
+  pub order-kept : drop (nameWidth * layeredCount (o .answer)) (o .order) ≡ drop (nameWidth * layeredCount (o .answer)) order
 
 -- `wish-04` proves it of every file and every buffer.
 pub record Wish04 (file order : List ℕ) : Type 0 where
-  pub result : number (layeredOutcome file order .answer) ≡ 0 → LayeredIs file order (layeredOutcome file order)
+  pub result : layeredNumber (layeredOutcome file order .answer) ≡ 0 → LayeredIs file order (layeredOutcome file order)
   -- "It refuses with 52, after the file's questions and the one on the order buffer, exactly the files where a cycle of dependencies goes through a constraint."
-  pub fifty-two : fileNo file ≡ none → nameWidth * exceptions (programOf file) ≤ length order → (number (layeredOutcome file order .answer) ≡ 52) ↔ Cycle (programOf file) (inForce (programOf file))
-  pub never-else : number (layeredOutcome file order .answer) ≡ 52 → (fileNo file ≡ none) × (nameWidth * exceptions (programOf file) ≤ length order)
-  pub room-first : fileNo file ≡ none → length order < nameWidth * exceptions (programOf file) → number (layeredOutcome file order .answer) ≡ 34
+  pub fifty-two : fileNo file ≡ none → nameWidth * exceptions (programOf file) ≤ length order → (layeredNumber (layeredOutcome file order .answer) ≡ 52) ↔ Cycle (programOf file) (inForce (programOf file))
+  pub never-else : layeredNumber (layeredOutcome file order .answer) ≡ 52 → (fileNo file ≡ none) × (nameWidth * exceptions (programOf file) ≤ length order)
+  pub room-first : fileNo file ≡ none → length order < nameWidth * exceptions (programOf file) → layeredNumber (layeredOutcome file order .answer) ≡ 34
   -- "Where such ranks exist": exactly where there is no such cycle; then the least ones exist, and the order is handed out.
   pub ranks-exactly : fileNo file ≡ none → ((rank : ℕ → ℕ) × Ranks (programOf file) (inForce (programOf file)) rank) ↔ (Cycle (programOf file) (inForce (programOf file)) → ⊥)
   pub least-exist : fileNo file ≡ none → (Cycle (programOf file) (inForce (programOf file)) → ⊥) → (rank : ℕ → ℕ) × LeastRanks (programOf file) (inForce (programOf file)) rank
-  pub handed-out : fileNo file ≡ none → nameWidth * exceptions (programOf file) ≤ length order → (Cycle (programOf file) (inForce (programOf file)) → ⊥) → number (layeredOutcome file order .answer) ≡ 0
+  pub handed-out : fileNo file ≡ none → nameWidth * exceptions (programOf file) ≤ length order → (Cycle (programOf file) (inForce (programOf file)) → ⊥) → layeredNumber (layeredOutcome file order .answer) ≡ 0

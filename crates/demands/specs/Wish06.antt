@@ -1,37 +1,33 @@
 -- Document 02, wish 6, "Barcodes that could not be read", on any bytes at all.
-use Prim.Native.Nat.{ℕ, _*_, _<_, _≤_}
+use Prim.Native.Nat.{ℕ, _+_, _*_, _<_, _≤_}
 use mathlib.Core.Path.{_≡_}
-use mathlib.Core.Bool.{true, false}
+use mathlib.Core.Bool.{true, false, _&&_}
 use mathlib.Core.List.{List, [], _∷_, _++_, map}
-use mathlib.Core.Logic.{_↔_}
+use mathlib.Core.Logic.{_⊎_, _↔_}
 use mathlib.Core.Option.{none, some}
 use lib.ListN.{length}
-use Rattle.theory.specs.Rule.{all, clear, mem, keep, howMany, upTo, Program, Step, count, rule, plain, exception, constraintFact, withheld, inForce}
-use Rattle.theory.specs.Run.{run}
+use Rattle.theory.specs.Rule.{all, clear, mem, keep, howMany, upTo, Program, Step, nothing, count, rule, plain, exception, constraintFact, withheld, inForce}
+use Rattle.theory.specs.Run.{run, stageCount}
 use Rattle.theory.specs.Stable.{stepAt, usedRule}
 use Rattle.items.specs.declared.refusal.Refusal.the-variants.{FileCutOff}
 use Rattle.items.specs.declared.item.FactId.{FactId}
 use Rattle.items.specs.declared.item.Item.{Item}
-use Rattle.items.specs.declared.item.Item.the-variants.{Unread}
-use Rattle.items.specs.Item.{maxBytes, classOf}
+use Rattle.items.specs.declared.item.Item.the-variants.{Facts, Unread}
+use Rattle.items.specs.Item.{narrow, maxBytes, maxRules, nameWidth, classOf}
 use Rattle.items.specs.Question.{firstNo, noNumber}
-use Rattle.cursors.specs.Cursor.{Token, item, itemsAt, fileStart}
-use Rattle.reader.specs.Questions.{rulesOf, unreadOf, factCount, programOf, openingQuestions, fileNo}
+use Rattle.cursors.specs.Cursor.{Token, item, itemsAt, fileStart, orderStart}
+use Rattle.reader.specs.Questions.{rulesOf, unreadOf, factCount, programOf, exceptions, openingQuestions, fileNo}
 use Rattle.reader.specs.Accept.{acceptOf}
 use Rattle.reader.specs.Accept as accepted
-use Rattle.questions.specs.Questions.{namedIn, rowOf}
+use Rattle.questions.specs.Questions.{whole, namedIn, rowOf, namesQuestions, orderNo, askOrderQuestions, buffersNo, listQuestions}
 use Rattle.run.specs.declared.answer.Ran.the-variants.{Done}
-use Rattle.run.specs.Outcome.{RunOutcome, runWritten, runOutcome}
-use Rattle.run.specs.Outcome as running
-use Rattle.keeping.specs.Outcome.{groundsOutcome}
-use Rattle.keeping.specs.Outcome as grounds
-use Rattle.proofcheck.specs.Checked.{checked}
-use Rattle.proofcheck.specs.Checked as checking
+use Rattle.run.specs.Outcome.{RunOutcome, runWritten, runOutcome, runNumber}
+use Rattle.keeping.specs.Outcome.{groundsOutcome, groundsNumber}
+use Rattle.proofcheck.specs.Checked.{checked, checkedVerdict}
 use Rattle.search.specs.declared.answer.Searched.the-variants.{Found}
-use Rattle.search.specs.Outcome.{SearchOutcome, foundAt, searchOutcome}
-use Rattle.search.specs.Outcome as searching
-use Rattle.layers.specs.Outcome.{LayeredOutcome, layeredOutcome}
-use Rattle.layers.specs.Outcome as layers
+use Rattle.search.specs.Outcome.{SearchOutcome, foundAt, searchOutcome, searchNumber}
+use Rattle.layers.specs.Outcome.{LayeredOutcome, layeredOutcome, layeredNumber}
+use Rattle.panel_lines.specs.Text.{headLine, ascending, panelText}
 use Rattle.demands.specs.Results.{asideSet, withheldSet, takenSteps, foundSet, writtenOrder, writtenSteps}
 use Rattle.demands.specs.Wish01.{keptRow}
 use Rattle.demands.specs.Wish04.{handedOut}
@@ -54,12 +50,12 @@ pub record AfterRule (file : List ℕ) : Type 0 where
   pub short : length file ≤ maxBytes
   pub asked : firstNo (openingQuestions (map item before)) ≡ some FileCutOff
 
--- Of an accepted file: its 07 items stand between its first item and the first rule, and the facts that they name are the unread ones, below the count.
+-- Of an accepted file: its 07 items stand between the 10 item, which gives the count of facts, and the first rule, and the facts that they name are the unread
+-- ones, below the count.
 pub record NamesUnread (file : List ℕ) : Type 0 where
-  pub first : Item
   pub names : List FactId
   pub rest : List Token
-  pub stands : itemsAt file fileStart ≡ item first ∷ (map (λ f. item (Unread f)) names ++ rest)
+  pub stands : itemsAt file fileStart ≡ item (Facts (programOf file .facts)) ∷ (map (λ f. item (Unread f)) names ++ rest)
   pub none-later : unreadOf rest ≡ []
   pub unread : (f : ℕ) → programOf file .unread f ≡ mem f (map (λ f. f .0) names)
   pub below : (f : ℕ) → programOf file .unread f ≡ true → f < programOf file .facts
@@ -74,7 +70,23 @@ pub record WithheldLast (P : Program) (row : List ℕ) : Type 0 where
   pub is : row ≡ front ++ keep (withheld P) (upTo (count P))
   pub in-force : all (inForce P) front ≡ true
 
--- `wish-06` proves it of every file.
+-- An order gets a number from the question on orders, and from the run in any buffers.
+pub record OrderGets (file order : List ℕ) (n : ℕ) : Type 0 where
+  pub asked : noNumber (firstNo (askOrderQuestions file order)) ≡ n
+  pub run : (facts rules steps : List ℕ) → runNumber (runOutcome file order facts rules steps .answer) ≡ n
+
+-- An order of 05 items names a rule past the last one, or a plain one, and all that is asked of the items before gets yes.
+pub record NamesOther (P : Program) (order : List ℕ) : Type 0 where
+  pub before : List ℕ
+  pub other : ℕ
+  pub after : List ℕ
+  pub items : whole (itemsAt order orderStart) ≡ true
+  pub named : namedIn order ≡ before ++ (other ∷ after)
+  pub asked : firstNo (namesQuestions (exception P) nothing before) ≡ none
+  pub is-other : (count P ≤ other) ⊎ (plain P other ≡ true)
+
+-- `wish-06` proves it of every file. "Every operation works on the file without the withheld rules" is the mask `inForce` in what demands 2 and 3 and the wishes say of each;
+-- beyond it `repeats` of demand 2: programs that differ in no more than what withheld rules say are `Alike`, so nothing that such a rule says changes a reply.
 pub record Wish06 (file : List ℕ) : Type 0 where
   -- "Kind 07, body 1, names an unread fact and stands between the 10 item and the first rule."
   pub names : fileNo file ≡ none → NamesUnread file
@@ -87,23 +99,35 @@ pub record Wish06 (file : List ℕ) : Type 0 where
   pub plain-in-force : (i : ℕ) → plain (programOf file) i ≡ true → inForce (programOf file) i ≡ true
   pub none-withheld : unreadOf (itemsAt file fileStart) ≡ [] → (i : ℕ) → inForce (programOf file) i ≡ true
   -- ".. with rule mark 4": run and search write what the run of the rules in force gives, and mark 4 on exactly the withheld rules; none of these is set aside.
-  pub run-writes : (order facts rules steps : List ℕ) → running.number (runOutcome file order facts rules steps .answer) ≡ 0 → runOutcome file order facts rules steps ≡ runWritten (programOf file) (run (programOf file) (inForce (programOf file)) (namedIn order)) facts rules steps
-  pub run-marks : (order facts rules steps : List ℕ) → running.number (runOutcome file order facts rules steps .answer) ≡ 0 → (i : ℕ) → withheldSet file (runOutcome file order facts rules steps) i ≡ withheld (programOf file) i
-  pub never-aside : (order facts rules steps : List ℕ) → running.number (runOutcome file order facts rules steps .answer) ≡ 0 → (i : ℕ) → withheld (programOf file) i ≡ true → asideSet file (runOutcome file order facts rules steps) i ≡ false
-  pub search-writes : (facts rules steps order : List ℕ) → searching.number (searchOutcome file facts rules steps order .answer) ≡ 0 → searchOutcome file facts rules steps order ≡ foundAt (programOf file) (foundSet file (searchOutcome file facts rules steps order)) facts rules steps order
+  pub run-writes : (order facts rules steps : List ℕ) → runNumber (runOutcome file order facts rules steps .answer) ≡ 0 → runOutcome file order facts rules steps ≡ runWritten (programOf file) (run (programOf file) (inForce (programOf file)) (namedIn order)) facts rules steps
+  pub run-marks : (order facts rules steps : List ℕ) → runNumber (runOutcome file order facts rules steps .answer) ≡ 0 → (i : ℕ) → withheldSet file (runOutcome file order facts rules steps) i ≡ withheld (programOf file) i
+  pub never-aside : (order facts rules steps : List ℕ) → runNumber (runOutcome file order facts rules steps .answer) ≡ 0 → (i : ℕ) → withheld (programOf file) i ≡ true → asideSet file (runOutcome file order facts rules steps) i ≡ false
+  pub search-writes : (facts rules steps order : List ℕ) → searchNumber (searchOutcome file facts rules steps order .answer) ≡ 0 → searchOutcome file facts rules steps order ≡ foundAt (programOf file) (foundSet file (searchOutcome file facts rules steps order)) facts rules steps order
   -- "The trade now forbids a rule to take an unread fact itself as absent": no step of a run, of grounds, of a search or of a row to which the check says yes is by a
   -- rule with an unread constraint.
-  pub run-reads : (order facts rules steps : List ℕ) → running.number (runOutcome file order facts rules steps .answer) ≡ 0 → ReadAlone file (takenSteps (runOutcome file order facts rules steps))
-  pub grounds-read : (order : List ℕ) (fact : ℕ) (facts rules steps : List ℕ) → grounds.number (groundsOutcome file order fact facts rules steps .answer) ≡ 0 → ReadAlone file (keptRow (groundsOutcome file order fact facts rules steps))
-  pub search-reads : (facts rules steps order : List ℕ) → searching.number (searchOutcome file facts rules steps order .answer) ≡ 0 → ReadAlone file (rowOf (writtenSteps (searchOutcome file facts rules steps order)))
-  pub proof-reads : (set : List ℕ) (fact : ℕ) (row : List ℕ) → checking.verdict (checked file set fact row) ≡ 1 → ReadAlone file (rowOf row)
+  pub run-reads : (order facts rules steps : List ℕ) → runNumber (runOutcome file order facts rules steps .answer) ≡ 0 → ReadAlone file (takenSteps (runOutcome file order facts rules steps))
+  pub grounds-read : (order : List ℕ) (fact : ℕ) (facts rules steps : List ℕ) → groundsNumber (groundsOutcome file order fact facts rules steps .answer) ≡ 0 → ReadAlone file (keptRow (groundsOutcome file order fact facts rules steps))
+  pub search-reads : (facts rules steps order : List ℕ) → searchNumber (searchOutcome file facts rules steps order .answer) ≡ 0 → ReadAlone file (rowOf (writtenSteps (searchOutcome file facts rules steps order)))
+  pub proof-reads : (set : List ℕ) (fact : ℕ) (row : List ℕ) → checkedVerdict (checked file set fact row) ≡ 1 → ReadAlone file (rowOf row)
   -- "a row with a step by one is no proof and gets no"
-  pub step-refused : (set : List ℕ) (fact : ℕ) (row : List ℕ) (k : ℕ) → k < length (rowOf row) → withheld (programOf file) (stepAt (rowOf row) k .by) ≡ true → checking.verdict (checked file set fact row) ≡ 0
+  pub step-refused : (set : List ℕ) (fact : ℕ) (row : List ℕ) (k : ℕ) → k < length (rowOf row) → withheld (programOf file) (stepAt (rowOf row) k .by) ≡ true → checkedVerdict (checked file set fact row) ≡ 0
   -- "Orders still name them .. and orders handed out put them last, ascending"
-  pub search-last : (facts rules steps order : List ℕ) → searching.number (searchOutcome file facts rules steps order .answer) ≡ 0 → WithheldLast (programOf file) (namedIn (writtenOrder file (searchOutcome file facts rules steps order)))
-  pub layered-last : (order : List ℕ) → layers.number (layeredOutcome file order .answer) ≡ 0 → WithheldLast (programOf file) (namedIn (handedOut (layeredOutcome file order)))
-  -- "Every operation works on the file without the withheld rules, constraint facts included .. so questions 8, 9, 12, 14, 32 and 34, and the panel's R, count them":
-  -- `accept` counts them among rules and exception rules, and not their constraints.
+  pub search-last : (facts rules steps order : List ℕ) → searchNumber (searchOutcome file facts rules steps order .answer) ≡ 0 → WithheldLast (programOf file) (namedIn (writtenOrder file (searchOutcome file facts rules steps order)))
+  pub layered-last : (order : List ℕ) → layeredNumber (layeredOutcome file order .answer) ≡ 0 → WithheldLast (programOf file) (namedIn (handedOut (layeredOutcome file order)))
+  -- "Orders still name them .. so questions .. 12, 14 .. count them": an order that leaves one out gets 14, and 12 is for a rule past the last one or a plain one.
+  pub left-out : (order : List ℕ) (i : ℕ) → fileNo file ≡ none → firstNo (listQuestions (exception (programOf file)) order) ≡ none → withheld (programOf file) i ≡ true → mem i (namedIn order) ≡ false → OrderGets file order 14
+  pub other-named : (order : List ℕ) → fileNo file ≡ none → NamesOther (programOf file) order → OrderGets file order 12
+  -- ".. 32 and 34 ..": too few bytes for the marks of all rules get 32, and for the items of all exception rules 34, where the questions before get yes.
+  pub run-marks-short : (order facts rules steps : List ℕ) → fileNo file ≡ none → orderNo (exception (programOf file)) (count (programOf file)) order ≡ none → programOf file .facts ≤ length facts → length rules < count (programOf file) → runNumber (runOutcome file order facts rules steps .answer) ≡ 32
+  pub search-marks-short : (facts rules steps order : List ℕ) → fileNo file ≡ none → programOf file .facts ≤ length facts → length rules < count (programOf file) → searchNumber (searchOutcome file facts rules steps order .answer) ≡ 32
+  pub search-order-short : (facts rules steps order : List ℕ) → fileNo file ≡ none → buffersNo narrow (programOf file) (length facts) (length rules) (length steps) ≡ none → length order < nameWidth * exceptions (programOf file) → searchNumber (searchOutcome file facts rules steps order .answer) ≡ 34
+  pub layered-order-short : (order : List ℕ) → fileNo file ≡ none → length order < nameWidth * exceptions (programOf file) → layeredNumber (layeredOutcome file order .answer) ≡ 34
+  pub exceptions-all : exceptions (programOf file) ≡ howMany (withheld (programOf file)) (upTo (count (programOf file))) + howMany (λ i. exception (programOf file) i && inForce (programOf file) i) (upTo (count (programOf file)))
+  -- ".. and the panel's R": the text begins with the counts of facts and of all rules.
+  pub panel-head : fileNo file ≡ none → (rest : List ℕ) × (panelText file ≡ headLine (programOf file .facts) (count (programOf file)) (stageCount (run (programOf file) (inForce (programOf file)) (ascending (programOf file)))) ++ rest)
+  -- ".. 8 ..": at most so many rules, the withheld ones among them.
+  pub rules-few : fileNo file ≡ none → count (programOf file) ≤ maxRules
+  -- `accept` counts them among rules and exception rules, and not their constraints: "constraint facts included".
   pub rules-counted : fileNo file ≡ none → accepted.rules (acceptOf file) ≡ count (programOf file)
   pub exceptions-counted : fileNo file ≡ none → accepted.exceptionRules (acceptOf file) ≡ howMany (exception (programOf file)) (upTo (count (programOf file)))
   pub constraints-counted : fileNo file ≡ none → accepted.constraints (acceptOf file) ≡ howMany (constraintFact (programOf file) (inForce (programOf file))) (upTo (programOf file .facts))

@@ -13,8 +13,7 @@ use Rattle.items.specs.declared.refusal.Refusal.{Refusal}
 use Rattle.items.specs.Question.{number, noNumber}
 use Rattle.reader.specs.Questions.{programOf, fileNo}
 use Rattle.questions.specs.Questions.{naming, orderNo, betterNo}
-use Rattle.run.specs.Outcome.{runOutcome}
-use Rattle.run.specs.Outcome as running
+use Rattle.run.specs.Outcome.{runOutcome, runNumber}
 use Rattle.better.specs.declared.answer.Choice.the-variants.{First, Second}
 use Rattle.better.specs.Outcome.{asideOf, choiceOf, which, betterOf}
 use Rattle.demands.specs.Results.{asideSet}
@@ -55,8 +54,8 @@ pub record ByPairs (file x y z : List ℕ) : Type 0 where
 pub record Wish07 (file : List ℕ) : Type 0 where
   pub result : (first second : List ℕ) → noNumber (betterNo file first second) ≡ 0 → BetterIs file first second
   -- The rules that an order sets aside are those with rule mark 2 that the run under it writes; no withheld rule is among them.
-  pub counted : (order facts rules steps : List ℕ) → running.number (runOutcome file order facts rules steps .answer) ≡ 0 → asideOf file order ≡ howMany (λ m. eqb m 2) (take (count (programOf file)) (runOutcome file order facts rules steps .rule-marks))
-  pub withheld-not : (order facts rules steps : List ℕ) → running.number (runOutcome file order facts rules steps .answer) ≡ 0 → (i : ℕ) → withheld (programOf file) i ≡ true → asideSet file (runOutcome file order facts rules steps) i ≡ false
+  pub counted : (order facts rules steps : List ℕ) → runNumber (runOutcome file order facts rules steps .answer) ≡ 0 → asideOf file order ≡ howMany (λ m. eqb m 2) (take (count (programOf file)) (runOutcome file order facts rules steps .rule-marks))
+  pub withheld-not : (order facts rules steps : List ℕ) → runNumber (runOutcome file order facts rules steps .answer) ≡ 0 → (i : ℕ) → withheld (programOf file) i ≡ true → asideSet file (runOutcome file order facts rules steps) i ≡ false
   -- "The comparison must be total, ..
   pub total : (x y : List ℕ) → NoWorse file x y ⊎ NoWorse file y x
   pub transitive : (x y z : List ℕ) → NoWorse file x y → NoWorse file y z → NoWorse file x z

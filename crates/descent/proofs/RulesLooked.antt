@@ -8,7 +8,8 @@ use mathlib.Core.Logic.{_⊎_, inl, inr, ⊎-elim}
 use borrow.Author.Tests.{eqb-true, eqb-false, ltb-true, ltb-false}
 use lib.ListN.{getD}
 use lib.Dec.{eqb, ltb}
-use Rattle.theory.specs.Rule.{mem, Program, inForce, count, rule, Bounded}
+use Rattle.theory.specs.Rule.{mem, Program, inForce, count, rule}
+use Rattle.theory.specs.Conditions.{Bounded}
 use Rattle.theory.specs.Places.{rankIn}
 use Rattle.theory.proofs.Bools.{either}
 use Rattle.theory.proofs.Lists.{all-elem}

@@ -8,7 +8,8 @@ use mathlib.Core.Logic.{_⊎_, inl, inr, ⊎-elim}
 use borrow.Author.Tests.{eqb-true, eq-eqb}
 use lib.ListN.{getD}
 use lib.Dec.{eqb}
-use Rattle.theory.specs.Rule.{mem, keep, range, upTo, Program, withheld, inForce, count, rule, Bounded}
+use Rattle.theory.specs.Rule.{mem, keep, range, upTo, Program, withheld, inForce, count, rule}
+use Rattle.theory.specs.Conditions.{Bounded}
 use Rattle.theory.specs.Places.{placesMarked}
 use Rattle.theory.proofs.Bools.{never, and-left, and-right, and-both}
 use Rattle.theory.proofs.Lists.{mem-here, mem-cases, mem-keep, mem-range, mem-upTo, upTo-mem}

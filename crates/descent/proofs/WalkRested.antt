@@ -8,7 +8,8 @@ use mathlib.Core.Logic.{inl, ⊎-elim}
 use borrow.Author.Tests.{ltb-true, ltb-false}
 use lib.ListN.{length, getD, replicate, length-replicate, getD-replicate}
 use lib.Dec.{eqb, ltb}
-use Rattle.theory.specs.Rule.{Program, inForce, count, rule, Bounded}
+use Rattle.theory.specs.Rule.{Program, inForce, count, rule}
+use Rattle.theory.specs.Conditions.{Bounded}
 use Rattle.theory.specs.Layers.{Ranks, Cycle}
 use Rattle.theory.specs.Places.{rankIn}
 use Rattle.theory.proofs.Bools.{either, never}

@@ -6,7 +6,9 @@ use mathlib.Core.List.{List}
 use mathlib.Core.Logic.{_⊎_}
 use lib.ListN.{length, getD}
 use lib.Dec.{eqb}
-use Rattle.theory.specs.Rule.{mem, upTo, sumOf, Program, inForce, count, rule, Bounded}
+use Rattle.theory.specs.Rule.{mem, upTo, Program, inForce, count, rule}
+use Rattle.theory.specs.Conditions.{Bounded}
+use Rattle.theory.specs.Lists.{sumOf}
 use Rattle.theory.specs.Layers.{LeastRanks, Cycle, isLayered}
 use Rattle.theory.specs.Places.{rankIn}
 use Rattle.items.specs.Item.{narrow, maxFacts, maxRules}

@@ -12,7 +12,8 @@ use lib.Dec.{eqb}
 use lib.ListN.{length, getD, set, take, length-set}
 use lib.Seq.{take-suc-set, getD-set-same, getD-set-other}
 use Rattle.items.specs.Item.{narrow, maxFacts, maxGuessed, has}
-use Rattle.theory.specs.Rule.{keep, howMany, range, downFrom, upTo}
+use Rattle.theory.specs.Rule.{keep, howMany, range, upTo}
+use Rattle.theory.specs.Lists.{downFrom}
 use Rattle.theory.proofs.Bools.{either}
 use Rattle.theory.proofs.Lists.{howMany-append, less-one, range-more}
 use Rattle.earliest.specs.Root.{Kept}

@@ -9,7 +9,9 @@ use mathlib.Core.Option.{Option, none, some}
 use borrow.Author.Tests.{ltb-true, ltb-false}
 use lib.Dec.{ltb}
 use lib.ListN.{length, replicate}
-use Rattle.theory.specs.Rule.{mem, NoRepeat, keep, downFrom, Program, FactSet, inForce, nothing, constraintFact, count, Bounded}
+use Rattle.theory.specs.Rule.{mem, NoRepeat, keep, Program, FactSet, inForce, nothing, constraintFact, count}
+use Rattle.theory.specs.Conditions.{Bounded}
+use Rattle.theory.specs.Lists.{downFrom}
 use Rattle.theory.specs.Search.{guessed, fits, hunt, search}
 use Rattle.theory.specs.Guesses.{guessAt}
 use Rattle.theory.proofs.Bools.{either, never, and-left, and-true, false-of, or-none}

@@ -3,7 +3,8 @@ ghost use Prim.Native.Nat.{_≤_};
 ghost use mathlib.Core.Path.{_≡_};
 ghost use lib.ListN.{length, take};
 ghost use Rattle.items.specs.Item.{narrow, maxFacts, maxGuessed, has};
-ghost use Rattle.theory.specs.Rule.{howMany, keep, upTo, downFrom};
+ghost use Rattle.theory.specs.Rule.{howMany, keep, upTo};
+ghost use Rattle.theory.specs.Lists.{downFrom};
 use items::item::MAX_FACTS;
 use nogoods::guess::MAX_GUESSED;
 

@@ -1,13 +1,14 @@
 -- The outcome of making a load, by what its questions came to, and what it means.
 use Prim.Native.Nat.{ℕ, _+_, _*_, _<_, _≤_}
 use native.Mathlib.Omega.{arith}
+use native.Mathlib.Decide.{decLt}
 use mathlib.Core.Path.{_≡_, refl, sym, ap, ap₂, subst, _∙_}
 use mathlib.Core.Bool.{_&&_}
 use mathlib.Core.List.{List, [], _∷_, _++_}
 use mathlib.Core.Option.{Option, none, some}
 use borrow.Author.Tests.{le-leb, lt-leb, leb-true}
 use lib.Dec.{leb}
-use lib.ListN.{length, drop}
+use lib.ListN.{length, drop, length-append}
 use lib.Seq.{take-append-seam}
 use Rattle.theory.specs.Rule.{upTo}
 use Rattle.theory.proofs.Bools.{and-left, and-right}
@@ -24,7 +25,7 @@ use Rattle.reader.specs.Questions.{fileNo}
 use Rattle.reader.proofs.Accepted.{all-asked}
 use Rattle.generator.specs.declared.answer.Loaded.the-variants.{Written}
 use Rattle.generator.specs.Load.{itemsOf, loadBytes}
-use Rattle.generator.specs.Outcome.{mostFacts, loadLength, loadQuestions, loadNo, LoadOutcome, loadWritten, refusedWith, loadOutcome, number, count, fileIn, LoadMeans}
+use Rattle.generator.specs.Outcome.{mostFacts, loadLength, loadQuestions, loadNo, LoadOutcome, loadWritten, refusedWith, loadOutcome, loadNumber, loadCount, fileIn, LoadMeans}
 use Rattle.generator.specs.Drawing.{RulesWritten}
 use Rattle.generator.proofs.LoadRead.{load-length, load-accepted, program-back}
 use Rattle.generator.proofs.RulesPlaced.{front-length}
@@ -98,15 +99,35 @@ module _ (start n m : ℕ) (out : List ℕ) where
             ap₂ (λ (k : ℕ) (s : List ℕ). record { answer = Written k; out = s }) (e ∙ sym (load-length start n m)) all ∙ sym (load-is passed)
 
   -- Number 0 says that every question got yes.
-  pub no-refusal : number (o .answer) ≡ 0 → _≡_ {A = Option Refusal} (loadNo n m (length out)) none
+  pub no-refusal : loadNumber (o .answer) ≡ 0 → _≡_ {A = Option Refusal} (loadNo n m (length out)) none
   no-refusal z = go (loadNo n m (length out)) refl
     where
       go : (no : Option Refusal) → loadNo n m (length out) ≡ no → _≡_ {A = Option Refusal} no none
       go none e = refl
-      go (some r) e = absurd (omega (arith, ap (λ (x : LoadOutcome). number (x .answer)) (load-refused r e), number-above r))
+      go (some r) e = absurd (omega (arith, ap (λ (x : LoadOutcome). loadNumber (x .answer)) (load-refused r e), number-above r))
+
+  -- Room for the longest load is room for each.
+  pub never-short : loadLength maxRules ≤ length out → loadNumber (o .answer) ≡ 55 → ⊥
+  unfolding loadWritten
+  never-short room e = facts (decLt 0 n)
+    where
+      numbered : (x : LoadOutcome) → o ≡ x → loadNumber (x .answer) ≡ 55
+      numbered x q = sym (ap (λ (y : LoadOutcome). loadNumber (y .answer)) q) ∙ e
+
+      rules : 0 < n → n ≤ mostFacts → Dec (maxRules < m) → ⊥
+      rules l few (yes many) = omega (arith, numbered _ (too-many-rules l few many))
+      rules l few (no h) = omega (arith, numbered _ (load-is (passed l few (omega arith) (omega arith))))
+
+      few-facts : 0 < n → Dec (mostFacts < n) → ⊥
+      few-facts l (yes many) = omega (arith, numbered _ (too-many-facts many))
+      few-facts l (no h) = rules l (omega arith) (decLt maxRules m)
+
+      facts : Dec (0 < n) → ⊥
+      facts (yes l) = few-facts l (decLt mostFacts n)
+      facts (no h) = omega (arith, numbered _ (no-facts (omega arith)))
 
   -- The file that a result hands out is the load.
-  pub file-is : number (o .answer) ≡ 0 → fileIn o ≡ loadBytes start n m
+  pub file-is : loadNumber (o .answer) ≡ 0 → fileIn o ≡ loadBytes start n m
   unfolding loadWritten
   file-is z = ap fileIn (load-is (no-refusal z)) ∙ take-append-seam (loadBytes start n m) (drop (length (loadBytes start n m)) out)
 
@@ -119,19 +140,19 @@ module _ (start n m : ℕ) (out : List ℕ) where
         program = λ z. rw (file-is z) (program-back start n m);
       }
     where
-      numbered : (no : Option Refusal) → loadNo n m (length out) ≡ no → number (o .answer) ≡ noNumber no
-      numbered none e = ap (λ (x : LoadOutcome). number (x .answer)) (load-is e)
-      numbered (some r) e = ap (λ (x : LoadOutcome). number (x .answer)) (load-refused r e)
+      numbered : (no : Option Refusal) → loadNo n m (length out) ≡ no → loadNumber (o .answer) ≡ noNumber no
+      numbered none e = ap (λ (x : LoadOutcome). loadNumber (x .answer)) (load-is e)
+      numbered (some r) e = ap (λ (x : LoadOutcome). loadNumber (x .answer)) (load-refused r e)
 
   -- both promises of an answer, from the first
   pub promised : (x : LoadOutcome) → x ≡ o → (x ≡ o) × LoadMeans start n m (loadNo n m (length out)) x
   promised x e = (e, rw e load-means)
 
   -- what is counted lies inside the buffer
-  pub counted-inside : (x : LoadOutcome) → x ≡ o → count (x .answer) ≤ length out
+  pub counted-inside : (x : LoadOutcome) → x ≡ o → loadCount (x .answer) ≤ length (x .out)
   unfolding loadWritten
   counted-inside x e = rw e (go (loadNo n m (length out)) refl)
     where
-      go : (no : Option Refusal) → loadNo n m (length out) ≡ no → count (o .answer) ≤ length out
-      go none f = omega (arith, ap (λ (y : LoadOutcome). count (y .answer)) (load-is f), load-length start n m, all-yes n m (length out) f .fits)
-      go (some r) f = omega (arith, ap (λ (y : LoadOutcome). count (y .answer)) (load-refused r f))
+      go : (no : Option Refusal) → loadNo n m (length out) ≡ no → loadCount (o .answer) ≤ length (o .out)
+      go none f = rw (load-is f) (omega (arith, length-append (loadBytes start n m) (drop (length (loadBytes start n m)) out)))
+      go (some r) f = rw (load-refused r f) (omega arith)

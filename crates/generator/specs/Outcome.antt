@@ -57,20 +57,20 @@ loadOutcome start n m out =
     ]
 
 -- The answer's number, 0 where there is a result, and its count, 0 on a refusal.
-abbrev pub number : Loaded → ℕ
-number (Written bytes) = 0
-number (Refused r) = refusal.number r
+abbrev pub loadNumber : Loaded → ℕ
+loadNumber (Written bytes) = 0
+loadNumber (Refused r) = refusal.number r
 
-abbrev pub count : Loaded → ℕ
-count (Written bytes) = bytes
-count (Refused r) = 0
+abbrev pub loadCount : Loaded → ℕ
+loadCount (Written bytes) = bytes
+loadCount (Refused r) = 0
 
 -- The file that is handed out: as many bytes as are counted.
 abbrev pub fileIn : LoadOutcome → List ℕ
-fileIn o = take (count (o .answer)) (o .out)
+fileIn o = take (loadCount (o .answer)) (o .out)
 
 -- What an answer means: its number is that of the first no; and the file that a result hands out is accepted, and is the program that was drawn.
 pub record LoadMeans (start n m : ℕ) (no : Option Refusal) (o : LoadOutcome) : Type 0 where
-  pub numbered : number (o .answer) ≡ noNumber no
-  pub accepted : number (o .answer) ≡ 0 → fileNo (fileIn o) ≡ none
-  pub program : number (o .answer) ≡ 0 → programOf (fileIn o) ≡ loadProgram start n m
+  pub numbered : loadNumber (o .answer) ≡ noNumber no
+  pub accepted : loadNumber (o .answer) ≡ 0 → fileNo (fileIn o) ≡ none
+  pub program : loadNumber (o .answer) ≡ 0 → programOf (fileIn o) ≡ loadProgram start n m

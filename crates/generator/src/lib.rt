@@ -1,7 +1,7 @@
 // A test load that anyone can repeat: a rule file drawn from a start.
 ghost use mathlib.Core.Path.{_≡_};
 ghost use lib.ListN.{length};
-ghost use Rattle.generator.specs.Outcome.{LoadOutcome, loadNo, loadOutcome, LoadMeans};
+ghost use Rattle.generator.specs.Outcome.{LoadOutcome, loadNo, loadOutcome, LoadMeans, loadNumber};
 
 pub mod answer;
 mod draw;
@@ -51,4 +51,12 @@ pub fn load(start: u32, facts: u32, rules: u32, out: &mut [u8]) -> Loaded
     Loaded::Written {
         bytes: length as u16,
     }
+}
+
+// The same in the room that the program `load` has. Any load fits there, so it is never refused with 55.
+pub fn load_in_room(start: u32, facts: u32, rules: u32, room: &mut [u8; LOAD_ROOM]) -> Loaded
+    ensures { λ r. ⌜ _≡_ {A = LoadOutcome} (record { answer = r; out = now (room .exit) }) (loadOutcome start facts rules (now (room .entry))) ⌝ }
+    ensures { λ r. ⌜ (loadNumber r ≡ 55 → ⊥) ⌝ }
+{
+    load(start, facts, rules, room)
 }

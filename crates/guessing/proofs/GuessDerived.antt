@@ -9,7 +9,9 @@ use borrow.Author.Tests.{lt-ltb}
 use lib.Dec.{ltb}
 use lib.ListN.{length, take, drop}
 use lib.Seq.{take-length}
-use Rattle.theory.specs.Rule.{all, mem, downFrom, Program, FactSet, inForce, constraintFact, Bounded, count}
+use Rattle.theory.specs.Rule.{all, mem, Program, FactSet, inForce, constraintFact, count}
+use Rattle.theory.specs.Conditions.{Bounded}
+use Rattle.theory.specs.Lists.{downFrom}
 use Rattle.theory.specs.Check.{leastOf}
 use Rattle.theory.specs.Search.{guessed}
 use Rattle.theory.specs.Guesses.{guessAt, leftOut}

@@ -66,8 +66,8 @@ module _ (pass : ℕ → Bool) where
         }
 
 -- A guess whose marks are there already.
-pub stays : {P : Program} {row base marks : List ℕ} {guess : ℕ} → guess < 2 ^ length row → Derived P row base guess marks → Descended P row base guess guess marks
-stays l d = record { onward = omega arith; inside = l; passed = λ x a m. absurd (omega arith); derived = d }
+pub already-marked : {P : Program} {row base marks : List ℕ} {guess : ℕ} → guess < 2 ^ length row → Derived P row base guess marks → Descended P row base guess guess marks
+already-marked l d = record { onward = omega arith; inside = l; passed = λ x a m. absurd (omega arith); derived = d }
 
 module _ {P : Program} {R row base missing : List ℕ} (b : Base P R row base missing) where
   -- What the comparison with what a guess derives tells of the guess.

@@ -12,7 +12,8 @@ use borrow.Author.Tests.{eq-eqb, ne-eqb}
 use lib.Dec.{eqb}
 use lib.ListN.{length, getD, take, drop}
 use lib.Pow.{pow-pos, shl-exact}
-use Rattle.theory.specs.Rule.{mem, Program, inForce, Bounded}
+use Rattle.theory.specs.Rule.{mem, Program, inForce}
+use Rattle.theory.specs.Conditions.{Bounded}
 use Rattle.theory.specs.Search.{guessed}
 use Rattle.theory.specs.Guesses.{bit, factAt, guessAt}
 use Rattle.theory.proofs.Bools.{never, or-none, or-right}

@@ -6,7 +6,8 @@ use mathlib.Core.List.{List, [], _∷_, map}
 use native.Mathlib.Omega.{arith}
 use borrow.Author.Tests.{lt-ltb, ltb-true}
 use lib.Dec.{ltb}
-use Rattle.theory.specs.Rule.{all, mem, Program, Bounded, count, rule}
+use Rattle.theory.specs.Rule.{all, mem, Program, count, rule}
+use Rattle.theory.specs.Conditions.{Bounded}
 use Rattle.theory.proofs.Bools.{and-left, and-right, and-both}
 use Rattle.theory.proofs.Lists.{all-elem, all-of, all-append}
 use Rattle.items.specs.Item.{narrow, maxFacts}

@@ -18,7 +18,8 @@ use Rattle.reader.specs.Questions.{programOf}
 use Rattle.reader.specs.Asked.{fileAsked}
 use Rattle.questions.specs.declared.answer.Answer.{Answer}
 use Rattle.questions.specs.declared.answer.Answer.the-variants.{Yes, No}
-use Rattle.questions.specs.Questions.{listQuestions, listNo, setNo, judgeQuestions, judgeNo}
+use Rattle.questions.specs.Questions.{listQuestions, judgeQuestions, judgeNo}
+use Rattle.questions.specs.Parts.{listNo, setNo}
 use Rattle.questions.specs.Answer.{answerOf}
 use Rattle.questions.specs.Named.{Listed}
 use Rattle.questions.proofs.OperationAsked.{Passed, file-refused, file-accepted, yes-to-set}

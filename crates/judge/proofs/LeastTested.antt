@@ -5,7 +5,8 @@ use mathlib.Core.Bool.{Bool, true, false, not, _&&_, _||_, Bool·beq}
 use mathlib.Core.List.{List, []}
 use native.Mathlib.Omega.{arith}
 use lib.ListN.{replicate}
-use Rattle.theory.specs.Rule.{all, keep, upTo, Program, Mask, FactSet, Bounded, count}
+use Rattle.theory.specs.Rule.{all, keep, upTo, Program, Mask, FactSet, count}
+use Rattle.theory.specs.Conditions.{Bounded}
 use Rattle.theory.specs.Check.{leastOf, isStable}
 use Rattle.theory.proofs.Bools.{or-none}
 use Rattle.theory.proofs.Lists.{all-ext, mem-keep, mem-upTo, upTo-mem}

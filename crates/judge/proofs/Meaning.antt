@@ -8,7 +8,7 @@ use mathlib.Core.Option.{Option, none, some}
 use native.Mathlib.Omega.{arith}
 use Rattle.theory.specs.Rule.{Program, exception}
 use Rattle.theory.specs.Check.{isStable}
-use Rattle.theory.specs.Stable.{Within}
+use Rattle.theory.specs.Conditions.{Within}
 use Rattle.theory.specs.Stable as theory
 use Rattle.theory.proofs.Stable.{test-of-stable}
 use Rattle.items.specs.declared.refusal.Refusal.{Refusal}
@@ -18,12 +18,13 @@ use Rattle.reader.specs.Questions.{programOf, fileQuestions}
 use Rattle.items.proofs.FirstNo.{both-yes}
 use Rattle.reader.proofs.Accepted.{accepted-file, bounded}
 use Rattle.items.specs.Item.{has}
-use Rattle.questions.specs.Questions.{listQuestions, setQuestions, setNo, judgeQuestions, judgeNo}
+use Rattle.questions.specs.Questions.{listQuestions, setQuestions, judgeQuestions, judgeNo}
+use Rattle.questions.specs.Parts.{setNo}
 use Rattle.marking.proofs.MarksPainted.{past-end}
 use Rattle.questions.proofs.OperationAsked.{yes-to-set}
 use Rattle.judge.specs.declared.answer.Judged.{Judged}
 use Rattle.judge.specs.declared.answer.Judged.the-variants.{Stable, NotStable}
-use Rattle.judge.specs.Judged.{unlisted, judged, number, verdict, JudgeMeans}
+use Rattle.judge.specs.Judged.{unlisted, judged, judgedNumber, judgedVerdict, JudgeMeans}
 use Rattle.judge.proofs.JudgeAnswers.{judge-refused, judge-judged}
 use Rattle.items.proofs.RefusalNumbers.{number-above}
 
@@ -33,13 +34,13 @@ set-within P set e f l = past-end set f (rw (yes-to-set (P .facts) set e .0) l)
 
 module _ (file list set : List ℕ) where
   -- a refusal has a number
-  pub judge-answered : number (judged file list set) ≡ 0 → _≡_ {A = Option Refusal} (judgeNo file list set) none
+  pub judge-answered : judgedNumber (judged file list set) ≡ 0 → _≡_ {A = Option Refusal} (judgeNo file list set) none
   judge-answered e = go (judgeNo file list set) refl
     where
       go : (o : Option Refusal) → judgeNo file list set ≡ o → _≡_ {A = Option Refusal} o none
       go none q = refl
       go (some r) q =
-          let own : number (judged file list set) ≡ refusal.number r = ap number (judge-refused file list set r q) in
+          let own : judgedNumber (judged file list set) ≡ refusal.number r = ap judgedNumber (judge-refused file list set r q) in
           absurd (omega (arith, number-above r))
 
   -- where no question got no, the set is in the bounds that the test needs
@@ -55,23 +56,23 @@ module _ (file list set : List ℕ) where
   judged-means = record {
     numbered = numbered (judgeNo file list set) refl;
     stable-exactly = λ e. (
-      λ v. exact (judge-answered e) .0 (one (isStable (programOf file) (unlisted (programOf file) list) (has set)) (sym (ap verdict (is e)) ∙ v)),
-      λ m. ap verdict (is e) ∙ ap (λ (b : Bool). verdict (cond b Stable NotStable)) (exact (judge-answered e) .1 m),
+      λ v. exact (judge-answered e) .0 (one (isStable (programOf file) (unlisted (programOf file) list) (has set)) (sym (ap judgedVerdict (is e)) ∙ v)),
+      λ m. ap judgedVerdict (is e) ∙ ap (λ (b : Bool). judgedVerdict (cond b Stable NotStable)) (exact (judge-answered e) .1 m),
     );
   }
     where
-      is : number (judged file list set) ≡ 0 → judged file list set ≡ cond (isStable (programOf file) (unlisted (programOf file) list) (has set)) Stable NotStable
+      is : judgedNumber (judged file list set) ≡ 0 → judged file list set ≡ cond (isStable (programOf file) (unlisted (programOf file) list) (has set)) Stable NotStable
       is e = judge-judged file list set (judge-answered e)
 
-      no-number : (b : Bool) → number (cond b Stable NotStable) ≡ 0
+      no-number : (b : Bool) → judgedNumber (cond b Stable NotStable) ≡ 0
       no-number true = refl
       no-number false = refl
 
-      numbered : (o : Option Refusal) → judgeNo file list set ≡ o → number (judged file list set) ≡ noNumber (judgeNo file list set)
-      numbered none q = ap number (judge-judged file list set q) ∙ no-number (isStable (programOf file) (unlisted (programOf file) list) (has set)) ∙ sym (ap noNumber q)
-      numbered (some r) q = ap number (judge-refused file list set r q) ∙ sym (ap noNumber q)
+      numbered : (o : Option Refusal) → judgeNo file list set ≡ o → judgedNumber (judged file list set) ≡ noNumber (judgeNo file list set)
+      numbered none q = ap judgedNumber (judge-judged file list set q) ∙ no-number (isStable (programOf file) (unlisted (programOf file) list) (has set)) ∙ sym (ap noNumber q)
+      numbered (some r) q = ap judgedNumber (judge-refused file list set r q) ∙ sym (ap noNumber q)
 
-      one : (b : Bool) → verdict (cond b Stable NotStable) ≡ 1 → b ≡ true
+      one : (b : Bool) → judgedVerdict (cond b Stable NotStable) ≡ 1 → b ≡ true
       one true v = refl
       one false v = absurd (omega arith)
 

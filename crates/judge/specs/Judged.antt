@@ -29,18 +29,18 @@ judged file list set =
     ]
 
 -- The answer's number, 0 where there is none, and its verdict, 1 where the set is stable.
-abbrev pub number : Judged → ℕ
-number Stable = 0
-number NotStable = 0
-number (Refused r) = refusal.number r
+abbrev pub judgedNumber : Judged → ℕ
+judgedNumber Stable = 0
+judgedNumber NotStable = 0
+judgedNumber (Refused r) = refusal.number r
 
-abbrev pub verdict : Judged → ℕ
-verdict Stable = 1
-verdict NotStable = 0
-verdict (Refused r) = 0
+abbrev pub judgedVerdict : Judged → ℕ
+judgedVerdict Stable = 1
+judgedVerdict NotStable = 0
+judgedVerdict (Refused r) = 0
 
 -- What an answer means: its number is that of the first no; where no question got no, the verdict is stable exactly where the set is stable for
 -- the file less the listed rules.
 pub record JudgeMeans (file list set : List ℕ) (r : Judged) : Type 0 where
-  pub numbered : number r ≡ noNumber (judgeNo file list set)
-  pub stable-exactly : number r ≡ 0 → (verdict r ≡ 1) ↔ theory.Stable (programOf file) (unlisted (programOf file) list) (has set)
+  pub numbered : judgedNumber r ≡ noNumber (judgeNo file list set)
+  pub stable-exactly : judgedNumber r ≡ 0 → (judgedVerdict r ≡ 1) ↔ theory.Stable (programOf file) (unlisted (programOf file) list) (has set)

@@ -16,7 +16,7 @@ use Rattle.reader.specs.Questions.{programOf}
 use Rattle.reader.specs.Scanned.{Tabled}
 use Rattle.questions.specs.Questions.{namedIn, runQuestions, runNo, groundsQuestions, groundsNo, runOf}
 use Rattle.run.specs.Stands.{runIn}
-use Rattle.keeping.specs.Outcome.{GroundsOutcome, groundsWritten, groundsRefused, groundsOutcome, number, GroundsNumbers}
+use Rattle.keeping.specs.Outcome.{GroundsOutcome, groundsWritten, groundsRefused, groundsOutcome, groundsNumber, GroundsNumbers}
 use Rattle.keeping.specs.Told.{groundsTold}
 
 module _ (file order : List ℕ) (fact : ℕ) (facts rules steps : List ℕ) where
@@ -60,7 +60,7 @@ module _ (file order : List ℕ) (fact : ℕ) (facts rules steps : List ℕ) whe
         counted = λ h K k. rw (h, groundsOutcome) (ap length (sym (kept-is (programOf file) (runOf file order .trace) fact K (run-traced (programOf file) (inForce (programOf file)) (namedIn order)) k)));
       }
     where
-      go : (o : Option Refusal) → asked ≡ o → number (outcome .answer) ≡ noNumber asked
+      go : (o : Option Refusal) → asked ≡ o → groundsNumber (outcome .answer) ≡ noNumber asked
       go none e = rw (e, groundsOutcome)
       go (some r) e = rw (e, groundsOutcome)
 

@@ -48,16 +48,16 @@ groundsOutcome file order fact facts rules steps =
     ]
 
 -- The answer's number, 0 where there is a result, and its count, 0 on a refusal.
-abbrev pub number : Grounds → ℕ
-number (Given n) = 0
-number (Refused r) = refusal.number r
+abbrev pub groundsNumber : Grounds → ℕ
+groundsNumber (Given n) = 0
+groundsNumber (Refused r) = refusal.number r
 
-abbrev pub count : Grounds → ℕ
-count (Given n) = n
-count (Refused r) = 0
+abbrev pub groundsCount : Grounds → ℕ
+groundsCount (Given n) = n
+groundsCount (Refused r) = 0
 
 -- The answer in numbers, from the first no to the questions: its number, and the count of the steps in the least set that has the fact's own step and goes
 -- back.
 pub record GroundsNumbers (file order : List ℕ) (fact : ℕ) (no : Option Refusal) (r : Grounds) : Type 0 where
-  pub numbered : number r ≡ noNumber no
-  pub counted : _≡_ {A = Option Refusal} no none → (K : StepSet) → Kept (programOf file) (runOf file order .trace) fact K → count r ≡ length (select K (runOf file order .trace))
+  pub numbered : groundsNumber r ≡ noNumber no
+  pub counted : _≡_ {A = Option Refusal} no none → (K : StepSet) → Kept (programOf file) (runOf file order .trace) fact K → groundsCount r ≡ length (select K (runOf file order .trace))

@@ -8,7 +8,8 @@ use mathlib.Core.Option.{Option, none, some}
 use borrow.Author.Tests.{le-leb, lt-leb, leb-true}
 use lib.ListN.{length}
 use lib.Dec.{leb}
-use Rattle.theory.specs.Rule.{Program, Bounded, inForce, constraintFact}
+use Rattle.theory.specs.Rule.{Program, inForce, constraintFact}
+use Rattle.theory.specs.Conditions.{Bounded}
 use Rattle.theory.specs.Layers.{LeastRanks, isLayered, layeredOrder, ranksOf}
 use Rattle.theory.proofs.Counted.{counted-most}
 use Rattle.theory.proofs.Ranks.{layered-least, least-few, least-ranks-same}

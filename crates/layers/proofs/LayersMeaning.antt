@@ -28,14 +28,14 @@ use Rattle.reader.proofs.FileRefusals.{each-first, each-file}
 use Rattle.questions.specs.Questions.{namedIn, naming, LayeredAsked, layeredQuestions, layeredNo, orderRoomQuestion, layeredQuestion}
 use Rattle.questions.proofs.OperationAsked.{file-accepted}
 use Rattle.questions.proofs.Orders.{naming-names, naming-length}
-use Rattle.layers.specs.Outcome.{LayeredOutcome, orderedBy, layeredOutcome, number, count, namedRules, LayeredMeans}
+use Rattle.layers.specs.Outcome.{LayeredOutcome, orderedBy, layeredOutcome, layeredNumber, layeredCount, namedRules, LayeredMeans}
 use Rattle.layers.proofs.LayeredAnswers.{layered-refused, layered-ordered, AllYesses, all-yes}
 
 pub layered-asked : (file : List ℕ) → LayeredAsked file
 layered-asked file a = (unlayered-cycle (programOf file) (inForce (programOf file)) (bounded (accepted-file file a)), cycle-unlayered (programOf file) (inForce (programOf file)))
 
 -- What was written are the bytes of the order, and the rules read off it are those of the order.
-pub ordered-front : (row order : List ℕ) → take (nameWidth * count (orderedBy row order .answer)) (orderedBy row order .order) ≡ naming row
+pub ordered-front : (row order : List ℕ) → take (nameWidth * layeredCount (orderedBy row order .answer)) (orderedBy row order .order) ≡ naming row
 unfolding orderedBy
 ordered-front row order = take-at (naming row) (drop (length (naming row)) order) (nameWidth * length row) (naming-length row)
 
@@ -60,15 +60,15 @@ module _ (file order : List ℕ) where
   o = layeredOutcome file order
 
   -- by the first no
-  refused-number : (r : Refusal) → layeredNo file (length order) ≡ some r → refusal.number r ≡ number (o .answer)
-  refused-number r e = ap (λ (x : LayeredOutcome). number (x .answer)) (layered-refused file order r e)
+  refused-number : (r : Refusal) → layeredNo file (length order) ≡ some r → refusal.number r ≡ layeredNumber (o .answer)
+  refused-number r e = ap (λ (x : LayeredOutcome). layeredNumber (x .answer)) (layered-refused file order r e)
 
-  ordered-number : _≡_ {A = Option Refusal} (layeredNo file (length order)) none → _≡_ {A = ℕ} 0 (number (o .answer))
+  ordered-number : _≡_ {A = Option Refusal} (layeredNo file (length order)) none → _≡_ {A = ℕ} 0 (layeredNumber (o .answer))
   unfolding orderedBy
-  ordered-number e = ap (λ (x : LayeredOutcome). number (x .answer)) (layered-ordered file order e)
+  ordered-number e = ap (λ (x : LayeredOutcome). layeredNumber (x .answer)) (layered-ordered file order e)
 
   -- Number 0 says that every question got yes, ..
-  pub no-refusal : number (o .answer) ≡ 0 → _≡_ {A = Option Refusal} (layeredNo file (length order)) none
+  pub no-refusal : layeredNumber (o .answer) ≡ 0 → _≡_ {A = Option Refusal} (layeredNo file (length order)) none
   no-refusal z = go (layeredNo file (length order)) refl
     where
       go : (no : Option Refusal) → layeredNo file (length order) ≡ no → _≡_ {A = Option Refusal} no none
@@ -89,7 +89,7 @@ module _ (file order : List ℕ) where
   unfolding layeredQuestions
   last-no a = file-accepted file _ a
 
-  pub fifty-two : number (o .answer) ≡ 52 → Last
+  pub fifty-two : layeredNumber (o .answer) ≡ 52 → Last
   fifty-two z = go (fileNo file) refl
     where
       short : leb (nameWidth * exceptions P) (length order) ≡ false → layeredNo file (length order) ≡ firstNo (orderRoomQuestion P (length order) ∷ layeredQuestion P ∷ []) → ⊥
@@ -107,14 +107,14 @@ module _ (file order : List ℕ) where
           (either (leb (nameWidth * exceptions P) (length order)))
 
   -- The other way: where only the last gets no, the number is 52.
-  pub last-fifty-two : Last → number (o .answer) ≡ 52
+  pub last-fifty-two : Last → layeredNumber (o .answer) ≡ 52
   last-fifty-two l = sym (refused-number NotLayered (last-no (l .accepted) ∙ rw (l .order-fits, l .unlayered)))
 
   -- Where the buffer is too short the number is 34, whatever the rest, and where all get yes it is 0.
-  pub last-room : _≡_ {A = Option Refusal} (fileNo file) none → leb (nameWidth * exceptions P) (length order) ≡ false → number (o .answer) ≡ 34
+  pub last-room : _≡_ {A = Option Refusal} (fileNo file) none → leb (nameWidth * exceptions P) (length order) ≡ false → layeredNumber (o .answer) ≡ 34
   last-room a f = sym (refused-number OrderShort (last-no a ∙ rw f))
 
-  pub passed-all : _≡_ {A = Option Refusal} (fileNo file) none → leb (nameWidth * exceptions P) (length order) ≡ true → isLayered P (inForce P) ≡ true → number (o .answer) ≡ 0
+  pub passed-all : _≡_ {A = Option Refusal} (fileNo file) none → leb (nameWidth * exceptions P) (length order) ≡ true → isLayered P (inForce P) ≡ true → layeredNumber (o .answer) ≡ 0
   passed-all a f l = sym (ordered-number (last-no a ∙ rw (f, l)))
 
   -- The outcome of a result.
@@ -149,6 +149,6 @@ module _ (file order : List ℕ) where
         cyclic = λ z. let l = fifty-two z in unlayered-cycle P (inForce P) (bounded (accepted-file file (l .accepted))) (l .unlayered);
       }
     where
-      go : (no : Option Refusal) → layeredNo file (length order) ≡ no → number (o .answer) ≡ noNumber (layeredNo file (length order))
+      go : (no : Option Refusal) → layeredNo file (length order) ≡ no → layeredNumber (o .answer) ≡ noNumber (layeredNo file (length order))
       go none e = sym (ordered-number e) ∙ sym (ap noNumber e)
       go (some r) e = sym (refused-number r e) ∙ sym (ap noNumber e)

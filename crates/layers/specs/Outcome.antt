@@ -38,21 +38,21 @@ layeredOutcome file order =
     ]
 
 -- The answer's number, 0 where there is a result, and its count, 0 on a refusal.
-abbrev pub number : Layered → ℕ
-number (Ordered rules) = 0
-number (Refused r) = refusal.number r
+abbrev pub layeredNumber : Layered → ℕ
+layeredNumber (Ordered rules) = 0
+layeredNumber (Refused r) = refusal.number r
 
-abbrev pub count : Layered → ℕ
-count (Ordered rules) = rules
-count (Refused r) = 0
+abbrev pub layeredCount : Layered → ℕ
+layeredCount (Ordered rules) = rules
+layeredCount (Refused r) = 0
 
 -- The rules that the order names, as many as are counted.
 abbrev pub namedRules : LayeredOutcome → List ℕ
-namedRules o = namedIn (take (nameWidth * count (o .answer)) (o .order))
+namedRules o = namedIn (take (nameWidth * layeredCount (o .answer)) (o .order))
 
 -- What an answer means: its number is that of the first no; a result names rules by the least rank of their conclusions, then by number, and those that are
 -- withheld come last, ascending (document 02, wish 6); and 52 says that a cycle of dependencies goes through a constraint.
 pub record LayeredMeans (file : List ℕ) (no : Option Refusal) (o : LayeredOutcome) : Type 0 where
-  pub numbered : number (o .answer) ≡ noNumber no
-  pub by-rank : number (o .answer) ≡ 0 → (rank : ℕ → ℕ) × (LeastRanks (programOf file) (inForce (programOf file)) rank × ByRank (programOf file) (inForce (programOf file)) rank (namedRules o))
-  pub cyclic : number (o .answer) ≡ 52 → Cycle (programOf file) (inForce (programOf file))
+  pub numbered : layeredNumber (o .answer) ≡ noNumber no
+  pub by-rank : layeredNumber (o .answer) ≡ 0 → (rank : ℕ → ℕ) × (LeastRanks (programOf file) (inForce (programOf file)) rank × ByRank (programOf file) (inForce (programOf file)) rank (namedRules o))
+  pub cyclic : layeredNumber (o .answer) ≡ 52 → Cycle (programOf file) (inForce (programOf file))

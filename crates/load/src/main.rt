@@ -8,7 +8,7 @@ use words::Word;
 // Writes the file, or the number of the refusal.
 fn write_load(start: u32, facts: u32, rules: u32) {
     let mut room = [0u8; LOAD_ROOM];
-    match generator::load(start, facts, rules, &mut room) {
+    match generator::load_in_room(start, facts, rules, &mut room) {
         Loaded::Refused(r) => {
             io::write_all(STDERR_FILENO, b"E ");
             io::print_decimal(STDERR_FILENO, r.number() as u64);

@@ -16,7 +16,8 @@ use Rattle.items.specs.Item.{maxRules}
 use Rattle.items.proofs.FirstNo.{both-yes}
 use Rattle.cursors.specs.Cursor.{itemsAt, orderStart}
 use Rattle.reader.proofs.Accepted.{all-asked}
-use Rattle.questions.specs.Questions.{whole, namedIn, nameQuestions, namesQuestions, listQuestions, listNo}
+use Rattle.questions.specs.Questions.{whole, namedIn, nameQuestions, namesQuestions, listQuestions}
+use Rattle.questions.specs.Parts.{listNo}
 
 -- each name is a number below n that was not seen before
 few-names : (known : ℕ → Bool) (n : ℕ) → ((i : ℕ) → known i ≡ true → i < n) → (rs : List ℕ) (seen : ℕ → Bool) → _≡_ {A = Option Refusal} (firstNo (namesQuestions known seen rs)) none → length rs ≤ howMany (λ i. not (seen i)) (upTo n)

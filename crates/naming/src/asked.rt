@@ -2,7 +2,7 @@
 ghost use mathlib.Core.Path.{_≡_};
 ghost use Rattle.tables.specs.Layout.{programIn, WellFormed};
 ghost use Rattle.questions.specs.Answer.{answerOf};
-ghost use Rattle.questions.specs.Questions.{tabledNo};
+ghost use Rattle.questions.specs.Parts.{tabledNo};
 use questions::answer::Answer;
 use tables::layout::TABLE_CELLS;
 

@@ -20,7 +20,8 @@ use Rattle.tables.proofs.ProgramHeld.{rules-below}
 use Rattle.marking.proofs.MarksPainted.{unpainted}
 use Rattle.marking.proofs.RulesMarked.{plain-at}
 use Rattle.reader.proofs.Accepted.{accepted-file, rules-few}
-use Rattle.questions.specs.Questions.{orderQuestions, orderNo, bufferQuestions, runQuestions, buffersNo, tabledNo, runNo, naming}
+use Rattle.questions.specs.Questions.{orderQuestions, orderNo, bufferQuestions, runQuestions, buffersNo, runNo, naming}
+use Rattle.questions.specs.Parts.{tabledNo}
 use Rattle.items.proofs.FirstNo.{all-yes}
 use Rattle.questions.proofs.OperationAsked.{file-accepted}
 use Rattle.questions.proofs.Orders.{keep-once, order-yes}
@@ -43,7 +44,7 @@ unmarked-ascending {T} w marks m n e =
         unpainted maxRules (plainRules (programIn T) (inForce (programIn T))) i (omega (arith, h, rules-below w))
         ∙ ap not (plain-at (programIn T) i h) ∙ twice (exception (programIn T) i)
 
-ascending-yes : (known : ℕ → Bool) (n : ℕ) → _≡_ {A = Option Refusal} (orderNo known n (naming (keep known (upTo n)))) none
+pub ascending-yes : (known : ℕ → Bool) (n : ℕ) → _≡_ {A = Option Refusal} (orderNo known n (naming (keep known (upTo n)))) none
 ascending-yes known n =
     order-yes known n (keep known (upTo n))
     (all-of known (keep known (upTo n)) (λ i m. and-right (mem i (upTo n)) (known i) (rw (mem-keep known (upTo n) i) at m)))

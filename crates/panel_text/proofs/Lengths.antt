@@ -9,7 +9,8 @@ use mathlib.Core.Option.{Option, none}
 use borrow.Author.Tests.{eq-eqb, ne-eqb}
 use lib.ListN.{length, replicate, length-append, length-replicate}
 use lib.Dec.{eqb}
-use Rattle.theory.specs.Rule.{keep, range, upTo, Program, Mask, FactSet, Bounded, inForce, null, adjoin, nothing, count, rule, exception, Step}
+use Rattle.theory.specs.Rule.{keep, range, upTo, Program, Mask, FactSet, inForce, null, adjoin, nothing, count, rule, exception, Step}
+use Rattle.theory.specs.Conditions.{Bounded}
 use Rattle.theory.specs.Run.{Stand, run, stageCount, stepCount}
 use Rattle.theory.proofs.Grounds.{Grounds}
 use Rattle.theory.proofs.Run.{granted, run-sound}

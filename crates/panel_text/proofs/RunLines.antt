@@ -8,7 +8,8 @@ use mathlib.Core.List.{List, map}
 use mathlib.Core.Option.{Option, none, some}
 use lib.ListN.{length, take, drop, replicate, length-append, length-replicate}
 use lib.Dec.{eqb}
-use Rattle.theory.specs.Rule.{keep, upTo, Program, Bounded, inForce, count, Step as Taken}
+use Rattle.theory.specs.Rule.{keep, upTo, Program, inForce, count, Step as Taken}
+use Rattle.theory.specs.Conditions.{Bounded}
 use Rattle.theory.specs.Run.{Stand, run, factMark, factMarks, ruleMark, ruleMarks, stageCount, stepCount}
 use Rattle.theory.proofs.Lists.{mem-upTo, keep-same, mapped-length}
 use Rattle.items.specs.declared.refusal.Refusal.{Refusal}

@@ -12,7 +12,8 @@ use lib.Seq.{getD-set-same, getD-set-other}
 use lib.Bits.{bitAnd}
 use lib.Count.{trailingZeros}
 use lib.Dec.{eqb, ltb}
-use Rattle.theory.specs.Rule.{adjoin, seek, range}
+use Rattle.theory.specs.Rule.{adjoin, range}
+use Rattle.theory.specs.Lists.{seek}
 use Rattle.theory.proofs.Bools.{either, never, or-none, or-right, and-left, and-right, false-of, false-of-not}
 use Rattle.theory.proofs.Lists.{eqb-self, seek-none, seek-some, range-mem}
 use Rattle.items.specs.Item.{maxRules}

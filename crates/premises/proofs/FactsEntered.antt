@@ -9,7 +9,8 @@ use borrow.Author.Tests.{eq-eqb, eqb-true, ltb-true}
 use lib.ListN.{length, getD}
 use lib.Seq.{slice, slice-cons, slice-empty}
 use lib.Dec.{eqb, ltb}
-use Rattle.theory.specs.Rule.{all, mem, Program, FactSet, Bounded, Sub, adjoin, count, rule}
+use Rattle.theory.specs.Rule.{all, mem, Program, FactSet, Sub, adjoin, count, rule}
+use Rattle.theory.specs.Conditions.{Bounded}
 use Rattle.theory.specs.Walk.{after}
 use Rattle.theory.specs.Derive.{conclude, Fresh}
 use Rattle.theory.proofs.Bools.{never, and-left, and-right, false-of, or-none, both-ways}

@@ -9,7 +9,8 @@ use borrow.Author.Tests.{eqb-true, eqb-false, le-ltb}
 use lib.ListN.{length, getD, set, replicate, length-set}
 use lib.Seq.{getD-set-same, getD-set-other}
 use lib.Dec.{eqb, ltb}
-use Rattle.theory.specs.Rule.{all, mem, upTo, nothing, adjoin, Program, Bounded, rule}
+use Rattle.theory.specs.Rule.{all, mem, upTo, nothing, adjoin, Program, rule}
+use Rattle.theory.specs.Conditions.{Bounded}
 use Rattle.theory.proofs.Bools.{either, false-of, and-true, or-none}
 use Rattle.theory.proofs.Lists.{eqb-self, howMany-ext, below-more, here-not, here-now}
 use Rattle.items.specs.Item.{narrow, maxFacts, maxRules}

@@ -6,7 +6,8 @@ use mathlib.Core.Logic.{⊎-elim}
 use borrow.Author.Tests.{ltb-true, ltb-false}
 use lib.ListN.{List·getD-eq-default}
 use lib.Dec.{ltb}
-use Rattle.theory.specs.Rule.{all, mem, upTo, Program, FactSet, Bounded, adjoin, Rule, blank, count, rule}
+use Rattle.theory.specs.Rule.{all, mem, upTo, Program, FactSet, adjoin, Rule, blank, count, rule}
+use Rattle.theory.specs.Conditions.{Bounded}
 use Rattle.theory.proofs.Bools.{either, never}
 use Rattle.theory.proofs.Lists.{all-elem, howMany-ext}
 use Rattle.theory.proofs.Counted.{listed-fewer, unlisted-same, none-lacked, lacked-none}

@@ -7,7 +7,8 @@ use mathlib.Core.Logic.{⊎-elim}
 use native.Mathlib.Omega.{arith}
 use borrow.Author.Tests.{eqb-true, lt-ltb, le-ltb}
 use lib.Dec.{eqb, ltb}
-use Rattle.theory.specs.Rule.{upTo, nothing, adjoin, Program, FactSet, Bounded}
+use Rattle.theory.specs.Rule.{upTo, nothing, adjoin, Program, FactSet}
+use Rattle.theory.specs.Conditions.{Bounded}
 use Rattle.theory.proofs.Bools.{either}
 use Rattle.theory.proofs.Lists.{all-ext, eqb-self, howMany-ext, mem-upTo, below-more, here-not, here-now}
 use Rattle.theory.proofs.Derive.{adjoin-above}

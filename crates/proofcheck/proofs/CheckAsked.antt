@@ -16,7 +16,8 @@ use Rattle.reader.specs.Asked.{fileAsked}
 use Rattle.items.proofs.FirstNo.{first-no, first-yes}
 use Rattle.reader.proofs.Accepted.{all-asked}
 use Rattle.items.specs.Item.{has}
-use Rattle.questions.specs.Questions.{rowOf, setQuestions, rowQuestions, setNo, rowNo, checkQuestions, checkNo}
+use Rattle.questions.specs.Questions.{rowOf, setQuestions, rowQuestions, checkQuestions, checkNo}
+use Rattle.questions.specs.Parts.{setNo, rowNo}
 use Rattle.questions.proofs.OperationAsked.{file-refused, file-accepted}
 use Rattle.proofcheck.specs.declared.answer.Checked.the-variants.{Yes, No, Refused}
 use Rattle.proofcheck.specs.Checked.{checked}

@@ -1,6 +1,7 @@
 pub mod JoinedSets
 pub mod BarMarks
 pub mod ReadByView
+pub mod ItemAsked
 pub mod StepTested
 pub mod RowEnds
 pub mod RowWalked

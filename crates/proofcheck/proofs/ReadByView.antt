@@ -5,8 +5,8 @@ use mathlib.Core.Path.{_≡_, refl, sym, ap, ap₂, fun-ext, _∙_}
 use mathlib.Core.Bool.{Bool, true, false, _&&_}
 use mathlib.Core.List.{List, [], _∷_}
 use native.Mathlib.Omega.{arith}
-use borrow.Author.Tests.{lt-ltb, ltb-true, eq-eqb, ne-eqb}
-use lib.ListN.{length, getD, set, length-set}
+use borrow.Author.Tests.{lt-ltb, ltb-true}
+use lib.ListN.{length, set, length-set}
 use lib.Dec.{ltb}
 use Rattle.theory.specs.Rule.{all, clear, count, rule, Rule, Program, FactSet}
 use Rattle.theory.proofs.Bools.{and-left, and-right, and-false, or-none}
@@ -17,7 +17,7 @@ use Rattle.cursors.specs.Cursor.{itemsAt, bodyAt}
 use Rattle.tables.specs.Layout.{programIn, WellFormed}
 use Rattle.tables.proofs.ProgramHeld.{facts-below}
 use Rattle.reader.specs.Questions.{premisesOf, constraintsOf, programOf}
-use Rattle.reader.specs.Scanned.{OwnAt, Tabled}
+use Rattle.reader.specs.Scanned.{Tabled}
 use Rattle.view.specs.declared.range.Taken.{Taken}
 use Rattle.view.specs.declared.range.Range.{Range}
 use Rattle.view.specs.View.{endAt}
@@ -25,15 +25,13 @@ use Rattle.view.proofs.RangeItems.{Gives, NoneOwn}
 use Rattle.view.proofs.RuleRanges.{InFile}
 use Rattle.marking.specs.Marks.{barred, barredIn}
 use Rattle.proofcheck.specs.Steps.{joined, ruleFits, RuleMarked}
+use Rattle.proofcheck.specs.Viewed.{ruleAhead, marksFit, MayView, Fitted}
 use Rattle.proofcheck.proofs.JoinedSets.{joined-first}
 use Rattle.proofcheck.proofs.BarMarks.{bar-set, bar-keeps-facts}
 
 -- a rule of the file is one of the tables
 pub held : {s T : List ℕ} {i : ℕ} → Tabled s T → i < count (programOf s) → WellFormed T × (i < count (programIn T))
 held t h = (t .well-formed, omega (arith, ap count (t .program), h))
-
-abbrev marksFit : List ℕ → Bool
-marksFit xs = all (λ f. ltb f (maxFacts narrow)) xs
 
 constraints-fit : {s T : List ℕ} {i : ℕ} → Tabled s T → i < count (programOf s) → marksFit (rule (programOf s) i .constraints) ≡ true
 constraints-fit {s} {T} {i} t h =
@@ -56,20 +54,19 @@ pub record Viewing (M : FactSet) (R : Rule) (before marks : List ℕ) (s : List 
   pub facts : has marks ≡ has before
   pub bars : joined (barredIn marks) (constraintsOf (itemsAt s (bodyAt at))) ≡ joined (barredIn before) (R .constraints)
 
--- the same of whatever rule stands from place `from` on
-abbrev pub ViewingFrom : ℕ → FactSet → List ℕ → List ℕ → List ℕ → ℕ → ℕ → Type 0
-ViewingFrom from M before marks s end at = (R : Rule) → OwnAt s from R → Viewing M R before marks s end at
+pub all-ahead : (M : FactSet) {s : List ℕ} {at end : ℕ} {marks : List ℕ} → MayView s at end marks → Viewing M (ruleAhead s at) marks marks s end at
+all-ahead M v = record { size = v .size; ends = v .ends; same = refl; below = v .below; facts = refl; bars = refl }
 
-pub all-ahead : (M : FactSet) (marks : List ℕ) → length marks ≡ maxFacts narrow → {s T : List ℕ} {i : ℕ} {r : Range} → Tabled s T → i < count (programOf s) → InFile s (rule (programOf s) i) r → ViewingFrom (r .at) M marks marks s (r .end) (r .at)
-all-ahead M marks l {s} {r = r} t h o R a =
-    record {
-      size = l;
-      ends = o .ends;
-      same = sym (ap (λ (xs : List ℕ). fits M (has marks) xs (constraintsOf (itemsAt s (bodyAt (r .at))))) (a .premises) ∙ ap (fits M (has marks) (R .premises)) (a .constraints));
-      below = ap marksFit (o .own .constraints) ∙ constraints-fit t h;
-      facts = refl;
-      bars = ap (joined (barredIn marks)) (a .constraints);
-    }
+-- the range of a rule of the file may be viewed, and what is ahead of it is the rule
+module _ {s T : List ℕ} {i : ℕ} {r : Range} (t : Tabled s T) (h : i < count (programOf s)) (o : InFile s (rule (programOf s) i) r) where
+  pub may-view : (marks : List ℕ) → length marks ≡ maxFacts narrow → MayView s (r .at) (r .end) marks
+  may-view marks l = record { size = l; ends = o .ends; below = ap marksFit (o .own .constraints) ∙ constraints-fit t h }
+
+  pub rule-fitted : (M : FactSet) (marks after : List ℕ) (fitted : Bool) → Fitted M (ruleAhead s (r .at)) marks fitted after → Fitted M (rule (programOf s) i) marks fitted after
+  rule-fitted M marks after fitted q = (
+    q .0 ∙ ap₂ (fits M (has marks)) (o .own .premises) (o .own .constraints),
+    λ y. record { size = q .1 y .size; facts = q .1 y .facts; bars = q .1 y .bars ∙ ap (joined (barredIn marks)) (o .own .constraints) },
+  )
 
 module _ {M : FactSet} {R : Rule} {before marks s : List ℕ} {end at : ℕ} (w : Viewing M R before marks s end at) where
   pub none-left : NoneOwn (itemsAt s (bodyAt at)) → (true ≡ ruleFits M (has before) R) × (true ≡ true → RuleMarked R before marks)
@@ -127,17 +124,9 @@ module _ {M : FactSet} {R : Rule} {before marks s : List ℕ} {end at : ℕ} (w 
     before-too : {b : Bool} → has marks (f .0) ≡ b → has before (f .0) ≡ b
     before-too q = sym (ap (λ (S : FactSet). S (f .0)) (w .facts)) ∙ q
 
-    fact-mark : getD marks (f .0) 0 ≡ 1 → has marks (f .0) ≡ true
-    unfolding has
-    fact-mark e = eq-eqb _ _ e
-
-    no-fact-mark : (getD marks (f .0) 0 ≡ 1 → ⊥) → has marks (f .0) ≡ false
-    unfolding has
-    no-fact-mark n = ne-eqb _ _ n
-
-    pub among-facts : getD marks (f .0) 0 ≡ 1 → false ≡ ruleFits M (has before) R
+    pub among-facts : has marks (f .0) ≡ true → false ≡ ruleFits M (has before) R
     among-facts q =
-        let in-before : has before (f .0) ≡ true = before-too (fact-mark q) in
+        let in-before : has before (f .0) ≡ true = before-too q in
         let here : fits M (has before) ps′ (f .0 ∷ ks′) ≡ false = rw in-before (and-false (all (has before) ps′)) in
         sym (constraint-first ∙ here)
 
@@ -146,9 +135,8 @@ module _ {M : FactSet} {R : Rule} {before marks s : List ℕ} {end at : ℕ} (w 
         let here : fits M (has before) ps′ (f .0 ∷ ks′) ≡ false = rw q (ap (λ (b : Bool). all (has before) ps′ && b) (and-false (clear (has before) (f .0 ∷ ks′))) ∙ and-false (all (has before) ps′)) in
         sym (constraint-first ∙ here)
 
-    pub outside-both : (getD marks (f .0) 0 ≡ 1 → ⊥) → M (f .0) ≡ false → Viewing M R before (set marks (f .0) barred) s end (t .rest)
-    outside-both n m =
-        let q : has marks (f .0) ≡ false = no-fact-mark n in
+    pub outside-both : has marks (f .0) ≡ false → M (f .0) ≡ false → Viewing M R before (set marks (f .0) barred) s end (t .rest)
+    outside-both q m =
         let here : fits M (has before) ps′ (f .0 ∷ ks′) ≡ fits M (has before) ps′ ks′ = rw (before-too q, m) in
         let inside : f .0 < length marks = omega (arith, constraint-below, w .size) in
         record {

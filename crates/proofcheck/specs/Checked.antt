@@ -25,18 +25,18 @@ checked file set fact row =
     ]
 
 -- The answer's number, 0 where there is none, and its verdict, 1 for yes.
-abbrev pub number : Checked → ℕ
-number Yes = 0
-number No = 0
-number (Refused r) = refusal.number r
+abbrev pub checkedNumber : Checked → ℕ
+checkedNumber Yes = 0
+checkedNumber No = 0
+checkedNumber (Refused r) = refusal.number r
 
-abbrev pub verdict : Checked → ℕ
-verdict Yes = 1
-verdict No = 0
-verdict (Refused r) = 0
+abbrev pub checkedVerdict : Checked → ℕ
+checkedVerdict Yes = 1
+checkedVerdict No = 0
+checkedVerdict (Refused r) = 0
 
 -- What an answer means: its number is that of the first no; where no question got no, the verdict is yes exactly where the row is a proof of the
 -- asked fact that the set admits.
 pub record CheckMeans (file set : List ℕ) (fact : ℕ) (row : List ℕ) (r : Checked) : Type 0 where
-  pub numbered : number r ≡ noNumber (checkNo file set fact row)
-  pub yes-exactly : number r ≡ 0 → (verdict r ≡ 1) ↔ (Proof (programOf file) (inForce (programOf file)) (rowOf row) fact × Admits (programOf file) (has set) (rowOf row))
+  pub numbered : checkedNumber r ≡ noNumber (checkNo file set fact row)
+  pub yes-exactly : checkedNumber r ≡ 0 → (checkedVerdict r ≡ 1) ↔ (Proof (programOf file) (inForce (programOf file)) (rowOf row) fact × Admits (programOf file) (has set) (rowOf row))

@@ -2,3 +2,4 @@
 pub mod Checked
 -- What only code and proofs use.
 pub mod Steps
+pub mod Viewed

@@ -10,7 +10,8 @@ use borrow.Author.Tests.{eqb-true, eqb-false, eq-eqb, ne-eqb, lt-ltb, ltb-true}
 use lib.ListN.{length, getD, take, drop, replicate, length-replicate}
 use lib.Seq.{drop-cons, getD-take, length-take-le}
 use lib.Dec.{eqb, ltb}
-use Rattle.theory.specs.Rule.{all, mem, keep, range, upTo, nothing, Program, Mask, everyRule, count}
+use Rattle.theory.specs.Rule.{all, mem, keep, range, upTo, nothing, Program, Mask, count}
+use Rattle.theory.specs.Conditions.{everyRule}
 use Rattle.theory.proofs.Bools.{either, never, or-none, or-cases, both-ways}
 use Rattle.theory.proofs.Lists.{zeros, all-elem, getD-mem, range-all, range-cons, range-end}
 use Rattle.items.specs.Item.{narrow, maxFacts, has}

@@ -7,7 +7,8 @@ use mathlib.Core.List.{map}
 use mathlib.Core.Logic.{⊎-elim}
 use borrow.Author.Tests.{not-false, ltb-true}
 use lib.Dec.{ltb}
-use Rattle.theory.specs.Rule.{all, clear, mem, Program, Mask, FactSet, Bounded, Sub, count, rule, Closed}
+use Rattle.theory.specs.Rule.{all, clear, mem, Program, Mask, FactSet, Sub, count, rule, Closed}
+use Rattle.theory.specs.Conditions.{Bounded}
 use Rattle.theory.specs.Stable.{reduct}
 use Rattle.theory.proofs.Bools.{never, or-right, or-cases}
 use Rattle.theory.proofs.Lists.{all-elem, all-of, clear-elem, clear-of, clear-anti, mem-left, mem-append}

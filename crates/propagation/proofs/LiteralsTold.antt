@@ -9,7 +9,8 @@ use mathlib.Core.Option.{some}
 use borrow.Author.Tests.{eqb-true, ne-eqb, ltb-true, ltb-false}
 use lib.ListN.{length, getD, set, length-set, List·getD-eq-default}
 use lib.Dec.{eqb, ltb}
-use Rattle.theory.specs.Rule.{keep, howMany, upTo, Program, Mask, Sub, everyRule, adjoin, count, rule}
+use Rattle.theory.specs.Rule.{keep, howMany, upTo, Program, Mask, Sub, adjoin, count, rule}
+use Rattle.theory.specs.Conditions.{everyRule}
 use Rattle.theory.proofs.Bools.{either, never, and-right, or-right, or-cases, not-of-false}
 use Rattle.theory.proofs.Lists.{eqb-self}
 use Rattle.items.specs.declared.item.FactId.{FactId}

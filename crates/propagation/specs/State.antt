@@ -8,7 +8,8 @@ use mathlib.Core.Bool.{Bool, true, false, not, _||_}
 use mathlib.Core.List.{List, []}
 use lib.ListN.{length, getD, take}
 use lib.Dec.{eqb, ltb}
-use Rattle.theory.specs.Rule.{all, mem, howMany, Program, Mask, FactSet, Bounded, everyRule, adjoin, count, rule, Closed}
+use Rattle.theory.specs.Rule.{all, mem, howMany, Program, Mask, FactSet, adjoin, count, rule, Closed}
+use Rattle.theory.specs.Conditions.{Bounded, everyRule}
 use Rattle.theory.specs.Stable.{reduct}
 use Rattle.items.specs.Item.{narrow, maxFacts, maxRules, has}
 use Rattle.tables.specs.Layout.{programIn, WellFormed}

@@ -1,7 +1,8 @@
 // One literal after another is taken as true. Internal.
 ghost use Prim.Native.Nat.{ℕ, _<_};
 ghost use mathlib.Core.Path.{_≡_};
-ghost use Rattle.theory.specs.Rule.{everyRule, count};
+ghost use Rattle.theory.specs.Rule.{count};
+ghost use Rattle.theory.specs.Conditions.{everyRule};
 ghost use Rattle.items.specs.Item.{has};
 ghost use Rattle.tables.specs.Layout.{programIn, WellFormed};
 ghost use Rattle.index.specs.Literal.{literals, outside};

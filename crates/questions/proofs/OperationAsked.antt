@@ -27,17 +27,18 @@ use Rattle.reader.proofs.Accepted.{all-asked}
 use Rattle.reader.proofs.FileAsked.{file-no, file-yes}
 use Rattle.questions.specs.declared.answer.Answer.{Answer}
 use Rattle.questions.specs.declared.answer.Answer.the-variants.{Yes, No}
-use Rattle.questions.specs.Questions.{whole, namedIn, nameQuestions, namesQuestions, allNamedQuestion, listQuestions, orderQuestions, zeroOrOne, setQuestions, rowQuestions, listNo, orderNo, setNo, rowNo, bufferQuestions, buffersNo, askListQuestions, askOrderQuestions, askSetQuestions, askRowQuestions}
-use Rattle.questions.specs.Answer.{answerOf, number, AnswerNumbers}
+use Rattle.questions.specs.Questions.{whole, namedIn, nameQuestions, namesQuestions, allNamedQuestion, listQuestions, orderQuestions, zeroOrOne, setQuestions, rowQuestions, orderNo, bufferQuestions, buffersNo, askListQuestions, askOrderQuestions, askSetQuestions, askRowQuestions}
+use Rattle.questions.specs.Parts.{listNo, setNo, rowNo}
+use Rattle.questions.specs.Answer.{answerOf, answerNumber, AnswerNumbers}
 use Rattle.questions.specs.Named.{AllNamed, Listed}
 use Rattle.marking.proofs.MarksPainted.{unmarked}
 use Rattle.questions.proofs.NamesAsked.{said-yes, said-no}
 
 -- An answer that is the one defined, in numbers.
 pub answer-numbered : (qs : List Question) (r : Answer) → r ≡ answerOf (firstNo qs) → (r ≡ answerOf (firstNo qs)) × AnswerNumbers qs r
-answer-numbered qs r e = (e, record { numbered = ap number e ∙ go (firstNo qs) })
+answer-numbered qs r e = (e, record { numbered = ap answerNumber e ∙ go (firstNo qs) })
   where
-    go : (o : Option Refusal) → number (answerOf o) ≡ noNumber o
+    go : (o : Option Refusal) → answerNumber (answerOf o) ≡ noNumber o
     go none = refl
     go (some q) = refl
 

@@ -19,7 +19,8 @@ use Rattle.cursors.specs.Cursor.{itemsAt, orderStart}
 use Rattle.items.proofs.FirstNo.{first-yes}
 use Rattle.items.specs.Write.{ruleItem}
 use Rattle.cursors.proofs.ReadBack.{rule-item-first}
-use Rattle.questions.specs.Questions.{whole, namesOf, namedIn, nameQuestions, namesQuestions, listQuestions, orderQuestions, listNo, orderNo, naming}
+use Rattle.questions.specs.Questions.{whole, namesOf, namedIn, nameQuestions, namesQuestions, listQuestions, orderQuestions, orderNo, naming}
+use Rattle.questions.specs.Parts.{listNo}
 use Rattle.questions.proofs.NamesAsked.{first-named}
 
 pub naming-names : (rs : List ℕ) → namedIn (naming rs) ≡ rs

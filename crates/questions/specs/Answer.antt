@@ -15,10 +15,10 @@ answerOf none = Yes
 answerOf (some r) = No r
 
 -- 0 where all questions got yes, else the number of the first no.
-abbrev pub number : Answer → ℕ
-number Yes = 0
-number (No r) = refusal.number r
+abbrev pub answerNumber : Answer → ℕ
+answerNumber Yes = 0
+answerNumber (No r) = refusal.number r
 
 -- An answer in numbers: the number of the first no.
 pub record AnswerNumbers (qs : List Question) (r : Answer) : Type 0 where
-  pub numbered : number r ≡ noNumber (firstNo qs)
+  pub numbered : answerNumber r ≡ noNumber (firstNo qs)

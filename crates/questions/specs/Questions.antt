@@ -112,18 +112,9 @@ stepItemsQuestion row = ask NotStepItems (whole (itemsAt row stepsStart))
 unfoldable pub rowQuestions : ℕ → ℕ → List ℕ → List Question
 rowQuestions n fact row = askedFactQuestion n fact ∷ stepItemsQuestion row ∷ []
 
--- The first no of each.
-abbrev pub listNo : (ℕ → Bool) → List ℕ → Option Refusal
-listNo known list = firstNo (listQuestions known list)
-
+-- The first no of an order.
 abbrev pub orderNo : (ℕ → Bool) → ℕ → List ℕ → Option Refusal
 orderNo known n order = firstNo (orderQuestions known n order)
-
-abbrev pub setNo : ℕ → List ℕ → Option Refusal
-setNo n set = firstNo (setQuestions n set)
-
-abbrev pub rowNo : ℕ → ℕ → List ℕ → Option Refusal
-rowNo n fact row = firstNo (rowQuestions n fact row)
 
 -- The questions of the operations `ask_list`, `ask_order`, `ask_set` and `ask_row`: the file's own come first.
 unfoldable pub askListQuestions : List ℕ → List ℕ → List Question
@@ -166,11 +157,6 @@ buffersNo w P facts rules steps = firstNo (bufferQuestions w P facts rules steps
 abbrev pub runNo : List ℕ → List ℕ → ℕ → ℕ → ℕ → Option Refusal
 runNo file order facts rules steps = firstNo (runQuestions file order facts rules steps)
 
--- The first no to the run's questions behind those of the file.
-abbrev pub tabledNo : Program → List ℕ → ℕ → ℕ → ℕ → Option Refusal
-tabledNo P order facts rules steps =
-    firstNo (orderQuestions (exception P) (count P) order ++ bufferQuestions narrow P facts rules steps)
-
 -- The run of a file under an order.
 abbrev pub runOf : List ℕ → List ℕ → Stand
 runOf file order = run (programOf file) (inForce (programOf file)) (namedIn order)
@@ -183,10 +169,7 @@ bothQuestions P first second = orderQuestions (exception P) (count P) first ++ o
 unfoldable pub betterQuestions : List ℕ → List ℕ → List ℕ → List Question
 betterQuestions file first second = fileQuestions file ++ bothQuestions (programOf file) first second
 
--- The first no of each.
-abbrev pub bothNo : Program → List ℕ → List ℕ → Option Refusal
-bothNo P first second = firstNo (bothQuestions P first second)
-
+-- The first no of these.
 abbrev pub betterNo : List ℕ → List ℕ → List ℕ → Option Refusal
 betterNo file first second = firstNo (betterQuestions file first second)
 
@@ -249,13 +232,7 @@ unfoldable pub searchQuestions : List ℕ → ℕ → ℕ → ℕ → ℕ → Li
 searchQuestions file facts rules steps order =
     earlyQuestions file facts rules steps order ++ (stableQuestion (programOf file) ∷ [])
 
--- The first no of each.
-abbrev pub limitsNo : Program → ℕ → Option Refusal
-limitsNo P order = firstNo (limitQuestions P order)
-
-abbrev pub earlyNo : List ℕ → ℕ → ℕ → ℕ → ℕ → Option Refusal
-earlyNo file facts rules steps order = firstNo (earlyQuestions file facts rules steps order)
-
+-- The first no of these.
 abbrev pub searchNo : List ℕ → ℕ → ℕ → ℕ → ℕ → Option Refusal
 searchNo file facts rules steps order = firstNo (searchQuestions file facts rules steps order)
 

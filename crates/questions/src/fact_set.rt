@@ -2,7 +2,8 @@
 ghost use mathlib.Core.Path.{_≡_};
 ghost use Rattle.items.specs.Question.{firstNo};
 ghost use Rattle.items.specs.Item.{has};
-ghost use Rattle.questions.specs.Questions.{setNo, askSetQuestions, zeroOrOne};
+ghost use Rattle.questions.specs.Questions.{askSetQuestions, zeroOrOne};
+ghost use Rattle.questions.specs.Parts.{setNo};
 ghost use Rattle.questions.specs.Answer.{answerOf, AnswerNumbers};
 use crate::answer::Answer;
 use items::item::FactId;

@@ -9,7 +9,8 @@ use native.Mathlib.Omega.{arith}
 use borrow.Author.Tests.{ltb-true, leb-true, eqb-true, lt-ltb}
 use lib.ListN.{length, getD}
 use lib.Dec.{ltb, leb, eqb}
-use Rattle.theory.specs.Rule.{all, Rule, FactSet, count, blank, Bounded}
+use Rattle.theory.specs.Rule.{all, Rule, FactSet, count, blank}
+use Rattle.theory.specs.Conditions.{Bounded}
 use Rattle.theory.proofs.Bools.{and-both}
 use Rattle.items.specs.declared.refusal.Refusal.{Refusal}
 use Rattle.cursors.specs.declared.cursor.Fault.the-variants.{NoByte, OtherKind, ShortBody}
@@ -19,10 +20,9 @@ use Rattle.items.specs.declared.item.Item.{Item}
 use Rattle.cursors.specs.declared.cursor.Cursor.{Cursor}
 use Rattle.cursors.specs.declared.cursor.Read.{Read}
 use Rattle.cursors.specs.declared.cursor.Read.the-variants.{Found, Refused, Ended}
-use Rattle.reader.specs.declared.answer.Scan.{Scan}
 use Rattle.items.specs.Item.{maxBytes, maxRules, maxRuleItems, Sign, asksIn, asksOut, sameSign, OwnItem, classOf}
 use Rattle.cursors.specs.Cursor.{Token, item, bad, past, nextAt, itemsAt, fileStart}
-use Rattle.reader.specs.Questions.{ownFacts, ruleOf, rulesOf, factCount, programOf, fresh, opened, lengthened, countQuestion, endQuestion, bodyQuestions, openingQuestions, fileQuestions, fileNo}
+use Rattle.reader.specs.Questions.{ownFacts, ruleOf, rulesOf, factCount, programOf, fresh, opened, lengthened, countQuestion, endQuestion, bodyQuestions, openingQuestions, fileQuestions, fileNo, Scan}
 use Rattle.cursors.proofs.Items.{ReadAt, found, not-found, row-ended}
 use Rattle.items.proofs.ItemSays.{by-tags, alone, either-said}
 

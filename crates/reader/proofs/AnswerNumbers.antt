@@ -9,8 +9,7 @@ use Rattle.reader.specs.declared.answer.Accept.{Accept}
 use Rattle.reader.specs.declared.answer.Accept.the-variants.{Accepted, Refused}
 use Rattle.items.specs.Question.{noNumber}
 use Rattle.reader.specs.Questions.{programOf, exceptions, constraintFacts, fileNo}
-use Rattle.reader.specs.Accept as accept
-use Rattle.reader.specs.Accept.{acceptOf, AcceptNumbers}
+use Rattle.reader.specs.Accept.{acceptOf, AcceptNumbers, acceptNumber}
 
 module _ (file : List ℕ) where
   accept-numbers : AcceptNumbers file (acceptOf file)
@@ -24,7 +23,7 @@ module _ (file : List ℕ) where
         constraints-counted = λ h. rw (h, acceptOf);
       }
     where
-      numbered : (o : Option Refusal) → accept.number (elim o [ none ↦ Accepted (programOf file .facts) (count (programOf file)) (exceptions (programOf file)) (constraintFacts (programOf file)) | some r ↦ Refused r ]) ≡ noNumber o
+      numbered : (o : Option Refusal) → acceptNumber (elim o [ none ↦ Accepted (programOf file .facts) (count (programOf file)) (exceptions (programOf file)) (constraintFacts (programOf file)) | some r ↦ Refused r ]) ≡ noNumber o
       numbered none = refl
       numbered (some r) = refl
 

@@ -18,11 +18,10 @@ use Rattle.cursors.specs.declared.cursor.Cursor.{Cursor}
 use Rattle.cursors.specs.declared.cursor.Row.the-variants.{Body}
 use Rattle.cursors.specs.declared.cursor.Fault.the-variants.{NoByte}
 use Rattle.cursors.specs.declared.cursor.Read.the-variants.{Refused, Ended}
-use Rattle.reader.specs.declared.answer.Scan.{Scan}
 use Rattle.items.specs.Item.{maxRules, maxRuleItems}
 use Rattle.items.specs.Question.{firstNo}
 use Rattle.cursors.specs.Cursor.{rowAfter, Token, item, bad, placeQuestions, nextAt, itemsAt}
-use Rattle.reader.specs.Questions.{lengthened, factQuestion, ownerQuestion, lengthQuestion, bodyQuestions}
+use Rattle.reader.specs.Questions.{lengthened, factQuestion, ownerQuestion, lengthQuestion, bodyQuestions, Scan}
 use Rattle.reader.specs.BodyScanned.{bodyNo}
 use Rattle.reader.specs.Scanning.{seen, Along}
 use Rattle.cursors.proofs.Items.{ReadAt, NoItemAt, not-found, row-ended, none-left, some-left}

@@ -8,7 +8,8 @@ use borrow.Author.Tests.{eqb-true, eqb-false}
 use lib.ListN.{length, getD, set, length-set, length-replicate}
 use lib.Seq.{getD-set-same, getD-set-other}
 use lib.Dec.{eqb}
-use Rattle.theory.specs.Rule.{mem, howMany, upTo, FactSet, null, constraintFact, everyRule, nothing, adjoin}
+use Rattle.theory.specs.Rule.{mem, howMany, upTo, FactSet, null, constraintFact, nothing, adjoin}
+use Rattle.theory.specs.Conditions.{everyRule}
 use Rattle.theory.proofs.Lists.{zeros as zero-marks, howMany-ext}
 use Rattle.items.specs.declared.item.FactId.{FactId}
 use Rattle.items.specs.declared.item.Item.the-variants.{Opens, Premise, Constraint, Rules, Unread}

@@ -7,12 +7,11 @@ use mathlib.Core.List.{List, [], _∷_, _++_}
 use mathlib.Core.Option.{some}
 use Rattle.items.specs.declared.refusal.Refusal.{Refusal}
 use Rattle.items.specs.declared.refusal.Refusal.the-variants.{FileTooLong, NoFactCount, FileCutOff, UnknownKind, BodyCutOff, FactTooHigh, NoRuleOpened, TooManyRules, WrongRuleCount, BytesAfterEnd, RuleTooLong, UnreadAfterRule}
-use Rattle.reader.specs.declared.answer.Scan.{Scan}
 use Rattle.items.specs.Question.{Question, firstNo}
 use Rattle.items.specs.Item.{classOf}
 use Rattle.cursors.specs.Cursor.{Token, item, bad, itemsAt, fileStart}
 use Rattle.items.proofs.ItemSays.{either-said}
-use Rattle.reader.specs.Questions.{fresh, opened, lengthened, bodyQuestions, openingQuestions, fileQuestions}
+use Rattle.reader.specs.Questions.{fresh, opened, lengthened, bodyQuestions, openingQuestions, fileQuestions, Scan}
 
 -- Q holds of the refusal of every question of a list.
 abbrev pub Each : (Refusal → Type 0) → List Question → Type 0

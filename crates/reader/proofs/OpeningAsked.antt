@@ -5,8 +5,8 @@ use mathlib.Core.List.{List, [], _∷_}
 use mathlib.Core.Logic.{⊎-elim}
 use mathlib.Core.Option.{Option, some}
 use borrow.Author.Tests.{le-leb, lt-leb}
-use lib.ListN.{length}
-use Rattle.theory.specs.Rule.{mem, Program, count, rule}
+use lib.ListN.{length, getD}
+use Rattle.theory.specs.Rule.{mem, Program, count}
 use Rattle.items.specs.declared.refusal.Refusal.{Refusal}
 use Rattle.items.specs.declared.refusal.Refusal.the-variants.{FileTooLong, NoFactCount}
 use Rattle.items.specs.declared.item.Item.{Item}
@@ -17,11 +17,10 @@ use Rattle.cursors.specs.declared.cursor.Read.the-variants.{Refused, Ended}
 use Rattle.items.specs.Question.{firstNo}
 use Rattle.cursors.specs.Cursor.{Token, item, bad, nextAt, itemsAt, fileStart}
 use Rattle.items.specs.Item.{maxBytes}
-use Rattle.tables.specs.Layout.{placeIn}
 use Rattle.reader.specs.declared.answer.Asked.{Asked}
-use Rattle.reader.specs.Questions.{rulesOf, unreadOf, factCount, programOf, openingQuestions, fileQuestions, fileNo}
+use Rattle.reader.specs.Questions.{rulesOf, behindRules, unreadOf, factCount, programOf, openingQuestions, fileQuestions, fileNo}
 use Rattle.reader.specs.Asked.{askedOf, countsOf, fileAsked}
-use Rattle.reader.specs.Scanned.{OwnAt, Tabled, Scanned}
+use Rattle.reader.specs.Scanned.{Tabled, Scanned}
 use Rattle.reader.specs.BodyScanned.{programFrom, bodyNo, BodyTabled, BodyScanned}
 use Rattle.cursors.proofs.Items.{ReadAt, NoItemAt, not-found, row-ended}
 use Rattle.reader.proofs.Tags.{NotFacts, no-count}
@@ -73,7 +72,7 @@ module _ (s : List ℕ) where
       body-tabled T scanned accepted = tabled (scanned (body-no ∙ accepted))
         where
           tabled : BodyTabled n s d T → Tabled s T
-          tabled t = record { program = t .program ∙ body-program; well-formed = t .well-formed; placed = subst (λ (P : Program). (i : ℕ) → i < count P → OwnAt s (placeIn T i) (rule P i)) body-program (t .placed) }
+          tabled t = record { program = t .program ∙ body-program; well-formed = t .well-formed; placed = λ i h. t .placed i (subst (λ (P : Program). i < count P) (sym body-program) h) ∙ ap (λ ts. getD (behindRules ts) i []) (sym (r .items)) }
 
       -- what the scan of the others answers and leaves is what the scan of the file does
       pub file-scanned : (T : List ℕ) (a : Asked) → (a ≡ askedOf (bodyNo n s d) (countsOf (programFrom n s d))) × BodyScanned n s d T → (a ≡ fileAsked s) × Scanned s T

@@ -12,8 +12,7 @@ use Rattle.items.specs.Item.{maxRuleItems, Sign, asksIn, asksOut, sameSign, Own
 use Rattle.items.proofs.ItemSays.{by-tags, alone}
 use Rattle.cursors.specs.Cursor.{Token, item}
 use Rattle.tables.specs.Layout.{maxOwn}
-use Rattle.reader.specs.declared.answer.Scan.{Scan}
-use Rattle.reader.specs.Questions.{ownFacts, rulesOf, programOf}
+use Rattle.reader.specs.Questions.{ownFacts, rulesOf, programOf, Scan}
 use Rattle.reader.specs.RuleLength.{ruleLength, allLengths, WithinCap}
 use Rattle.reader.proofs.Accepted.{GoodBody, opens, own, unread, last, EachRule, one-more, opens-rule, own-none, own-first, own-opens-none, unread-opens-none, unread-own-none, count-opens-none, AcceptedFile, rules-few}
 

@@ -5,7 +5,8 @@ use mathlib.Core.Bool.{Bool, true, false, cond, not, _&&_, _||_}
 use mathlib.Core.List.{List, [], _∷_}
 use borrow.Author.Tests.{lt-ltb}
 use lib.ListN.{length, getD}
-use Rattle.theory.specs.Rule.{mem, any, howMany, range, upTo, Rule, Program, count, rule, blank, null, exception, constraintFact, everyRule, inForce}
+use Rattle.theory.specs.Rule.{mem, any, howMany, range, upTo, Rule, Program, count, rule, blank, null, exception, constraintFact, inForce}
+use Rattle.theory.specs.Conditions.{everyRule}
 use Rattle.theory.proofs.Lists.{howMany-ext, mem-upTo}
 use Rattle.theory.proofs.Withheld.{all-in-force}
 use Rattle.reader.specs.Questions.{exceptions, constraintFacts}

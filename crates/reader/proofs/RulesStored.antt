@@ -9,7 +9,8 @@ use borrow.Author.Tests.{ltb-true, ltb-false}
 use lib.ListN.{length, getD, set, drop, length-set}
 use lib.Seq.{getD-set-same, getD-set-other, getD-drop, drop-drop}
 use lib.Dec.{ltb}
-use Rattle.theory.specs.Rule.{Rule, Program, range, upTo, blank, count, withheld, Bounded}
+use Rattle.theory.specs.Rule.{Rule, Program, range, upTo, blank, count, withheld}
+use Rattle.theory.specs.Conditions.{Bounded}
 use Rattle.theory.proofs.Withheld.{withheld-any}
 use Rattle.theory.proofs.Bools.{either}
 use Rattle.items.specs.declared.item.FactId.{FactId}
@@ -20,8 +21,8 @@ use Rattle.items.specs.Item.{narrow, maxFacts, maxRules, maxRuleItems}
 use Rattle.cursors.specs.Cursor.{itemsAt, bodyAt}
 use Rattle.cursors.proofs.Items.{ReadAt}
 use Rattle.tables.specs.Layout.{maxOwn, conclusionsFrom, placesFrom, premiseStartsFrom, constraintStartsFrom, ownFrom, tableCells, lastCell, rulesIn, conclusionIn, placeIn, premiseStart, constraintStart, premiseAt, constraintAt, ruleIn, factsIn, unreadIn, withheldIn, programIn}
-use Rattle.reader.specs.Questions.{premisesOf, constraintsOf, ruleOf, rulesOf}
-use Rattle.reader.specs.Scanned.{OwnAt}
+use Rattle.reader.specs.Questions.{premisesOf, constraintsOf, ruleOf, rulesOf, behindRules}
+use Rattle.reader.specs.Scanned.{RuleAt}
 use Rattle.reader.specs.BodyScanned.{programFrom, BodyTabled}
 use Rattle.reader.specs.Scanning.{Filled, ruleFrom, Storing, Holding}
 use Rattle.stores.specs.Stores.{withRule, withCounts}
@@ -33,6 +34,7 @@ pub none-stored : (s : List ℕ) (c : Cursor) (T : List ℕ) → length T ≡ ta
 none-stored s c T size =
     record {
       passed = refl;
+      behind = refl;
       total = omega arith;
       few = omega arith;
       size = size;
@@ -44,15 +46,15 @@ none-stored s c T size =
     }
 
 -- the first of the rules to come, and the others
-to-come : (rs : List Rule) (n : ℕ) (r : Rule) (rest : List Rule) → drop n rs ≡ r ∷ rest → (getD rs n blank ≡ r) × (drop (n + 1) rs ≡ rest)
-to-come rs n r rest e =
-    (ap (λ (i : ℕ). getD rs i blank) (sym (add-zero n)) ∙ (sym (getD-drop n rs 0 blank) ∙ ap (λ (l : List Rule). getD l 0 blank) e), sym (drop-drop 1 n rs) ∙ ap (drop 1) e)
+to-come : {A : Type 0} (none : A) (rs : List A) (n : ℕ) (r : A) (rest : List A) → drop n rs ≡ r ∷ rest → (getD rs n none ≡ r) × (drop (n + 1) rs ≡ rest)
+to-come {A} none rs n r rest e =
+    (ap (λ (i : ℕ). getD rs i none) (sym (add-zero n)) ∙ (sym (getD-drop n rs 0 none) ∙ ap (λ (l : List A). getD l 0 none) e), sym (drop-drop 1 n rs) ∙ ap (drop 1) e)
 
 module _ {s : List ℕ} {c₀ c : Cursor} {T : List ℕ} {n allowance filled barred : ℕ} (w : Storing s c₀ c T n allowance filled barred) where
   -- a rule
   module _ {f : FactId} {d : Cursor} (r : ReadAt s c (Opens f) d) (body : d .row ≡ Body) (few : n < maxRules) where
     pub opened-rule : getD (rulesOf (itemsAt s c₀)) n blank ≡ ruleOf f (itemsAt s d)
-    opened-rule = to-come (rulesOf (itemsAt s c₀)) n _ _ (w .passed ∙ ap rulesOf (r .items)) .0
+    opened-rule = to-come blank (rulesOf (itemsAt s c₀)) n _ _ (w .passed ∙ ap rulesOf (r .items)) .0
 
     pub rule-kept : Storing s c₀ d (withRule T n (f .0) (d .at) filled barred) (n + 1) maxRuleItems filled barred
     rule-kept = go (rule-stored T (w .size) n (f .0) (d .at) filled barred few)
@@ -60,7 +62,8 @@ module _ {s : List ℕ} {c₀ c : Cursor} {T : List ℕ} {n allowance filled bar
         go : {T′ : List ℕ} → RuleStored T T′ n (f .0) (d .at) filled barred → Storing s c₀ d T′ (n + 1) maxRuleItems filled barred
         go {T′} t =
             record {
-              passed = to-come (rulesOf (itemsAt s c₀)) n _ _ (w .passed ∙ ap rulesOf (r .items)) .1;
+              passed = to-come blank (rulesOf (itemsAt s c₀)) n _ _ (w .passed ∙ ap rulesOf (r .items)) .1;
+              behind = behind-it .1;
               total = w .total ∙ ap (λ ts. n + length (rulesOf ts)) (r .items) ∙ omega arith;
               few = omega arith;
               size = t .size;
@@ -99,21 +102,21 @@ module _ {s : List ℕ} {c₀ c : Cursor} {T : List ℕ} {n allowance filled bar
             here : bodyAt (d .at) ≡ d
             here = λ j. record { at = d .at; row = sym body j }
 
-            own-here : OwnAt s (d .at) (ruleFrom s c₀ n)
-            own-here =
-                record {
-                  premises = ap (λ (x : Cursor). premisesOf (itemsAt s x)) here ∙ sym (ap (λ (x : Rule). x .premises) opened-rule);
-                  constraints = ap (λ (x : Cursor). constraintsOf (itemsAt s x)) here ∙ sym (ap (λ (x : Rule). x .constraints) opened-rule);
-                }
+            behind-it : (getD (behindRules (itemsAt s c₀)) n [] ≡ itemsAt s d) × (drop (n + 1) (behindRules (itemsAt s c₀)) ≡ behindRules (itemsAt s d))
+            behind-it = to-come [] (behindRules (itemsAt s c₀)) n _ _ (w .behind ∙ ap behindRules (r .items))
 
-            at-last : (i : ℕ) → i ≡ n → OwnAt s (placeIn T′ i) (ruleFrom s c₀ i)
-            at-last i q = subst (λ (j : ℕ). OwnAt s (placeIn T′ j) (ruleFrom s c₀ j)) (sym q) (subst (λ (p : ℕ). OwnAt s p (ruleFrom s c₀ n)) (sym (t .place)) own-here)
+            own-here : RuleAt s c₀ (d .at) n
+            own-here = ap (itemsAt s) here ∙ sym (behind-it .0)
+
+            at-last : (i : ℕ) → i ≡ n → RuleAt s c₀ (placeIn T′ i) i
+            at-last i q = subst (λ (j : ℕ). RuleAt s c₀ (placeIn T′ j) j) (sym q) (subst (λ (p : ℕ). RuleAt s c₀ p n) (sym (t .place)) own-here)
 
   -- marks alone are stored
   pub storing-kept : {T′ : List ℕ} → MarksOnly T T′ → Storing s c₀ c T′ n allowance filled barred
   storing-kept {T′} m =
       record {
         passed = w .passed;
+        behind = w .behind;
         total = w .total;
         few = w .few;
         size = m .size;
@@ -134,6 +137,7 @@ module _ {s : List ℕ} {c₀ c : Cursor} {T : List ℕ} {n allowance filled bar
   unread-kept r none-opened =
       record {
         passed = w .passed ∙ ap rulesOf (r .items);
+        behind = w .behind ∙ ap behindRules (r .items);
         total = w .total ∙ ap (λ ts. n + length (rulesOf ts)) (r .items);
         few = w .few;
         size = w .size;
@@ -150,6 +154,7 @@ module _ {s : List ℕ} {c₀ c : Cursor} {T : List ℕ} {n allowance filled bar
     premise-kept =
         record {
           passed = w .passed ∙ ap rulesOf (r .items);
+          behind = w .behind ∙ ap behindRules (r .items);
           total = w .total ∙ ap (λ ts. n + length (rulesOf ts)) (r .items);
           few = w .few;
           size = length-set T (ownFrom + filled) (f .0) ∙ w .size;
@@ -179,6 +184,7 @@ module _ {s : List ℕ} {c₀ c : Cursor} {T : List ℕ} {n allowance filled bar
     constraint-kept =
         record {
           passed = w .passed ∙ ap rulesOf (r .items);
+          behind = w .behind ∙ ap behindRules (r .items);
           total = w .total ∙ ap (λ ts. n + length (rulesOf ts)) (r .items);
           few = w .few;
           size = length-set T (lastCell - barred) (f .0) ∙ w .size;

@@ -7,8 +7,7 @@ use Rattle.items.specs.declared.item.Item.{Item}
 use Rattle.items.specs.Question.{firstNo}
 use Rattle.cursors.specs.Cursor.{Token, item}
 use Rattle.items.proofs.ItemSays.{Tagged, by-tags, unsaid}
-use Rattle.reader.specs.declared.answer.Scan.{Scan}
-use Rattle.reader.specs.Questions.{bodyQuestions, openingQuestions}
+use Rattle.reader.specs.Questions.{bodyQuestions, openingQuestions, Scan}
 
 abbrev pub NotFacts : Item → Type 0
 NotFacts i = Tagged (1 ∷ 2 ∷ 3 ∷ 4 ∷ 5 ∷ 6 ∷ 7 ∷ []) i

@@ -22,8 +22,7 @@ use Rattle.cursors.specs.declared.cursor.Cursor.{Cursor}
 use Rattle.cursors.specs.declared.cursor.Read.the-variants.{Refused, Ended}
 use Rattle.cursors.specs.Cursor.{Token, item, nextAt, itemsAt, fileStart}
 use Rattle.cursors.proofs.Items.{ReadAt, not-found, row-ended}
-use Rattle.reader.specs.declared.answer.Scan.{Scan}
-use Rattle.reader.specs.Questions.{unreadOf, programOf, fileNo}
+use Rattle.reader.specs.Questions.{unreadOf, programOf, fileNo, Scan}
 use Rattle.reader.specs.Begins.{behindFirst, firstUnread}
 use Rattle.reader.proofs.Accepted.{GoodBody, opens, own, unread, last, AcceptedFile, bodyStart, accepted-file}
 

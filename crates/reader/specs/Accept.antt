@@ -20,9 +20,9 @@ acceptOf s =
     ]
 
 -- The answer's number, 0 where the file is accepted, and its counts, all 0 on a refusal.
-abbrev pub number : Accept → ℕ
-number (Accepted f r e k) = 0
-number (Refused r) = refusal.number r
+abbrev pub acceptNumber : Accept → ℕ
+acceptNumber (Accepted f r e k) = 0
+acceptNumber (Refused r) = refusal.number r
 
 abbrev pub facts : Accept → ℕ
 facts (Accepted f r e k) = f
@@ -42,7 +42,7 @@ constraints (Refused r) = 0
 
 -- The answer in numbers: the number of the file's first no, and the counts of an accepted file.
 pub record AcceptNumbers (file : List ℕ) (r : Accept) : Type 0 where
-  pub numbered : number r ≡ noNumber (fileNo file)
+  pub numbered : acceptNumber r ≡ noNumber (fileNo file)
   pub facts-counted : _≡_ {A = Option Refusal} (fileNo file) none → facts r ≡ programOf file .facts
   pub rules-counted : _≡_ {A = Option Refusal} (fileNo file) none → rules r ≡ count (programOf file)
   pub exceptions-counted : _≡_ {A = Option Refusal} (fileNo file) none → exceptionRules r ≡ exceptions (programOf file)

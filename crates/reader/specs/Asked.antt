@@ -3,7 +3,8 @@ use Prim.Native.Nat.{ℕ}
 use mathlib.Core.Bool.{not, _&&_}
 use mathlib.Core.List.{List}
 use mathlib.Core.Option.{Option, none, some}
-use Rattle.theory.specs.Rule.{howMany, upTo, Program, count, everyRule, constraintFact}
+use Rattle.theory.specs.Rule.{howMany, upTo, Program, count, constraintFact}
+use Rattle.theory.specs.Conditions.{everyRule}
 use Rattle.items.specs.declared.refusal.Refusal.{Refusal}
 use Rattle.reader.specs.declared.answer.FileCounts.{FileCounts}
 use Rattle.reader.specs.declared.answer.Asked.{Asked}

@@ -4,7 +4,7 @@ use mathlib.Core.Path.{_≡_}
 use mathlib.Core.List.{List}
 use mathlib.Core.Option.{Option, none}
 use lib.ListN.{replicate}
-use Rattle.theory.specs.Rule.{mem, Program, count, rule}
+use Rattle.theory.specs.Rule.{mem, Program, count}
 use Rattle.items.specs.declared.refusal.Refusal.{Refusal}
 use Rattle.cursors.specs.declared.cursor.Cursor.{Cursor}
 use Rattle.items.specs.Item.{narrow, maxFacts}
@@ -12,7 +12,7 @@ use Rattle.items.specs.Question.{firstNo}
 use Rattle.cursors.specs.Cursor.{itemsAt}
 use Rattle.tables.specs.Layout.{tableCells, placeIn, programIn, WellFormed}
 use Rattle.reader.specs.Questions.{rulesOf, unreadOf, fresh, bodyQuestions}
-use Rattle.reader.specs.Scanned.{OwnAt}
+use Rattle.reader.specs.Scanned.{RuleAt}
 
 -- The program of n facts, and the first no to questions 3 to 10, 51 and 56, where the items after the first start at c.
 abbrev pub programFrom : ℕ → List ℕ → Cursor → Program
@@ -25,7 +25,7 @@ bodyNo n s c = firstNo (bodyQuestions (fresh n) (itemsAt s c))
 pub record BodyTabled (n : ℕ) (s : List ℕ) (c : Cursor) (T : List ℕ) : Type 0 where
   pub program : programIn T ≡ programFrom n s c
   pub well-formed : WellFormed T
-  pub placed : (i : ℕ) → i < count (programFrom n s c) → OwnAt s (placeIn T i) (rule (programFrom n s c) i)
+  pub placed : (i : ℕ) → i < count (programFrom n s c) → RuleAt s c (placeIn T i) i
 
 -- They do where each question gets yes.
 abbrev pub BodyScanned : ℕ → List ℕ → Cursor → List ℕ → Type 0

@@ -14,7 +14,6 @@ use Rattle.items.specs.declared.refusal.Refusal.{Refusal}
 use Rattle.items.specs.declared.refusal.Refusal.the-variants.{FileTooLong, FactTooHigh, NoRuleOpened, TooManyRules, WrongRuleCount, BytesAfterEnd, RuleTooLong, UnreadAfterRule}
 use Rattle.cursors.specs.declared.cursor.Row.the-variants.{Opening, Body}
 use Rattle.cursors.specs.declared.cursor.Fault.the-variants.{NoByte, OtherKind}
-use Rattle.reader.specs.declared.answer.Scan.{Scan}
 use Rattle.items.specs.Question.{Question, ask, firstNo}
 
 -- The facts that the items of the rule just opened ask in, or out: of those of its own items that stand before an item of another class.
@@ -40,6 +39,12 @@ abbrev pub rulesOf : List Token → List Rule
 rulesOf [] = []
 rulesOf (bad fault ∷ ts) = []
 rulesOf (item i ∷ ts) = whereSaid (classOf i .opens) (λ f. ruleOf f ts ∷ rulesOf ts) (rulesOf ts)
+
+-- What stands behind each item that opens a rule: its own items as they stand in the file, and all that follows.
+abbrev pub behindRules : List Token → List (List Token)
+behindRules [] = []
+behindRules (bad fault ∷ ts) = []
+behindRules (item i ∷ ts) = whereSaid (classOf i .opens) (λ f. ts ∷ behindRules ts) (behindRules ts)
 
 -- The facts that could not be read: those that some item names as such, repeats counted.
 abbrev pub unreadOf : List Token → List ℕ
@@ -70,8 +75,13 @@ exceptions P = howMany (exception P) (upTo (count P))
 unfoldable pub constraintFacts : Program → ℕ
 constraintFacts P = howMany (constraintFact P (inForce P)) (upTo (P .facts))
 
--- What the questions need of the items before: the count of facts, how many rules were opened, and how many premises and constraints the last of them
--- has so far: none when it is opened, and one more with each item of its own, repeats counted.
+-- What the questions need of the items before: the count of facts, how many rules were opened, and how many premises and constraints the last of them has so far.
+pub record Scan : Type 0 where
+  pub facts : ℕ
+  pub rules : ℕ
+  pub own : ℕ
+
+-- The last rule has none when it is opened, and one more with each item of its own, repeats counted.
 abbrev pub fresh : ℕ → Scan
 fresh n = record { facts = n; rules = 0; own = 0 }
 

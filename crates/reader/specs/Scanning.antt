@@ -17,7 +17,6 @@ use Rattle.items.specs.Question.{firstNo}
 use Rattle.cursors.specs.Cursor.{Token, nextAt, itemsAt}
 use Rattle.stores.specs.Stores.{isUnread}
 use Rattle.tables.specs.Layout.{tableCells, unreadIn, withheldIn, conclusionIn, placeIn, premiseStart, constraintStart, premiseAt, constraintAt, span}
-use Rattle.reader.specs.declared.answer.Scan.{Scan}
 use Rattle.reader.specs.declared.answer.Asked.{Asked}
 use Rattle.reader.specs.declared.answer.Asked.the-variants.{Yes, No}
 use Rattle.reader.specs.declared.answer.FileCounts.{FileCounts}
@@ -26,9 +25,9 @@ use Rattle.items.specs.declared.refusal.Refusal.the-variants.{FactTooHigh, NoRu
 use Rattle.reader.specs.declared.step.Progress.{Progress}
 use Rattle.reader.specs.declared.step.Step.{Step}
 use Rattle.reader.specs.declared.step.Step.the-variants.{On, Ended, Refused}
-use Rattle.reader.specs.Questions.{premisesOf, constraintsOf, rulesOf, unreadOf, bodyQuestions}
+use Rattle.reader.specs.Questions.{premisesOf, constraintsOf, rulesOf, behindRules, unreadOf, bodyQuestions, Scan}
 use Rattle.reader.specs.Asked.{askedOf, countsOf}
-use Rattle.reader.specs.Scanned.{OwnAt}
+use Rattle.reader.specs.Scanned.{RuleAt}
 use Rattle.reader.specs.BodyScanned.{programFrom, bodyNo, BodyScanned}
 
 -- The count of facts, the rules opened so far, and the premises and constraints of the last of them.
@@ -58,13 +57,14 @@ abbrev pub ruleFrom : List ℕ → Cursor → ℕ → Rule
 ruleFrom s c i = getD (rulesOf (itemsAt s c)) i blank
 
 pub record Storing (s : List ℕ) (c₀ c : Cursor) (T : List ℕ) (n allowance filled barred : ℕ) : Type 0 where
-  -- the rules to come
+  -- the rules to come, and what stands behind the opening item of each
   pub passed : drop n (rulesOf (itemsAt s c₀)) ≡ rulesOf (itemsAt s c)
+  pub behind : drop n (behindRules (itemsAt s c₀)) ≡ behindRules (itemsAt s c)
   pub total : length (rulesOf (itemsAt s c₀)) ≡ n + length (rulesOf (itemsAt s c))
   pub few : n ≤ maxRules
   pub size : length T ≡ tableCells
   pub conclusions : (i : ℕ) → i < n → conclusionIn T i ≡ ruleFrom s c₀ i .conclusion
-  pub places : (i : ℕ) → i < n → OwnAt s (placeIn T i) (ruleFrom s c₀ i)
+  pub places : (i : ℕ) → i < n → RuleAt s c₀ (placeIn T i) i
   pub premises : Filled (λ i. ruleFrom s c₀ i .premises) (premiseStart T) (premiseAt T) n filled (premisesOf (itemsAt s c))
   pub constraints : Filled (λ i. ruleFrom s c₀ i .constraints) (constraintStart T) (constraintAt T) n barred (constraintsOf (itemsAt s c))
   -- the last rule may have so many more

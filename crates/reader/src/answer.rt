@@ -19,14 +19,6 @@ pub struct FileCounts {
     pub constrained: u16,
 }
 
-// What the questions need of the items before: the count of facts, how many rules were opened, and how many premises and constraints the last of them
-// has so far.
-pub struct Scan {
-    pub facts: u16,
-    pub rules: u16,
-    pub own: u16,
-}
-
 // All questions got yes, with the counts of the file; or the first no.
 pub enum Asked {
     Yes(FileCounts),

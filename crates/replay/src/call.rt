@@ -11,11 +11,15 @@ const ROOM: usize = 16384;
 // The numbers of a reply; where it has fewer, the others are 0.
 const NUMBERS: usize = 6;
 
-// The first row of a case has numbers of two bytes: the operation, whether the file is that of the case before, what every byte of the
-// buffers is before, the asked fact in two halves, the lengths of the four buffers, and the reply.
-const LENGTHS: usize = 10;
+// The first row of a case has numbers of two bytes: the operation, what every byte of the buffers is before, the asked fact in two halves, the lengths of the
+// four buffers, and the reply.
+const FILL: usize = 2;
 
-const REPLY: usize = 18;
+const FACT: usize = 4;
+
+const LENGTHS: usize = 8;
+
+const REPLY: usize = 16;
 
 // The number that a question by itself replies. No case expects the last one, of an operation that there is not.
 fn question(operation: u32, file: &[u8], row: &[u8], fact: u32) -> u32 {
@@ -92,21 +96,20 @@ fn better_reply<'a>(
     ]
 }
 
-// What any operation replies, in the buffers that it is lent. The rows of the case stand at these places, and its file may stand before them. A test load has its
-// three numbers in the place of a file.
+// What any operation replies, in the buffers that it is lent. The rows of the case stand at these places. A test load has its three numbers in the place of a
+// file.
 fn reply(
     bytes: &[u8],
     places: [usize; PLACES],
-    file: usize,
     f: &mut [u8],
     r: &mut [u8],
     s: &mut [u8],
     o: &mut [u8],
 ) -> [u32; NUMBERS] {
     let head = row(bytes, places[0]);
-    let file = row(bytes, file);
+    let file = row(bytes, places[2]);
     let second = row(bytes, places[3]);
-    let fact = wide(head, 6);
+    let fact = wide(head, FACT);
     let operation = number(head, 0);
     match operation {
         2 => {
@@ -167,13 +170,12 @@ fn holds(buffer: &[u8], bytes: &[u8], at: usize, fill: u8) -> bool {
 fn in_buffers(
     bytes: &[u8],
     places: [usize; PLACES],
-    file: usize,
     f: &mut [u8],
     r: &mut [u8],
     s: &mut [u8],
     o: &mut [u8],
 ) -> bool {
-    let reply = reply(bytes, places, file, f, r, s, o);
+    let reply = reply(bytes, places, f, r, s, o);
     let head = row(bytes, places[0]);
     if !same_numbers(head, reply) {
         return false;
@@ -193,11 +195,11 @@ fn in_buffers(
 
 // What every byte of the buffers is before.
 fn fill_of(head: &[u8]) -> u8 {
-    (number(head, 4) % 256) as u8
+    (number(head, FILL) % 256) as u8
 }
 
-// The case whose rows stand at these places, and whose file may stand before them.
-pub fn agrees(bytes: &[u8], places: [usize; PLACES], file: usize) -> bool {
+// The case whose rows stand at these places.
+pub fn agrees(bytes: &[u8], places: [usize; PLACES]) -> bool {
     let head = row(bytes, places[0]);
     let fill = fill_of(head);
     let facts = number(head, LENGTHS) as usize;
@@ -215,7 +217,6 @@ pub fn agrees(bytes: &[u8], places: [usize; PLACES], file: usize) -> bool {
                     return in_buffers(
                         bytes,
                         places,
-                        file,
                         &mut f[..facts],
                         &mut r[..rules],
                         &mut s[..steps],

@@ -1,4 +1,5 @@
-// The file of cases: rows of bytes, each after its length in two bytes, high byte first. What lies past the end is read as 0 and as empty.
+// The file of cases: rows of bytes, each after its length in two bytes, high byte first. A row that stands in the file already is named by its place. What
+// lies past the end is read as 0 and as empty.
 ghost use Prim.Native.Nat.{_≤_};
 ghost use lib.ListN.{length};
 
@@ -7,6 +8,11 @@ ghost use lib.ListN.{length};
 pub const NEXT: usize = 9;
 
 pub const PLACES: usize = NEXT + 1;
+
+// What a row has for its length that is named by its place, the four bytes behind it.
+const NAMED: u32 = 65535;
+
+const NAMED_LENGTH: usize = 4;
 
 pub fn number(bytes: &[u8], at: usize) -> u32 {
     if at < bytes.len() {
@@ -25,12 +31,21 @@ pub fn wide(bytes: &[u8], at: usize) -> u32 {
     0
 }
 
+// How many bytes a row takes, with those of its length.
+fn extent(bytes: &[u8], at: usize) -> usize {
+    let length = number(bytes, at);
+    if length == NAMED {
+        return NAMED_LENGTH + 2;
+    }
+    length as usize + 2
+}
+
 // The place past a row.
 pub fn past(bytes: &[u8], at: usize) -> usize
     ensures { λ r. ⌜ r ≤ length (now (bytes .entry)) ⌝ }
 {
     let end = bytes.len();
-    let wide = number(bytes, at) as usize + 2;
+    let wide = extent(bytes, at);
     if at < end {
         if wide < end - at {
             return at + wide;
@@ -39,7 +54,8 @@ pub fn past(bytes: &[u8], at: usize) -> usize
     end
 }
 
-pub fn row(bytes: &[u8], at: usize) -> &[u8] {
+// The bytes that stand at a place as a row.
+fn stored(bytes: &[u8], at: usize) -> &[u8] {
     let end = past(bytes, at);
     if at < end {
         if 2 <= end - at {
@@ -48,6 +64,15 @@ pub fn row(bytes: &[u8], at: usize) -> &[u8] {
         }
     }
     &bytes[..0]
+}
+
+pub fn row(bytes: &[u8], at: usize) -> &[u8] {
+    if at < bytes.len() {
+        if number(bytes, at) == NAMED {
+            return stored(bytes, wide(bytes, at + 2) as usize);
+        }
+    }
+    stored(bytes, at)
 }
 
 // Where the rows of a case stand, and the next case.

@@ -8,9 +8,7 @@ use Rattle.reader.specs.Accept as accept
 use Rattle.run.specs.declared.answer.Ran.{Ran}
 use Rattle.run.specs.Outcome as ran
 use Rattle.judge.specs.declared.answer.Judged.{Judged}
-use Rattle.judge.specs.Judged as judged
 use Rattle.proofcheck.specs.declared.answer.Checked.{Checked}
-use Rattle.proofcheck.specs.Checked as checked
 use Rattle.search.specs.declared.answer.Searched.{Searched}
 use Rattle.search.specs.Outcome as searched
 use Rattle.keeping.specs.declared.answer.Grounds.{Grounds}
@@ -26,6 +24,15 @@ use Rattle.replies.specs.declared.Count.{Count}
 use Rattle.replies.specs.declared.FileReply.{FileReply}
 use Rattle.replies.specs.declared.RunCounts.{RunCounts}
 use Rattle.replies.specs.declared.Verdict.{Verdict}
+use Rattle.reader.specs.Accept.{acceptNumber}
+use Rattle.run.specs.Outcome.{runNumber, runStages, runSteps}
+use Rattle.judge.specs.Judged.{judgedNumber, judgedVerdict}
+use Rattle.proofcheck.specs.Checked.{checkedNumber, checkedVerdict}
+use Rattle.search.specs.Outcome.{searchNumber, searchStages, searchSteps}
+use Rattle.keeping.specs.Outcome.{groundsCount, groundsNumber}
+use Rattle.layers.specs.Outcome.{layeredCount, layeredNumber}
+use Rattle.generator.specs.Outcome.{loadCount, loadNumber}
+use Rattle.better.specs.Outcome.{choiceNumber}
 
 -- The bytes of one step.
 abbrev pub bytesOfStep : Accept → ℕ
@@ -35,7 +42,7 @@ bytesOfStep (Refused r) = 0
 unfoldable pub fileOf : Accept → FileReply
 fileOf a =
     record {
-      refusal = accept.number a;
+      refusal = acceptNumber a;
       facts = accept.facts a;
       rules = accept.rules a;
       exceptions = accept.exceptionRules a;
@@ -44,28 +51,28 @@ fileOf a =
     }
 
 unfoldable pub countsOfRan : Ran → RunCounts
-countsOfRan a = record { refusal = ran.number a; stages = ran.stages a; steps = ran.steps a }
+countsOfRan a = record { refusal = runNumber a; stages = runStages a; steps = runSteps a }
 
 unfoldable pub countsOfSearched : Searched → RunCounts
-countsOfSearched a = record { refusal = searched.number a; stages = searched.stages a; steps = searched.steps a }
+countsOfSearched a = record { refusal = searchNumber a; stages = searchStages a; steps = searchSteps a }
 
 unfoldable pub verdictOfJudged : Judged → Verdict
-verdictOfJudged a = record { refusal = judged.number a; verdict = judged.verdict a }
+verdictOfJudged a = record { refusal = judgedNumber a; verdict = judgedVerdict a }
 
 unfoldable pub verdictOfChecked : Checked → Verdict
-verdictOfChecked a = record { refusal = checked.number a; verdict = checked.verdict a }
+verdictOfChecked a = record { refusal = checkedNumber a; verdict = checkedVerdict a }
 
 unfoldable pub countOfGrounds : Grounds → Count
-countOfGrounds a = record { refusal = grounds.number a; count = grounds.count a }
+countOfGrounds a = record { refusal = groundsNumber a; count = groundsCount a }
 
 unfoldable pub countOfLayered : Layered → Count
-countOfLayered a = record { refusal = layered.number a; count = layered.count a }
+countOfLayered a = record { refusal = layeredNumber a; count = layeredCount a }
 
 unfoldable pub countOfLoaded : Loaded → Count
-countOfLoaded a = record { refusal = loaded.number a; count = loaded.count a }
+countOfLoaded a = record { refusal = loadNumber a; count = loadCount a }
 
 unfoldable pub replyOfChoice : Choice → ChoiceReply
-replyOfChoice a = record { refusal = better.number a; which = better.which a }
+replyOfChoice a = record { refusal = choiceNumber a; which = better.which a }
 
 -- The reply of a run and the three buffers, from the run's outcome.
 pub record RunReply : Type 0 where

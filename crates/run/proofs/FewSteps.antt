@@ -5,7 +5,8 @@ use mathlib.Core.Bool.{not}
 use mathlib.Core.List.{List, [], _∷_, _++_}
 use native.Mathlib.Omega.{arith}
 use lib.ListN.{length, length-append, length-map}
-use Rattle.theory.specs.Rule.{upTo, Program, Mask, FactSet, Bounded, nothing, plainRules}
+use Rattle.theory.specs.Rule.{upTo, Program, Mask, FactSet, nothing, plainRules}
+use Rattle.theory.specs.Conditions.{Bounded}
 use Rattle.theory.specs.Derive.{conclude, fired, steps, stepBy}
 use Rattle.theory.specs.Run.{Stand, stage, start, run, stageCount, stepCount}
 use Rattle.theory.proofs.Lists.{howMany-le, length-range}

@@ -8,7 +8,8 @@ use native.Mathlib.Omega.{arith}
 use borrow.Author.Tests.{ltb-true, ltb-false}
 use lib.ListN.{length, getD, take, set, replicate, length-replicate}
 use lib.Dec.{eqb, ltb}
-use Rattle.theory.specs.Rule.{mem, Program, Bounded, FactSet, nothing, inForce, rule, plain, plainRules}
+use Rattle.theory.specs.Rule.{mem, Program, FactSet, nothing, inForce, rule, plain, plainRules}
+use Rattle.theory.specs.Conditions.{Bounded}
 use Rattle.theory.specs.Derive.{derive, fired as firedFrom, meets, steps, stepBy}
 use Rattle.theory.specs.Run.{rejected, start}
 use Rattle.theory.proofs.Bools.{either, never, or-none}

@@ -12,7 +12,7 @@ use Rattle.reader.specs.Questions.{programOf}
 use Rattle.closure.specs.Steps.{stepBytes}
 use Rattle.run.specs.declared.answer.Ran.the-variants.{Done, Refused}
 use Rattle.questions.specs.Questions.{runNo, runOf}
-use Rattle.run.specs.Outcome.{RunOutcome, runWritten, runOutcome, number, RunNumbers}
+use Rattle.run.specs.Outcome.{RunOutcome, runWritten, runOutcome, runNumber, RunNumbers}
 use Rattle.items.specs.Write.{over}
 use Rattle.items.specs.Item.{narrow}
 
@@ -34,7 +34,7 @@ module _ (file order facts rules steps : List ℕ) where
         steps-counted = λ h. rw (h, runOutcome);
       }
     where
-      go : (o : Option Refusal) → runNo file order (length facts) (length rules) (length steps) ≡ o → number (runOutcome file order facts rules steps .answer) ≡ noNumber (runNo file order (length facts) (length rules) (length steps))
+      go : (o : Option Refusal) → runNo file order (length facts) (length rules) (length steps) ≡ o → runNumber (runOutcome file order facts rules steps .answer) ≡ noNumber (runNo file order (length facts) (length rules) (length steps))
       go none e = rw (e, runOutcome)
       go (some r) e = rw (e, runOutcome)
 

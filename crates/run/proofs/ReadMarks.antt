@@ -9,7 +9,8 @@ use borrow.Author.Tests.{lt-ltb, le-ltb, ltb-true}
 use lib.ListN.{length, getD, take, drop, List·getD-append}
 use lib.Seq.{take-at, drop-at}
 use lib.Dec.{eqb, ltb}
-use Rattle.theory.specs.Rule.{mem, upTo, Program, Bounded, withheld, inForce, count, rule, plain}
+use Rattle.theory.specs.Rule.{mem, upTo, Program, withheld, inForce, count, rule, plain}
+use Rattle.theory.specs.Conditions.{Bounded}
 use Rattle.theory.specs.Run.{rejected, run, setAside, factMark, ruleMark, factMarks, ruleMarks}
 use Rattle.theory.proofs.Bools.{never, and-left, false-of}
 use Rattle.theory.proofs.Lists.{mapped-length, mapped-at, all-elem, any-witness}

@@ -16,7 +16,8 @@ use Rattle.reader.specs.Asked.{fileAsked}
 use Rattle.reader.specs.Scanned.{Tabled}
 use Rattle.reader.proofs.Accepted.{all-asked}
 use Rattle.questions.specs.declared.answer.Answer.the-variants.{Yes, No}
-use Rattle.questions.specs.Questions.{namedIn, listQuestions, orderQuestions, orderNo, bufferQuestions, tabledNo, runQuestions, runNo, runOf}
+use Rattle.questions.specs.Questions.{namedIn, listQuestions, orderQuestions, orderNo, bufferQuestions, runQuestions, runNo, runOf}
+use Rattle.questions.specs.Parts.{tabledNo}
 use Rattle.questions.specs.Answer.{answerOf}
 use Rattle.questions.proofs.OperationAsked.{file-refused, file-accepted, yes-to-list, Passed}
 use Rattle.questions.proofs.NamesAsked.{said-yes, said-no}

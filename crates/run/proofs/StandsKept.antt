@@ -9,7 +9,8 @@ use borrow.Author.Tests.{lt-ltb}
 use lib.ListN.{length, getD, take, set, length-set, length-append, length-map}
 use lib.Seq.{slice, length-slice, length-take-le, getD-take}
 use lib.Dec.{ltb}
-use Rattle.theory.specs.Rule.{mem, Program, Bounded, FactSet, nothing, inForce, count, plainRules}
+use Rattle.theory.specs.Rule.{mem, Program, FactSet, nothing, inForce, count, plainRules}
+use Rattle.theory.specs.Conditions.{Bounded}
 use Rattle.theory.specs.Walk.{after}
 use Rattle.theory.specs.Derive.{conclude, stepBy, Fresh, fired as firedFrom, derive}
 use Rattle.theory.specs.Run.{Stand, stage, start, run, stageCount, stepCount}

@@ -43,20 +43,20 @@ runOutcome file order facts rules steps =
     ]
 
 -- The answer's number, 0 where there is a result, and its counts, 0 on a refusal.
-abbrev pub number : Ran → ℕ
-number (Done stages steps) = 0
-number (Refused r) = refusal.number r
+abbrev pub runNumber : Ran → ℕ
+runNumber (Done stages steps) = 0
+runNumber (Refused r) = refusal.number r
 
-abbrev pub stages : Ran → ℕ
-stages (Done n m) = n
-stages (Refused r) = 0
+abbrev pub runStages : Ran → ℕ
+runStages (Done n m) = n
+runStages (Refused r) = 0
 
-abbrev pub steps : Ran → ℕ
-steps (Done n m) = m
-steps (Refused r) = 0
+abbrev pub runSteps : Ran → ℕ
+runSteps (Done n m) = m
+runSteps (Refused r) = 0
 
 -- The answer in numbers, from the first no to the run's questions: its number, and the counts of the run.
 pub record RunNumbers (file order : List ℕ) (no : Option Refusal) (r : Ran) : Type 0 where
-  pub numbered : number r ≡ noNumber no
-  pub stages-counted : _≡_ {A = Option Refusal} no none → stages r ≡ stageCount (runOf file order)
-  pub steps-counted : _≡_ {A = Option Refusal} no none → steps r ≡ stepCount (runOf file order)
+  pub numbered : runNumber r ≡ noNumber no
+  pub stages-counted : _≡_ {A = Option Refusal} no none → runStages r ≡ stageCount (runOf file order)
+  pub steps-counted : _≡_ {A = Option Refusal} no none → runSteps r ≡ stepCount (runOf file order)

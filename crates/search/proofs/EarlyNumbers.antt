@@ -9,7 +9,8 @@ use Rattle.items.specs.Question as refusal
 use Rattle.items.specs.Item.{narrow}
 use Rattle.reader.specs.Questions.{programOf, fileQuestions}
 use Rattle.reader.proofs.FileRefusals.{each-first, each-append, FileRefusals, each-file}
-use Rattle.questions.specs.Questions.{bufferQuestions, limitQuestions, earlyQuestions, earlyNo}
+use Rattle.questions.specs.Questions.{bufferQuestions, limitQuestions, earlyQuestions}
+use Rattle.questions.specs.Parts.{earlyNo}
 
 -- a number, and not that of the last question
 abbrev pub Early : Refusal → Type 0

@@ -4,7 +4,8 @@ use native.Mathlib.Omega.{arith}
 use mathlib.Core.Path.{_≡_, ap₂, _∙_}
 use mathlib.Core.List.{List}
 use lib.ListN.{length, take, replicate, length-take}
-use Rattle.theory.specs.Rule.{keep, howMany, upTo, downFrom, Program, inForce, constraintFact}
+use Rattle.theory.specs.Rule.{keep, howMany, upTo, Program, inForce, constraintFact}
+use Rattle.theory.specs.Lists.{downFrom}
 use Rattle.theory.specs.Search.{guessed}
 use Rattle.theory.proofs.Lists.{mem-downFrom, keep-same}
 use Rattle.items.specs.Item.{narrow, maxFacts, has}

@@ -12,7 +12,8 @@ use Rattle.items.specs.declared.refusal.Refusal.{Refusal}
 use Rattle.items.specs.declared.refusal.Refusal.the-variants.{NoStableSet}
 use Rattle.items.specs.Item.{has}
 use Rattle.reader.specs.Questions.{programOf}
-use Rattle.questions.specs.Questions.{someStable, stableQuestion, earlyQuestions, searchQuestions, earlyNo, searchNo}
+use Rattle.questions.specs.Questions.{someStable, stableQuestion, earlyQuestions, searchQuestions, searchNo}
+use Rattle.questions.specs.Parts.{earlyNo}
 use Rattle.earliest.specs.Root.{Shown}
 use Rattle.items.specs.Question.{firstNo}
 use Rattle.items.proofs.FirstNo.{first-no, first-yes}

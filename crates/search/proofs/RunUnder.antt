@@ -15,7 +15,8 @@ use Rattle.tables.specs.Layout.{programIn}
 use Rattle.tables.proofs.ProgramHeld.{rules-below}
 use Rattle.reader.specs.Questions.{programOf}
 use Rattle.reader.specs.Scanned.{Tabled}
-use Rattle.questions.specs.Questions.{orderQuestions, orderNo, bufferQuestions, tabledNo, naming, namedIn, runOf}
+use Rattle.questions.specs.Questions.{orderQuestions, orderNo, bufferQuestions, naming, namedIn, runOf}
+use Rattle.questions.specs.Parts.{tabledNo}
 use Rattle.questions.specs.Answer.{answerOf}
 use Rattle.items.proofs.FirstNo.{all-yes}
 use Rattle.questions.proofs.Orders.{naming-names, once-yes}

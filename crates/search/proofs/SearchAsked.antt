@@ -7,7 +7,8 @@ use mathlib.Core.Option.{Option, none, some}
 use native.Mathlib.Omega.{arith}
 use borrow.Author.Tests.{le-leb, lt-leb, leb-true, ltb-true, ltb-false, le-ltb}
 use lib.Dec.{leb, ltb}
-use Rattle.theory.specs.Rule.{mem, upTo, Program, count, rule, constraintFact, everyRule, inForce}
+use Rattle.theory.specs.Rule.{mem, upTo, Program, count, rule, constraintFact, inForce}
+use Rattle.theory.specs.Conditions.{everyRule}
 use Rattle.theory.proofs.Bools.{and-left, and-right, and-both, not-of-false}
 use Rattle.theory.proofs.Lists.{howMany-mono, any-witness, any-of, clear-elem, mem-upTo}
 use Rattle.theory.proofs.Withheld.{in-force-read}
@@ -24,7 +25,8 @@ use Rattle.reader.specs.Asked.{constrainedFacts, countsOf, fileAsked}
 use Rattle.reader.proofs.Accepted.{all-asked}
 use Rattle.questions.specs.declared.answer.Answer.the-variants.{Yes, No}
 use Rattle.questions.specs.Answer.{answerOf}
-use Rattle.questions.specs.Questions.{bufferQuestions, buffersNo, limitQuestions, earlyQuestions, limitsNo, earlyNo}
+use Rattle.questions.specs.Questions.{bufferQuestions, buffersNo, limitQuestions, earlyQuestions}
+use Rattle.questions.specs.Parts.{limitsNo, earlyNo}
 use Rattle.questions.proofs.NamesAsked.{said-yes, said-no}
 use Rattle.questions.proofs.OperationAsked.{file-refused, file-accepted}
 

@@ -6,7 +6,8 @@ use mathlib.Core.Bool.{true}
 use mathlib.Core.List.{List}
 use mathlib.Core.Option.{Option, none, some}
 use lib.ListN.{length}
-use Rattle.theory.specs.Rule.{FactSet, Bounded, inForce}
+use Rattle.theory.specs.Rule.{FactSet, inForce}
+use Rattle.theory.specs.Conditions.{Bounded}
 use Rattle.theory.specs.Stable.{Stable, orderFor}
 use Rattle.theory.specs.Search.{search}
 use Rattle.theory.proofs.Bools.{never}
@@ -19,8 +20,9 @@ use Rattle.reader.specs.Questions.{programOf}
 use Rattle.reader.proofs.Accepted.{accepted-file, bounded}
 use Rattle.run.proofs.ReadMarks.{read-derived}
 use Rattle.items.specs.Item.{marked}
-use Rattle.questions.specs.Questions.{someStable, StableAsked, earlyNo, searchNo}
-use Rattle.search.specs.Outcome.{SearchOutcome, number, searchOutcome, searchWritten, foundAt, SearchMeans}
+use Rattle.questions.specs.Questions.{someStable, StableAsked, searchNo}
+use Rattle.questions.specs.Parts.{earlyNo}
+use Rattle.search.specs.Outcome.{SearchOutcome, searchNumber, searchOutcome, searchWritten, foundAt, SearchMeans}
 use Rattle.search.proofs.SearchAsked.{all-yes}
 use Rattle.search.proofs.EarlyNumbers.{early-numbers}
 use Rattle.search.proofs.Outcomes.{searched-refused, searched-without, searched-with}
@@ -53,11 +55,11 @@ module _ (file facts rules steps order : List ℕ) where
   abbrev no : Option Refusal
   no = searchNo file (length facts) (length rules) (length steps) (length order)
 
-  searched-number : number (o .answer) ≡ noNumber no
+  searched-number : searchNumber (o .answer) ≡ noNumber no
   unfolding searchOutcome searchWritten
   searched-number = go no refl
     where
-      go : (q : Option Refusal) → no ≡ q → number (o .answer) ≡ noNumber no
+      go : (q : Option Refusal) → no ≡ q → searchNumber (o .answer) ≡ noNumber no
       go none e = rw (e, searchOutcome)
       go (some r) e = rw (e, searchOutcome)
 
@@ -67,7 +69,7 @@ module _ (file facts rules steps order : List ℕ) where
     where
       go : (a : Option Refusal) → earlyNo file (length facts) (length rules) (length steps) (length order) ≡ a → (found : Option FactSet) → search (programOf file) (inForce (programOf file)) ≡ found → SearchMeans file no o
       go (some r) e found f =
-          let n : refusal.number r ≡ number (o .answer) = ap (λ (x : SearchOutcome). number (x .answer)) (searched-refused file facts rules steps order r e) in
+          let n : refusal.number r ≡ searchNumber (o .answer) = ap (λ (x : SearchOutcome). searchNumber (x .answer)) (searched-refused file facts rules steps order r e) in
           let t = early-numbers file (length facts) (length rules) (length steps) (length order) r e in
           record {
             numbered = searched-number;
@@ -76,7 +78,7 @@ module _ (file facts rules steps order : List ℕ) where
           }
       go none e none f =
           let b = bounded (accepted-file file (all-yes file (length facts) (length rules) (length steps) (length order) e .accepted)) in
-          let n : _≡_ {A = ℕ} 41 (number (o .answer)) = ap (λ (x : SearchOutcome). number (x .answer)) (searched-without file facts rules steps order e f) in
+          let n : _≡_ {A = ℕ} 41 (searchNumber (o .answer)) = ap (λ (x : SearchOutcome). searchNumber (x .answer)) (searched-without file facts rules steps order e f) in
           record {
             numbered = searched-number;
             earliest = λ z. absurd (omega arith);
@@ -92,5 +94,5 @@ module _ (file facts rules steps order : List ℕ) where
             none-stable = λ z. absurd (found-number w z);
           }
         where
-          found-number : foundAt (programOf file) M facts rules steps order ≡ o → number (o .answer) ≡ 41 → ⊥
-          found-number w z = let n : _≡_ {A = ℕ} 0 (number (o .answer)) = ap (λ (x : SearchOutcome). number (x .answer)) w in omega arith
+          found-number : foundAt (programOf file) M facts rules steps order ≡ o → searchNumber (o .answer) ≡ 41 → ⊥
+          found-number w z = let n : _≡_ {A = ℕ} 0 (searchNumber (o .answer)) = ap (λ (x : SearchOutcome). searchNumber (x .answer)) w in omega arith

@@ -60,21 +60,21 @@ searchOutcome file facts rules steps order =
     ]
 
 -- The answer's number, 0 where there is a result, and its counts, 0 on a refusal.
-abbrev pub number : Searched → ℕ
-number (Found stages steps) = 0
-number (Refused r) = refusal.number r
+abbrev pub searchNumber : Searched → ℕ
+searchNumber (Found stages steps) = 0
+searchNumber (Refused r) = refusal.number r
 
-abbrev pub stages : Searched → ℕ
-stages (Found n m) = n
-stages (Refused r) = 0
+abbrev pub searchStages : Searched → ℕ
+searchStages (Found n m) = n
+searchStages (Refused r) = 0
 
-abbrev pub steps : Searched → ℕ
-steps (Found n m) = m
-steps (Refused r) = 0
+abbrev pub searchSteps : Searched → ℕ
+searchSteps (Found n m) = m
+searchSteps (Refused r) = 0
 
 -- What an answer means: its number is that of the first no to the search's questions; a result gives the earliest stable set of the file, read off
 -- the fact marks 1, and 41 says that no set is stable.
 pub record SearchMeans (file : List ℕ) (no : Option Refusal) (o : SearchOutcome) : Type 0 where
-  pub numbered : number (o .answer) ≡ noNumber no
-  pub earliest : number (o .answer) ≡ 0 → Earliest (programOf file) (inForce (programOf file)) anySet (marked (programOf file .facts) 1 (o .fact-marks))
-  pub none-stable : number (o .answer) ≡ 41 → (M : FactSet) → Stable (programOf file) (inForce (programOf file)) M → ⊥
+  pub numbered : searchNumber (o .answer) ≡ noNumber no
+  pub earliest : searchNumber (o .answer) ≡ 0 → Earliest (programOf file) (inForce (programOf file)) anySet (marked (programOf file .facts) 1 (o .fact-marks))
+  pub none-stable : searchNumber (o .answer) ≡ 41 → (M : FactSet) → Stable (programOf file) (inForce (programOf file)) M → ⊥

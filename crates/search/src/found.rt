@@ -9,7 +9,7 @@ ghost use Rattle.items.specs.Item.{narrow, maxFacts, has, maxGuessed};
 ghost use Rattle.tables.specs.Layout.{programIn, WellFormed};
 ghost use Rattle.reader.specs.Questions.{programOf, constraintFacts};
 ghost use Rattle.reader.specs.Scanned.{Tabled};
-ghost use Rattle.questions.specs.Questions.{earlyNo};
+ghost use Rattle.questions.specs.Parts.{earlyNo};
 ghost use Rattle.earliest.specs.Root.{Shown};
 ghost use Rattle.search.specs.Outcome.{SearchOutcome, foundAt, searchOutcome};
 use crate::answer::Searched;

@@ -10,7 +10,8 @@ use borrow.Author.Tests.{eq-eqb, ne-eqb, ltb-true, ltb-false}
 use lib.ListN.{length, getD, take, set, replicate, length-set}
 use lib.Seq.{take-set-le, take-suc-set, take-take}
 use lib.Dec.{ltb}
-use Rattle.theory.specs.Rule.{all, clear, mem, nothing, Program, Mask, FactSet, Bounded, inForce, adjoin, count, rule, exception, Step, plainRules}
+use Rattle.theory.specs.Rule.{all, clear, mem, nothing, Program, Mask, FactSet, inForce, adjoin, count, rule, exception, Step, plainRules}
+use Rattle.theory.specs.Conditions.{Bounded}
 use Rattle.theory.specs.Derive.{conclude, fired as firedFrom, meets, derive, stepBy, steps}
 use Rattle.theory.specs.Run.{Stand, rejected, trial, stage}
 use Rattle.theory.proofs.Bools.{either, never, or-false, or-none, false-of}

@@ -10,7 +10,8 @@ use mathlib.Core.Bool.{Bool, _&&_}
 use mathlib.Core.List.{List, [], _∷_, map}
 use lib.ListN.{getD}
 use lib.Dec.{eqb, ltb}
-use Rattle.theory.specs.Rule.{upTo, Rule, Program, FactSet, Bounded, withheld}
+use Rattle.theory.specs.Rule.{upTo, Rule, Program, FactSet, withheld}
+use Rattle.theory.specs.Conditions.{Bounded}
 use Rattle.items.specs.Item.{narrow, maxFacts, maxRules, maxRuleItems}
 
 -- The most premises and constraints of all rules of a file together, repeats counted.

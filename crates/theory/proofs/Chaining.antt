@@ -12,7 +12,8 @@ use lib.ListN.{getD}
 use Rattle.theory.specs.Rule.{clear, mem, Program, Mask, FactSet, Same, nothing, count, rule, plainRules}
 use Rattle.theory.specs.Derive.{conclude, closure}
 use Rattle.theory.specs.Run.{Stand, rejected, spares, trial, eligible, stage, firstEligible, run, stageCount}
-use Rattle.theory.specs.Chaining.{Disjoint, constraintSet, Applicable, First, Takes, Rests, Chaining, IsUnion, Names}
+use Rattle.theory.specs.Chaining.{Disjoint, constraintSet, Applicable, First, Takes, Rests, Chaining, IsUnion}
+use Rattle.theory.specs.Conditions.{Names}
 use Rattle.theory.proofs.Bools.{never, or-left, false-of}
 use Rattle.theory.proofs.Lists.{Found, seek-some, seek-none, all-elem, all-of, clear-elem, clear-of, clear-anti, any-witness, any-of, any-append, getD-mem}
 use Rattle.theory.proofs.Derive.{derive-least, least-same}
@@ -197,7 +198,7 @@ module _ (P : Program) (on : Mask) where
           first-eligible (stands P on order n) c
           (rw (fun-ext (chaining-stands n .0), fun-ext (chaining-stands n .1)) at h)
 
-      taken-first : (n c : ℕ) → firstEligible P on order (stands P on order n) ≡ some c → First P on order (D n) (R n) c
+      pub taken-first : (n c : ℕ) → firstEligible P on order (stands P on order n) ≡ some c → First P on order (D n) (R n) c
       taken-first n c e =
           rw (fun-ext (chaining-stands n .0), fun-ext (chaining-stands n .1)) (eligible-first (stands P on order n) c e)
 

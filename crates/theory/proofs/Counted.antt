@@ -8,7 +8,8 @@ use mathlib.Core.Logic.{⊎-elim}
 use borrow.Author.Tests.{eqb-true}
 use lib.ListN.{length}
 use lib.Dec.{eqb}
-use Rattle.theory.specs.Rule.{all, mem, howMany, sumOf, upTo, adjoin, FactSet}
+use Rattle.theory.specs.Rule.{all, mem, howMany, upTo, adjoin, FactSet}
+use Rattle.theory.specs.Lists.{sumOf}
 use Rattle.theory.proofs.Bools.{either, never, and-false, and-left, and-right, and-both, or-left, not-of-false, false-of-not, false-of}
 use Rattle.theory.proofs.Lists.{eqb-self, eqb-sym, mem-here, mem-there, mem-cases, upTo-mem, length-range, all-of, all-elem, howMany-le, howMany-less, howMany-every, howMany-upTo}
 

@@ -9,7 +9,9 @@ use mathlib.Core.Logic.{_⊎_, inl, inr, ⊎-elim}
 use mathlib.Core.Option.{Option, none, some}
 use borrow.Author.Tests.{eqb-true, ltb-true}
 use lib.Dec.{eqb, ltb}
-use Rattle.theory.specs.Rule.{all, any, mem, seek, upTo, howMany, Program, Mask, FactSet, Sub, nothing, adjoin, count, rule, constraintFact, Bounded}
+use Rattle.theory.specs.Rule.{all, any, mem, upTo, howMany, Program, Mask, FactSet, Sub, nothing, adjoin, count, rule, constraintFact}
+use Rattle.theory.specs.Conditions.{Bounded}
+use Rattle.theory.specs.Lists.{seek}
 use Rattle.theory.specs.Walk.{picks, after}
 use Rattle.theory.specs.Layers.{Ranks, Link, Depends, Chain, barred, Cycle}
 use Rattle.theory.proofs.Bools.{either, never, and-left, and-right, and-both, or-left, or-right, or-cases, or-assoc, not-of-false, false-of}

@@ -7,26 +7,24 @@ use mathlib.Core.List.{List, [], _∷_, map}
 use mathlib.Core.Logic.{⊎-elim}
 use mathlib.Core.Option.{Option, none, some}
 use borrow.Author.Tests.{eqb-true}
-use lib.ListN.{length}
+use lib.ListN.{length, getD, take}
 use lib.Dec.{eqb}
 use Rattle.theory.specs.Rule.{all, mem, upTo, howMany, Program, Mask, FactSet, Sub, Same, adjoin, count, rule, Closed, Least}
 use Rattle.theory.specs.Walk.{picks, after}
 use Rattle.theory.specs.Derive.{ready, lowest, conclude, Fresh, fired, derive}
+use Rattle.theory.specs.Chaining.{ReadyOn, LowestReady}
 use Rattle.theory.proofs.Bools.{never, and-left, and-right, and-both, or-left, or-right, or-cases, not-of-false, false-of-not, false-of, either, both-ways}
-use Rattle.theory.proofs.Lists.{eqb-self, mem-cases, Found, seek-some, seek-none, all-mono, upTo-mem, mem-upTo, length-range, howMany-le, howMany-less}
+use Rattle.theory.proofs.Lists.{eqb-self, mem-cases, Found, seek-some, seek-none, seek-lowest, all-mono, upTo-mem, mem-upTo, length-range, howMany-le, howMany-less}
 use Rattle.theory.proofs.Walk as walk
-
--- rule i is one that `derive` may take at S
-pub record Fires (P : Program) (on : Mask) (S : FactSet) (i : ℕ) : Type 0 where
-  pub known : i < count P
-  pub is-on : on i ≡ true
-  pub premises-in : all S (rule P i .premises) ≡ true
-  pub conclusion-out : S (rule P i .conclusion) ≡ false
 
 -- the rules are taken one after the other from S
 abbrev pub Trail : Program → Mask → FactSet → List ℕ → Type 0
 Trail P on S [] = Unit {0}
-Trail P on S (i ∷ is) = Fires P on S i × Trail P on (conclude P S i) is
+Trail P on S (i ∷ is) = ReadyOn P on S i × Trail P on (conclude P S i) is
+
+-- each is the lowest-numbered that is ready on S with the conclusions of those before it
+abbrev pub EachLowest : Program → Mask → FactSet → List ℕ → Type 0
+EachLowest P on S is = (k : ℕ) → k < length is → LowestReady P on (after (conclude P) S (take k is)) (getD is k 0)
 
 pub adjoin-above : (S : FactSet) (f : ℕ) → Sub S (adjoin S f)
 adjoin-above S f g t = or-right (eqb g f) _ t
@@ -60,7 +58,15 @@ open-less P S T i s k out has =
     i (upTo-mem (count P) i k) (not-of-false out) (rw has refl)
 
 module _ (P : Program) (on : Mask) where
-  pub fires : (S : FactSet) (i : ℕ) → lowest P on S ≡ some i → Fires P on S i
+  ready-true : (S : FactSet) (i : ℕ) → ReadyOn P on S i → ready P on S i ≡ true
+  ready-true S i t = and-both (t .is-on) (and-both (t .premises-in) (not-of-false (t .conclusion-out)))
+
+  -- no rule below the one that is taken is ready, ..
+  none-lower : (S : FactSet) (i : ℕ) → lowest P on S ≡ some i → (d : ℕ) → d < i → ReadyOn P on S d → ⊥
+  none-lower S i e d l t = never (ready-true S d t) (seek-lowest (ready P on S) (count P) i e d l)
+
+  -- .. it is ready itself, ..
+  pub fires : (S : FactSet) (i : ℕ) → lowest P on S ≡ some i → ReadyOn P on S i
   fires S i e =
       let t : Found (ready P on S) (upTo (count P)) i = seek-some _ _ i e in
       record {
@@ -70,9 +76,16 @@ module _ (P : Program) (on : Mask) where
         conclusion-out = false-of-not _ (and-right (all S (rule P i .premises)) _ (and-right (on i) _ (t .passes)));
       }
 
+  pub lowest-ready : (S : FactSet) (i : ℕ) → lowest P on S ≡ some i → LowestReady P on S i
+  lowest-ready S i e = record { ready = fires S i e; none-below = none-lower S i e }
+
+  -- .. and where none is taken, none is ready
+  pub none-ready : (S : FactSet) → _≡_ {A = Option ℕ} (lowest P on S) none → (i : ℕ) → ReadyOn P on S i → ⊥
+  none-ready S e i t = never (ready-true S i t) (seek-none (ready P on S) (upTo (count P)) e i (upTo-mem (count P) i (t .known)))
+
   lowers : (S : FactSet) (i : ℕ) → lowest P on S ≡ some i → openRules P (conclude P S i) < openRules P S
   lowers S i e =
-      let t : Fires P on S i = fires S i e in
+      let t : ReadyOn P on S i = fires S i e in
       open-less P S (conclude P S i) i (adjoin-above S (rule P i .conclusion)) (t .known) (t .conclusion-out) (adjoin-has S (rule P i .conclusion))
 
   pub derive-end : (S : FactSet) → _≡_ {A = Option ℕ} (lowest P on (derive P on S)) none
@@ -80,7 +93,7 @@ module _ (P : Program) (on : Mask) where
   derive-end S =
       walk.ends (lowest P on) (conclude P) (λ _. Unit {0}) (openRules P) (λ T i _ e. (tt, lowers T i e)) (count P) S tt (open-most P S)
 
-  pub derive-keeps : (Inv : FactSet → Type 0) → ((S : FactSet) (i : ℕ) → Inv S → Fires P on S i → Inv (conclude P S i)) → (S : FactSet) → Inv S → Inv (derive P on S)
+  pub derive-keeps : (Inv : FactSet → Type 0) → ((S : FactSet) (i : ℕ) → Inv S → ReadyOn P on S i → Inv (conclude P S i)) → (S : FactSet) → Inv S → Inv (derive P on S)
   unfolding derive fired
   derive-keeps Inv h S v = walk.kept (lowest P on) (conclude P) Inv (λ T i w e. h T i w (fires T i e)) (count P) S v
 
@@ -90,7 +103,7 @@ module _ (P : Program) (on : Mask) where
   pub derive-closed : (S : FactSet) → Closed P on (derive P on S)
   derive-closed S i l o p =
       ⊎-elim (λ e. e)
-      (λ e. never (and-both o (and-both p (not-of-false e))) (seek-none (ready P on (derive P on S)) (upTo (count P)) (derive-end S) i (upTo-mem (count P) i l)))
+      (λ e. absurd (none-ready (derive P on S) (derive-end S) i (record { known = l; is-on = o; premises-in = p; conclusion-out = e })))
       (either (derive P on S (rule P i .conclusion)))
 
   pub derive-below : (S N : FactSet) → Sub S N → Closed P on N → Sub (derive P on S) N
@@ -125,6 +138,23 @@ module _ (P : Program) (on : Mask) where
   unfolding fired
   fired-trail S = picks-trail (count P) S
 
+  picks-lowest : (n : ℕ) (S : FactSet) → EachLowest P on S (picks (lowest P on) (conclude P) n S)
+  picks-lowest zero S k l = absurd (omega arith)
+  picks-lowest (suc n) S k l = go (lowest P on S) refl (picks-lowest n) k l
+    where
+      go : (o : Option ℕ) → lowest P on S ≡ o → ((T : FactSet) → EachLowest P on T (picks (lowest P on) (conclude P) n T)) → EachLowest P on S (picks (lowest P on) (conclude P) (suc n) S)
+      go none e r = rw (walk.picks-none (lowest P on) (conclude P) (suc n) S e) (λ j l. absurd (omega arith))
+      go (some i) e r = rw (walk.picks-some (lowest P on) (conclude P) n S i e) (first i e r)
+        where
+          first : (i : ℕ) → lowest P on S ≡ some i → ((T : FactSet) → EachLowest P on T (picks (lowest P on) (conclude P) n T)) → EachLowest P on S (i ∷ picks (lowest P on) (conclude P) n (conclude P S i))
+          first i e r zero l = lowest-ready S i e
+          first i e r (suc j) l = r (conclude P S i) j (omega arith)
+
+  -- Each rule fires as the lowest-numbered one that is ready by then.
+  pub fired-lowest : (S : FactSet) → EachLowest P on S (fired P on S)
+  unfolding fired
+  fired-lowest S = picks-lowest (count P) S
+
   trail-fresh : (is : List ℕ) (S : FactSet) → Trail P on S is → Fresh P S is
   trail-fresh [] S t = tt
   trail-fresh (i ∷ is) S t = (t .0 .known, t .0 .conclusion-out, trail-fresh is (conclude P S i) (t .1))
@@ -138,6 +168,13 @@ module _ (P : Program) (on : Mask) where
 
   pub fired-known : (S : FactSet) (i : ℕ) → mem i (fired P on S) ≡ true → i < count P
   fired-known S = fresh-known (fired P on S) S (fired-fresh S)
+
+  trail-on : (is : List ℕ) (S : FactSet) → Trail P on S is → (i : ℕ) → mem i is ≡ true → on i ≡ true
+  trail-on [] S t i m = never m refl
+  trail-on (j ∷ is) S t i m = ⊎-elim (λ e. rw e (t .0 .is-on)) (trail-on is (conclude P S j) (t .1) i) (mem-cases i j is m)
+
+  pub fired-on : (S : FactSet) (i : ℕ) → mem i (fired P on S) ≡ true → on i ≡ true
+  fired-on S = trail-on (fired P on S) S (fired-trail S)
 
 -- larger sets and larger masks have larger least sets
 pub least-mono : (P : Program) (on on′ : Mask) (S S′ M M′ : FactSet) → ((i : ℕ) → i < count P → on i ≡ true → on′ i ≡ true) → Sub S S′ → Least P on S M → Least P on′ S′ M′ → Sub M M′

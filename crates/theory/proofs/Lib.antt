@@ -16,6 +16,7 @@ pub mod Order
 pub mod Withheld
 pub mod Stages
 pub mod Chaining
+pub mod StepsInTurn
 pub mod Marks
 pub mod Better
 pub mod Stable

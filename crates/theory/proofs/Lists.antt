@@ -11,7 +11,8 @@ use mathlib.Core.Option.{Option, none, some}
 use borrow.Author.Tests.{eqb-true, eqb-false, eq-eqb, lt-ltb, le-ltb, ltb-true}
 use lib.ListN.{length, getD, replicate, length-map}
 use lib.Dec.{eqb, ltb}
-use Rattle.theory.specs.Rule.{all, clear, any, mem, keep, seek, range, upTo, downFrom, howMany}
+use Rattle.theory.specs.Rule.{all, clear, any, mem, keep, range, upTo, howMany}
+use Rattle.theory.specs.Lists.{seek, downFrom}
 use Rattle.theory.proofs.Bools.{either, never, and-left, and-right, and-both, or-left, or-right, or-cases, or-false-left, or-false-right, not-of-false, false-of-not, false-of, both-ways}
 
 pub eqb-self : (n : ℕ) → eqb n n ≡ true
@@ -415,6 +416,14 @@ pub seek-number : (q : ℕ → Bool) (n i : ℕ) → i < n → ((j : ℕ) → j 
 seek-number q n i h out t =
     seek-at q (upTo n) i (omega (arith, length-range 0 n)) (λ j l. ap q (getD-upTo n j (omega arith)) ∙ out j l) (ap q (getD-upTo n i h) ∙ t)
     ∙ ap (λ (m : ℕ). some m) (getD-upTo n i h)
+
+-- What is found among them is the lowest that passes.
+pub seek-lowest : (q : ℕ → Bool) (n i : ℕ) → seek q (upTo n) ≡ some i → (j : ℕ) → j < i → q j ≡ false
+seek-lowest q n i e j l =
+    let t : Found q (upTo n) i = seek-some q (upTo n) i e in
+    let inside : t .place < n = rw (length-range 0 n) at (t .inside) in
+    let here : t .place ≡ i = sym (getD-upTo n (t .place) inside) ∙ t .is in
+    ap q (sym (getD-upTo n j (omega arith))) ∙ t .none-before j (omega arith)
 
 pub no-number : (q : ℕ → Bool) (n : ℕ) → ((j : ℕ) → j < n → q j ≡ false) → _≡_ {A = Option ℕ} (seek q (upTo n)) none
 no-number q n out = none-passes q (upTo n) (λ k l. let low : k < n = omega (arith, length-range 0 n) in ap q (getD-upTo n k low) ∙ out k low)

@@ -10,7 +10,8 @@ use lib.Dec.{eqb, ltb}
 use Rattle.theory.specs.Rule.{all, clear, mem, Program, Mask, FactSet, count, rule, plain, exception, plainRules}
 use Rattle.theory.specs.Derive.{conclude}
 use Rattle.theory.specs.Run.{Stand, rejected, spares, trial, run, setAside, factMark, ruleMark}
-use Rattle.theory.specs.Chaining.{constraintSet, Supported, Chaining, IsUnion, Inconsistent, Names}
+use Rattle.theory.specs.Chaining.{constraintSet, Supported, Chaining, IsUnion, Inconsistent}
+use Rattle.theory.specs.Conditions.{Names}
 use Rattle.theory.proofs.Bools.{either, never, and-left, and-right, and-both, not-of-false, false-of-not, false-of, both-ways}
 use Rattle.theory.proofs.Lists.{all-fails, any-of}
 use Rattle.theory.proofs.Derive.{derive-least}

@@ -7,7 +7,8 @@ use mathlib.Core.Logic.{_⊎_, inl, inr, ⊎-elim}
 use mathlib.Core.Option.{Option, none, some}
 use borrow.Author.Tests.{lt-ltb, ltb-true}
 use lib.Dec.{eqb, ltb}
-use Rattle.theory.specs.Rule.{all, clear, mem, keep, seek, upTo, Program, Mask, FactSet, Sub, Same, null, nothing, count, rule, plain, exception, Closed, plainRules, byKey, firstCase}
+use Rattle.theory.specs.Rule.{all, clear, mem, keep, upTo, Program, Mask, FactSet, Sub, Same, null, nothing, count, rule, plain, exception, Closed, plainRules, byKey, firstCase}
+use Rattle.theory.specs.Lists.{seek}
 use Rattle.theory.specs.Derive.{conclude}
 use Rattle.theory.specs.Run.{Stand, spares, trial, eligible, stage, firstEligible, run, setAside}
 use Rattle.theory.specs.Stable.{reduct, Stable, upheld, groupFor, orderGroups, orderFor}

@@ -9,7 +9,9 @@ use mathlib.Core.Logic.{⊎-elim}
 use mathlib.Core.Option.{Option, none, some}
 use borrow.Author.Tests.{eqb-true, ltb-true, ltb-false, leb-true, leb-false, not-true}
 use lib.Dec.{eqb, ltb, leb}
-use Rattle.theory.specs.Rule.{any, mem, upTo, howMany, sumOf, Program, Mask, count, rule, constraintFact, Bounded}
+use Rattle.theory.specs.Rule.{any, mem, upTo, howMany, Program, Mask, count, rule, constraintFact}
+use Rattle.theory.specs.Conditions.{Bounded}
+use Rattle.theory.specs.Lists.{sumOf}
 use Rattle.theory.specs.Layers.{Ranks, LeastRanks, Cycle, higher, highest, asks, lacking, raise, allZero, lowestLacking, ranksOf, isLayered}
 use Rattle.theory.proofs.Bools.{never, and-left, and-right, and-both, not-of-false, false-of}
 use Rattle.theory.proofs.Lists.{eqb-self, mem-here, mem-there, mem-cases, Found, seek-some, seek-none, any-witness, upTo-mem, mem-upTo, length-range}

@@ -10,7 +10,8 @@ use lib.Dec.{eqb, ltb}
 use Rattle.theory.specs.Rule.{all, clear, mem, NoRepeat, Program, Mask, FactSet, Sub, nothing, null, count, rule, plain, exception, Step, Closed, plainRules}
 use Rattle.theory.specs.Derive.{conclude, Fresh, fired, steps, stepBy}
 use Rattle.theory.specs.Run.{Stand, rejected, spares, trial, eligible, stage, start, firstEligible, run, kept}
-use Rattle.theory.specs.Chaining.{Disjoint, Names}
+use Rattle.theory.specs.Chaining.{Disjoint}
+use Rattle.theory.specs.Conditions.{Names}
 use Rattle.theory.specs.Stable.{factsOf}
 use Rattle.theory.proofs.Bools.{never, and-left, and-right, and-both, or-left, or-right, or-cases, not-of-false, false-of-not, false-of}
 use Rattle.theory.proofs.Lists.{seek-some, seek-none, all-elem, all-append, any-witness, clear-elem, mem-cases, mem-here, mem-there, mem-append}

@@ -9,11 +9,12 @@ use mathlib.Core.Option.{Option, none, some}
 use borrow.Author.Tests.{eqb-true}
 use lib.ListN.{length}
 use lib.Dec.{eqb}
-use Rattle.theory.specs.Rule.{mem, keep, upTo, downFrom, howMany, Program, Mask, FactSet, Same, nothing, adjoin, count, exception, constraintFact, Bounded}
+use Rattle.theory.specs.Rule.{mem, keep, upTo, howMany, Program, Mask, FactSet, Same, nothing, adjoin, count, exception, constraintFact}
+use Rattle.theory.specs.Conditions.{Bounded, Names}
+use Rattle.theory.specs.Lists.{downFrom}
 use Rattle.theory.specs.Check.{leastOf}
 use Rattle.theory.specs.Stable.{reduct, Stable, Earlier, Earliest, anySet, upheld, groupFor, orderGroups, orderFor}
 use Rattle.theory.specs.Search.{guessed, fits, hunt, search}
-use Rattle.theory.specs.Chaining.{Names}
 use Rattle.theory.proofs.Bools.{either, never, and-left, and-right, and-both, and-true, or-left, or-false, or-false-left, or-false-right, false-of, beq-true, beq-refl}
 use Rattle.theory.proofs.Lists.{all-elem, all-of, mem-cases, mem-here, mem-there, mem-keep, mem-downFrom, downFrom-mem}
 use Rattle.theory.proofs.ByKey.{Rising, rising-keep, case-below, key-once, key-only, key-length, key-names}

@@ -9,10 +9,11 @@ use borrow.Author.Tests.{eqb-true, ltb-true, not-false}
 use native.Mathlib.Decide.{decLt}
 use lib.ListN.{length, take}
 use lib.Dec.{eqb, ltb}
-use Rattle.theory.specs.Rule.{all, clear, mem, upTo, Program, Mask, FactSet, Sub, Same, nothing, count, rule, constraintFact, Bounded, Step, Closed, Least}
+use Rattle.theory.specs.Rule.{all, clear, mem, upTo, Program, Mask, FactSet, Sub, Same, nothing, count, rule, constraintFact, Step, Closed, Least}
+use Rattle.theory.specs.Conditions.{Bounded, Within}
 use Rattle.theory.specs.Derive.{derive}
 use Rattle.theory.specs.Check.{leastOf, isStable}
-use Rattle.theory.specs.Stable.{reduct, Stable, Within, stepAt, factsOf, usedRule, Proof, Admits}
+use Rattle.theory.specs.Stable.{reduct, Stable, stepAt, factsOf, usedRule, Proof, Admits}
 use Rattle.theory.proofs.Bools.{either, never, and-left, and-right, and-both, or-cases, or-false-left, or-false-right, or-none, or-assoc, false-of, false-of-not, not-of-false, both-ways, beq-true, beq-refl}
 use Rattle.theory.proofs.Lists.{eqb-self, all-elem, all-of, all-mono, all-fails, clear-ext, clear-anti, any-witness, any-of, mem-upTo, upTo-mem}
 use Rattle.theory.proofs.Derive.{derive-least, derive-mono, least-mono, least-same}

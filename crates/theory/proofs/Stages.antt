@@ -124,7 +124,7 @@ module _ (P : Program) (on : Mask) (order : List ℕ) where
           rw (onward-some (stands n) i e) (omega arith)
 
   -- and just as many where the run goes on
-  stands-all : (n c : ℕ) → firstEligible P on order (stands n) ≡ some c → stageCount (stands n) ≡ n
+  pub stands-all : (n c : ℕ) → firstEligible P on order (stands n) ≡ some c → stageCount (stands n) ≡ n
   stands-all zero c h = refl
   stands-all (suc n) c h = go (firstEligible P on order (stands n)) refl (stands-all n)
     where

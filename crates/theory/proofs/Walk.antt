@@ -55,3 +55,28 @@ module _ {State : Type 0} (pick : State → Option ℕ) (act : State → ℕ →
   picks-first Inv μ step n s i v l e =
       let t : μ (act s i) < μ s = step s i v e .1 in
       picks-enough Inv μ step n (suc n) s v l (omega arith) ∙ picks-some n s i e
+
+-- Two walks whose picks and acts agree wherever the first one comes make the same picks and end in the same state.
+module _ {State : Type 0} (pick pick′ : State → Option ℕ) (act act′ : State → ℕ → State) (Inv : State → Type 0) (same-pick : (s : State) → Inv s → pick s ≡ pick′ s) (same-act : (s : State) (i : ℕ) → Inv s → pick s ≡ some i → (act s i ≡ act′ s i) × Inv (act s i)) where
+  pub picks-same : (n : ℕ) (s : State) → Inv s → picks pick act n s ≡ picks pick′ act′ n s
+  picks-same zero s v = refl
+  picks-same (suc n) s v = go (pick s) refl (picks-same n)
+    where
+      go : (o : Option ℕ) → pick s ≡ o → ((t : State) → Inv t → picks pick act n t ≡ picks pick′ act′ n t) → picks pick act (suc n) s ≡ picks pick′ act′ (suc n) s
+      go none e r = picks-none pick act (suc n) s e ∙ sym (picks-none pick′ act′ (suc n) s (sym (same-pick s v) ∙ e))
+      go (some i) e r =
+          let (a, w) = same-act s i v e in
+          picks-some pick act n s i e
+          ∙ (ap (λ is. i ∷ is) (r (act s i) w ∙ ap (picks pick′ act′ n) a)
+          ∙ sym (picks-some pick′ act′ n s i (sym (same-pick s v) ∙ e)))
+
+  pub ends-same : (n : ℕ) (s : State) → Inv s → after act s (picks pick act n s) ≡ after act′ s (picks pick′ act′ n s)
+  ends-same zero s v = refl
+  ends-same (suc n) s v = go (pick s) refl (ends-same n)
+    where
+      go : (o : Option ℕ) → pick s ≡ o → ((t : State) → Inv t → after act t (picks pick act n t) ≡ after act′ t (picks pick′ act′ n t)) → after act s (picks pick act (suc n) s) ≡ after act′ s (picks pick′ act′ (suc n) s)
+      go none e r = rw (picks-none pick act (suc n) s e, picks-none pick′ act′ (suc n) s (sym (same-pick s v) ∙ e)) refl
+      go (some i) e r =
+          let (a, w) = same-act s i v e in
+          let there : after act′ (act s i) (picks pick′ act′ n (act s i)) ≡ after act′ (act′ s i) (picks pick′ act′ n (act′ s i)) = ap (λ t. after act′ t (picks pick′ act′ n t)) a in
+          rw (picks-some pick act n s i e, picks-some pick′ act′ n s i (sym (same-pick s v) ∙ e)) (r (act s i) w ∙ there)

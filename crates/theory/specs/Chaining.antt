@@ -1,12 +1,13 @@
 -- Forward chaining along an order: definition 3.1 of document 000, for a finite program. The plain rules are its mon(P), the exception rules
--- its nmon(P), conclusion, premises and constraints its c(C), prem(C) and cons(C).
+-- its nmon(P), conclusion, premises and constraints its c(C), prem(C) and cons(C). And the order of its steps, by document 01.
 use Prim.Native.Nat.{ℕ, zero, suc, _<_}
 use mathlib.Core.Path.{_≡_}
 use mathlib.Core.Bool.{true, false, _||_}
-use mathlib.Core.List.{List}
+use mathlib.Core.List.{List, map}
 use mathlib.Core.Logic.{_⊎_, _↔_}
-use lib.ListN.{length, getD}
-use Rattle.theory.specs.Rule.{all, clear, mem, Program, Mask, FactSet, Same, nothing, adjoin, count, rule, exception, Least, plainRules}
+use lib.ListN.{length, getD, take}
+use Rattle.theory.specs.Rule.{all, clear, mem, howMany, Program, Mask, FactSet, Same, nothing, adjoin, count, rule, exception, Step, Least, plainRules}
+use Rattle.theory.specs.Stable.{stepAt, factsOf}
 
 -- T is cl_mon(S), the least set above S closed under the plain rules in force.
 abbrev pub IsClosure : Program → Mask → FactSet → FactSet → Type 0
@@ -77,6 +78,39 @@ pub record Inconsistent (P : Program) (on : Mask) (D R : FactSet) (c : ℕ) : Ty
   pub met-in : closed met ≡ true
   pub met-by : (constraintSet P c met ≡ true) ⊎ (R met ≡ true)
 
--- The order names every exception rule in force.
-abbrev pub Names : Program → Mask → List ℕ → Type 0
-Names P on order = (c : ℕ) → exception P c ≡ true → on c ≡ true → mem c order ≡ true
+-- The order of the steps (document 01, "The least set and its steps" and "The run").
+
+-- A rule that is on is ready on S: its premises are in S, and its conclusion is not.
+pub record ReadyOn (P : Program) (on : Mask) (S : FactSet) (c : ℕ) : Type 0 where
+  pub known : c < count P
+  pub is-on : on c ≡ true
+  pub premises-in : all S (rule P c .premises) ≡ true
+  pub conclusion-out : S (rule P c .conclusion) ≡ false
+
+-- The lowest-numbered one.
+pub record LowestReady (P : Program) (on : Mask) (S : FactSet) (c : ℕ) : Type 0 where
+  pub ready : ReadyOn P on S c
+  pub none-below : (d : ℕ) → d < c → ReadyOn P on S d → ⊥
+
+-- The number of stages that lie behind a row of steps: of its steps by exception rules.
+abbrev pub stagesBehind : Program → List Step → ℕ
+stagesBehind P row = howMany (exception P) (map (λ s. s .by) row)
+
+-- Rule c is the one taken at the stage that has D and R, and the facts so far, S, are those of D.
+pub record TakenNext (P : Program) (on : Mask) (order : List ℕ) (D R S : FactSet) (c : ℕ) : Type 0 where
+  pub reached : Same S D
+  pub taken : First P on order D R c
+
+-- A step stands in its turn behind the steps before it, for a chaining D and R along the order.
+pub record InTurn (P : Program) (on : Mask) (order : List ℕ) (D R : ℕ → FactSet) (before : List Step) (step : Step) : Type 0 where
+  -- Its fact has no step yet, and its rule concludes it.
+  pub new : factsOf before (step .fact) ≡ false
+  pub concludes : rule P (step .by) .conclusion ≡ step .fact
+  -- Where some plain rule in force is ready on the facts so far, the step is by the lowest-numbered one.
+  pub plain-first : (c : ℕ) → ReadyOn P (plainRules P on) (factsOf before) c → LowestReady P (plainRules P on) (factsOf before) (step .by)
+  -- Where none is, the step is by the rule taken at the next stage.
+  pub else-taken : ((c : ℕ) → ReadyOn P (plainRules P on) (factsOf before) c → ⊥) → TakenNext P on order (D (stagesBehind P before)) (R (stagesBehind P before)) (factsOf before) (step .by)
+
+-- Each step of the row stands in its turn.
+abbrev pub StepsInTurn : Program → Mask → List ℕ → (ℕ → FactSet) → (ℕ → FactSet) → List Step → Type 0
+StepsInTurn P on order D R row = (k : ℕ) → k < length row → InTurn P on order D R (take k row) (stepAt row k)

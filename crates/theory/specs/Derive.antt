@@ -5,7 +5,8 @@ use mathlib.Core.Path.{_≡_}
 use mathlib.Core.Bool.{Bool, false, not, _&&_}
 use mathlib.Core.List.{List, [], _∷_, map}
 use mathlib.Core.Option.{Option}
-use Rattle.theory.specs.Rule.{Step, plainRules, all, any, seek, upTo, Program, Mask, FactSet, adjoin, count, rule}
+use Rattle.theory.specs.Rule.{Step, plainRules, all, any, upTo, Program, Mask, FactSet, adjoin, count, rule}
+use Rattle.theory.specs.Lists.{seek}
 use Rattle.theory.specs.Walk.{picks, after}
 
 -- rule i's premises are in S and its conclusion is not

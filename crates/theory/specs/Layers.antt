@@ -9,7 +9,8 @@ use mathlib.Core.Option.{Option}
 use lib.ListN.{length, getD}
 use lib.Dec.{eqb, ltb, leb}
 use mathlib.Core.Logic.{_⊎_}
-use Rattle.theory.specs.Rule.{any, mem, seek, upTo, byKey, Program, Mask, count, rule, exception}
+use Rattle.theory.specs.Rule.{any, mem, upTo, byKey, Program, Mask, count, rule, exception}
+use Rattle.theory.specs.Lists.{seek}
 use Rattle.theory.specs.Walk.{picks, after}
 
 -- Each fact has a rank: at least that of every premise of its rules in force, above that of every constraint.

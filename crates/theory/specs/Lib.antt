@@ -2,6 +2,7 @@
 -- and the theorems of proofs/ say what they mean.
 pub mod Rule
 pub mod Chaining
+pub mod Lists
 pub mod Walk
 pub mod Derive
 pub mod Run
@@ -15,4 +16,5 @@ pub mod Examples
 pub mod Check
 pub mod Search
 pub mod Guesses
+pub mod Conditions
 pub mod Places

@@ -1,8 +1,8 @@
--- The program without repeats within its rules.
+-- The program without repeats within its rules, and the program without what its withheld rules say.
 use Prim.Native.Nat.{ℕ}
 use mathlib.Core.Bool.{cond}
 use mathlib.Core.List.{List, [], _∷_, map}
-use Rattle.theory.specs.Rule.{mem, Program}
+use Rattle.theory.specs.Rule.{any, mem, keep, Rule, Program}
 
 -- each element once, where it stands last
 abbrev pub once : List ℕ → List ℕ
@@ -20,3 +20,12 @@ withoutRepeats P =
           (P .rules);
       unread = P .unread;
     }
+
+-- Of a withheld rule its unread constraints alone, and no conclusion but fact 0, since every rule has one; every other rule as it is.
+abbrev pub struck : Program → Rule → Rule
+struck P r =
+    cond (any (P .unread) (r .constraints)) (record { conclusion = 0; premises = []; constraints = keep (P .unread) (r .constraints) }) r
+
+-- the program with its withheld rules struck
+abbrev pub withoutWithheld : Program → Program
+withoutWithheld P = record { facts = P .facts; rules = map (struck P) (P .rules); unread = P .unread }

@@ -1,9 +1,8 @@
 -- Rules, programs and sets of facts, and the least set closed under some rules (document 01, "Facts, rules and the file"), with the tests
 -- over lists that the definitions use.
-use Prim.Native.Nat.{ℕ, zero, suc, _+_, _<_}
+use Prim.Native.Nat.{ℕ, zero, suc, _<_}
 use mathlib.Core.Bool.{Bool, true, false, cond, not, _&&_, _||_}
 use mathlib.Core.List.{List, [], _∷_, _++_}
-use mathlib.Core.Option.{Option, none, some}
 use lib.Dec.{eqb, ltb}
 use mathlib.Core.Path.{_≡_}
 use lib.ListN.{length, getD}
@@ -36,33 +35,19 @@ abbrev pub keep : (ℕ → Bool) → List ℕ → List ℕ
 keep p [] = []
 keep p (x ∷ xs) = cond (p x) (x ∷ keep p xs) (keep p xs)
 
--- the first element that passes the test
-abbrev pub seek : (ℕ → Bool) → List ℕ → Option ℕ
-seek p [] = none
-seek p (x ∷ xs) = elim (p x) [ true ↦ some x | false ↦ seek p xs ]
-
 -- the n numbers from a on, ascending
 abbrev pub range : ℕ → ℕ → List ℕ
 range a zero = []
 range a (suc n) = a ∷ range (suc a) n
 
--- the numbers below n, ascending, and descending
+-- the numbers below n, ascending
 abbrev pub upTo : ℕ → List ℕ
 upTo n = range 0 n
-
-abbrev pub downFrom : ℕ → List ℕ
-downFrom zero = []
-downFrom (suc n) = n ∷ downFrom n
 
 -- how many elements pass the test
 abbrev pub howMany : (ℕ → Bool) → List ℕ → ℕ
 howMany p [] = 0
 howMany p (x ∷ xs) = cond (p x) (suc (howMany p xs)) (howMany p xs)
-
--- the sum of the values of the elements
-abbrev pub sumOf : (ℕ → ℕ) → List ℕ → ℕ
-sumOf value [] = 0
-sumOf value (x ∷ xs) = value x + sumOf value xs
 
 -- The numbers below m that pass the test, by key: for each of the n keys from p on, in turn, those that have it, ascending.
 abbrev pub byKey : (ℕ → Bool) → (ℕ → ℕ) → ℕ → ℕ → ℕ → List ℕ
@@ -92,10 +77,6 @@ pub record Program : Type 0 where
 -- Which rules are in force. A rule is left out by a mask and never removed, so rule numbers never shift.
 abbrev pub Mask : Type 0
 Mask = ℕ → Bool
-
--- Every rule is in force.
-abbrev pub everyRule : Mask
-everyRule i = true
 
 abbrev pub nothing : FactSet
 nothing f = false
@@ -140,12 +121,6 @@ exception P i = ltb i (count P) && not (null (rule P i .constraints))
 unfoldable pub constraintFact : Program → Mask → ℕ → Bool
 constraintFact P on k = any (λ i. on i && mem k (rule P i .constraints)) (upTo (count P))
 
--- Every fact of every rule is below the count of facts.
-pub record Bounded (P : Program) : Type 0 where
-  pub conclusion-below : (i : ℕ) → i < count P → rule P i .conclusion < P .facts
-  pub premises-below : (i : ℕ) → i < count P → all (λ f. ltb f (P .facts)) (rule P i .premises) ≡ true
-  pub constraints-below : (i : ℕ) → i < count P → all (λ f. ltb f (P .facts)) (rule P i .constraints) ≡ true
-
 -- A withheld rule (document 02, wish 6) is an exception rule with an unread constraint.
 unfoldable pub withheld : Program → ℕ → Bool
 withheld P i = exception P i && any (P .unread) (rule P i .constraints)
@@ -154,15 +129,16 @@ withheld P i = exception P i && any (P .unread) (rule P i .constraints)
 unfoldable pub inForce : Program → Mask
 inForce P i = not (withheld P i)
 
--- Programs that differ only in repeats, or in the order of the items, within their rules: the same unread facts, and rule by rule the same conclusion, the
--- same premises and the same constraints.
+-- Programs that no operation tells apart: as many facts and rules, the same rules withheld, and of each rule in force the same conclusion, the same premises and the
+-- same constraints. They may differ in repeats and in the order of the items within a rule, in all that a withheld rule says, and in unread facts that withhold no
+-- rule.
 pub record Alike (P Q : Program) : Type 0 where
   pub same-facts : P .facts ≡ Q .facts
   pub same-count : count P ≡ count Q
-  pub same-conclusion : (i : ℕ) → i < count P → rule P i .conclusion ≡ rule Q i .conclusion
-  pub same-premises : (i : ℕ) → i < count P → (f : ℕ) → mem f (rule P i .premises) ≡ mem f (rule Q i .premises)
-  pub same-constraints : (i : ℕ) → i < count P → (f : ℕ) → mem f (rule P i .constraints) ≡ mem f (rule Q i .constraints)
-  pub same-unread : Same (P .unread) (Q .unread)
+  pub same-withheld : (i : ℕ) → i < count P → withheld P i ≡ withheld Q i
+  pub same-conclusion : (i : ℕ) → i < count P → inForce P i ≡ true → rule P i .conclusion ≡ rule Q i .conclusion
+  pub same-premises : (i : ℕ) → i < count P → inForce P i ≡ true → (f : ℕ) → mem f (rule P i .premises) ≡ mem f (rule Q i .premises)
+  pub same-constraints : (i : ℕ) → i < count P → inForce P i ≡ true → (f : ℕ) → mem f (rule P i .constraints) ≡ mem f (rule Q i .constraints)
 
 -- A step: the fact, and the rule that concludes it.
 pub record Step : Type 0 where

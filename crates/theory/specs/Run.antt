@@ -5,7 +5,8 @@ use mathlib.Core.List.{List, [], _∷_, _++_, map}
 use mathlib.Core.Option.{Option}
 use lib.ListN.{length}
 use lib.Dec.{ltb}
-use Rattle.theory.specs.Rule.{all, any, clear, mem, seek, upTo, Program, Mask, FactSet, nothing, count, rule, plain, exception, Step, plainRules, firstCase}
+use Rattle.theory.specs.Rule.{all, any, clear, mem, upTo, Program, Mask, FactSet, nothing, count, rule, plain, exception, Step, plainRules, firstCase}
+use Rattle.theory.specs.Lists.{seek}
 use Rattle.theory.specs.Walk.{picks, after}
 use Rattle.theory.specs.Derive.{stepBy, conclude, closure, steps}
 

@@ -3,7 +3,8 @@ use Prim.Native.Nat.{ℕ}
 use mathlib.Core.Bool.{Bool, Bool·beq, cond}
 use mathlib.Core.List.{List, [], _∷_}
 use mathlib.Core.Option.{Option, none, some}
-use Rattle.theory.specs.Rule.{all, keep, downFrom, Program, Mask, FactSet, nothing, adjoin, constraintFact}
+use Rattle.theory.specs.Rule.{all, keep, Program, Mask, FactSet, nothing, adjoin, constraintFact}
+use Rattle.theory.specs.Lists.{downFrom}
 use Rattle.theory.specs.Check.{leastOf}
 
 -- Which facts are guessed: the constraint facts, from the highest-numbered down.

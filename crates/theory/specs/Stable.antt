@@ -1,6 +1,6 @@
 -- Stable sets (Gelfond, Lifschitz), proofs and the sets that admit them (document 01, "Judge and proof check"; document 004), and the earliest
 -- stable set (document 01, "The search").
-use Prim.Native.Nat.{ℕ, _≤_, _<_, _-_}
+use Prim.Native.Nat.{ℕ, _<_, _-_}
 use mathlib.Core.Path.{_≡_}
 use mathlib.Core.Bool.{Bool, false, _&&_, true, cond}
 use Rattle.theory.specs.Rule.{all, clear, mem, Program, Mask, FactSet, nothing, rule, Rule, count, Same, constraintFact, Least, Step, exception, byKey, firstCase}
@@ -16,10 +16,6 @@ reduct P on M i = on i && clear M (rule P i .constraints)
 -- M is stable for the rules in force: it is the least set closed under the reduct by M.
 abbrev pub Stable : Program → Mask → FactSet → Type 0
 Stable P on M = Least P (reduct P on M) nothing M
-
--- M holds no number that is not a fact of the program.
-abbrev pub Within : Program → FactSet → Type 0
-Within P M = (f : ℕ) → P .facts ≤ f → M f ≡ false
 
 -- What is read past the last step; no definition looks there.
 abbrev pub noStep : Step

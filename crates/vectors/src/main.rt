@@ -14,7 +14,6 @@ const ROOM: usize = 1441792;
 // One case after another, up to an empty row. Answers the place of that row.
 fn try_all(bytes: &[u8], counts: &mut [u32; COUNTS]) -> usize {
     let mut at: usize = 0;
-    let mut file: usize = 0;
     let mut turns: u32 = 65536;
     while turns > 0 {
         let head = replay::read::row(bytes, at);
@@ -22,10 +21,7 @@ fn try_all(bytes: &[u8], counts: &mut [u32; COUNTS]) -> usize {
             return at;
         }
         let places = replay::read::places(bytes, at);
-        if replay::read::number(head, 2) == 0 {
-            file = places[2];
-        }
-        let same = replay::call::agrees(bytes, places, file);
+        let same = replay::call::agrees(bytes, places);
         report::verdict(replay::read::row(bytes, places[1]), at, same);
         let mut k = 2 * (replay::read::number(head, 0) as usize);
         if !same {

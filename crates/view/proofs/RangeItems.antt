@@ -28,7 +28,7 @@ use Rattle.reader.proofs.Tags.{NotOwn}
 use Rattle.view.specs.declared.range.Own.{Own}
 use Rattle.view.specs.declared.range.Own.the-variants as own
 use Rattle.view.specs.declared.range.Taken.{Taken}
-use Rattle.view.specs.View.{endAt, ownBy, ownOf, ownAt, pastOwn, takenOf, takenAt}
+use Rattle.view.specs.View.{endAt, ownBy, ownOf, ownAt, pastOwn, takenOf, takenAt, ownItems, GivesEach}
 
 -- an item of another kind
 not-own : (i : Item) (ts : List Token) → NotOwn i → ownOf (item i ∷ ts) ≡ own.Ended
@@ -83,6 +83,7 @@ module _ (s : List ℕ) (at end : ℕ) where
 
 -- What is taken off the front of a range: the item heads those of the rule, those that are left follow it, and the range ends where it did.
 pub record Gives (s : List ℕ) (at end : ℕ) (t : Taken) (sign : Sign) (f : FactId) : Type 0 where
+  pub first : ownItems (itemsAt s (bodyAt at)) ≡ record { sign = sign; fact = f } ∷ ownItems (itemsAt s (bodyAt (t .rest)))
   pub own : (asked : Sign) → ownFacts asked (itemsAt s (bodyAt at)) ≡ cond (sameSign asked sign) (f .0 ∷ ownFacts asked (itemsAt s (bodyAt (t .rest)))) (ownFacts asked (itemsAt s (bodyAt (t .rest))))
   pub nearer : end - t .rest < end - at
   pub ends : end ≡ endAt s at → end ≡ endAt s (t .rest)
@@ -120,6 +121,9 @@ module _ (i : Item) {sign : Sign} {f : FactId} (s : classOf i .own ≡ some (rec
   own-first : (asked : Sign) (ts : List Token) → ownFacts asked (item i ∷ ts) ≡ cond (sameSign asked sign) (f .0 ∷ ownFacts asked ts) (ownFacts asked ts)
   own-first asked ts = rw s
 
+  whole : (ts : List Token) → ownItems (item i ∷ ts) ≡ record { sign = sign; fact = f } ∷ ownItems ts
+  whole ts = rw s
+
   one-more : (ts : List Token) → ownIn (item i ∷ ts) ≡ ownIn ts + 1
   one-more ts = rw (own-first asksIn ts, own-first asksOut ts) (go sign)
     where
@@ -156,6 +160,7 @@ module _ (s : List ℕ) (at end : ℕ) (t : Taken) (e : t ≡ takenAt s at end) 
         let items-are : itemsAt s (bodyAt at) ≡ item i ∷ itemsAt s (bodyAt (t .rest)) = found-there .items ∙ ap (λ (c : Cursor). item i ∷ itemsAt s c) there in
         let fewer : ownIn (itemsAt s (bodyAt at)) ≡ ownIn (itemsAt s (bodyAt (t .rest))) + 1 = ap ownIn items-are ∙ one-more i says (itemsAt s (bodyAt (t .rest))) in
         record {
+          first = ap ownItems items-are ∙ whole i says (itemsAt s (bodyAt (t .rest)));
           own = λ asked. ap (ownFacts asked) items-are ∙ own-first i says asked (itemsAt s (bodyAt (t .rest)));
           nearer = omega (arith, inside, rest-is);
           ends = λ k. shorter end (t .rest) (ownIn (itemsAt s (bodyAt at))) (ownIn (itemsAt s (bodyAt (t .rest)))) k rest-is fewer;
@@ -211,3 +216,49 @@ module _ (s : List ℕ) (at end : ℕ) (t : Taken) (e : t ≡ takenAt s at end) 
       go : (b : Bool) → ltb at end ≡ b → NoneOwn (itemsAt s (bodyAt at))
       go true l = none-own (itemsAt s (bodyAt at)) (sym (front-decides s at end (ltb-true at end l)) ∙ given s at end t e n)
       go false l = both-empty (itemsAt s (bodyAt at)) (none-more (ltb-false at end l))
+
+-- What the first of a rule's own items is, and that there is one.
+abbrev First : List Token → OwnItem → Type 0
+First ts o = (ownOf ts ≡ ownBy (o .sign) (o .fact)) × (0 < ownIn ts)
+
+first-own : (ts : List Token) (o : OwnItem) (os : List OwnItem) → ownItems ts ≡ o ∷ os → First ts o
+first-own [] o os = λ e. absurd (let z : _≡_ {A = ℕ} 0 1 = cc in omega arith)
+first-own (bad fault ∷ ts) o os = λ e. absurd (let z : _≡_ {A = ℕ} 0 1 = cc in omega arith)
+first-own (item i ∷ ts) o os =
+    either-said (λ l. l ≡ o ∷ os → First (item i ∷ ts) o) (classOf i .own) _ _
+    (λ x s e. let same : x ≡ o = cc in (rw s (ap (λ (y : OwnItem). ownBy (y .sign) (y .fact)) same), omega (arith, one-more i s ts)))
+    (λ _ e. absurd (let z : _≡_ {A = ℕ} 0 1 = cc in omega arith))
+
+no-first : (ts : List Token) → ownItems ts ≡ [] → ownOf ts ≡ own.Ended
+no-first [] = λ e. refl
+no-first (bad fault ∷ ts) = λ e. refl
+no-first (item i ∷ ts) =
+    either-said (λ l. l ≡ [] → ownOf (item i ∷ ts) ≡ own.Ended) (classOf i .own) _ _ (λ x s e. absurd (let z : _≡_ {A = ℕ} 0 1 = cc in omega arith)) (λ s e. rw s)
+
+-- Where the range ends with the rule, the first of the rule's own items is inside, and where it has none, none is there.
+module _ (s : List ℕ) (end at : ℕ) where
+  first-inside : end ≡ endAt s at → 0 < ownIn (itemsAt s (bodyAt at)) → at < end
+  unfolding endAt
+  first-inside k more = omega (arith, k, more)
+
+  none-inside : ownOf (itemsAt s (bodyAt at)) ≡ own.Ended → ownAt s at end ≡ own.Ended
+  unfolding ownAt
+  none-inside e = rw e (same-arms (ltb at end))
+    where
+      same-arms : (b : Bool) → cond b own.Ended own.Ended ≡ own.Ended
+      same-arms true = refl
+      same-arms false = refl
+
+-- The view of the range that ends with the rule gives the rule's own items in the file's order.
+pub gives-each : (s : List ℕ) (end at : ℕ) → end ≡ endAt s at → GivesEach s at end (ownItems (itemsAt s (bodyAt at)))
+gives-each s end at = go (ownItems (itemsAt s (bodyAt at))) at refl
+  where
+    go : (os : List OwnItem) (at : ℕ) → ownItems (itemsAt s (bodyAt at)) ≡ os → end ≡ endAt s at → GivesEach s at end os
+    go [] at e k = sym (nothing-there s at end (none-inside s end at (no-first (itemsAt s (bodyAt at)) e)))
+    go (o ∷ os) at e k =
+        let first : First (itemsAt s (bodyAt at)) o = first-own (itemsAt s (bodyAt at)) o os e in
+        let q : ownAt s at end ≡ ownBy (o .sign) (o .fact) = front-decides s at end (first-inside s end at k (first .1)) ∙ first .0 in
+        let g : Gives s at end (takenAt s at end) (o .sign) (o .fact) = gives s at end (takenAt s at end) refl (o .sign) (o .fact) q in
+        let both : _≡_ {A = List OwnItem} (record { sign = o .sign; fact = o .fact } ∷ ownItems (itemsAt s (bodyAt (takenAt s at end .rest)))) (o ∷ os) = sym (g .first) ∙ e in
+        let left : ownItems (itemsAt s (bodyAt (takenAt s at end .rest))) ≡ os = cc both in
+        (q, go os (takenAt s at end .rest) left (g .ends k))

@@ -3,14 +3,14 @@ use Prim.Native.Nat.{ℕ, _+_, _*_}
 use mathlib.Core.Path.{_≡_}
 use mathlib.Core.Bool.{cond}
 use mathlib.Core.List.{List, [], _∷_}
-use lib.ListN.{length}
+use lib.ListN.{length, getD}
 use lib.Dec.{ltb}
 use Rattle.theory.specs.Rule.{rule}
 use Rattle.items.specs.declared.item.FactId.{FactId}
-use Rattle.items.specs.Item.{narrow, Sign, asksIn, asksOut, classOf, whereSaid, itemWidth}
-use Rattle.cursors.specs.Cursor.{Token, item, bad, itemsAt, bodyAt}
+use Rattle.items.specs.Item.{narrow, Sign, asksIn, asksOut, sameSign, OwnItem, classOf, whereSaid, itemWidth}
+use Rattle.cursors.specs.Cursor.{Token, item, bad, itemsAt, fileStart, bodyAt}
 use Rattle.tables.specs.Layout.{placeIn, programIn}
-use Rattle.reader.specs.Questions.{premisesOf, constraintsOf}
+use Rattle.reader.specs.Questions.{premisesOf, constraintsOf, behindRules}
 use Rattle.view.specs.declared.range.Own.{Own}
 use Rattle.view.specs.declared.range.Own.the-variants as own
 use Rattle.view.specs.declared.range.Taken.{Taken}
@@ -56,3 +56,23 @@ takenOf o at end = record { item = o; rest = pastOwn o at end }
 
 abbrev pub takenAt : List ℕ → ℕ → ℕ → Taken
 takenAt s at end = takenOf (ownAt s at end) at end
+
+-- A rule's own items at the front of these, as they stand: premises and constraints, up to an item of another class.
+abbrev pub ownItems : List Token → List OwnItem
+ownItems [] = []
+ownItems (bad fault ∷ ts) = []
+ownItems (item i ∷ ts) = whereSaid (classOf i .own) (λ o. o ∷ ownItems ts) []
+
+-- Those of rule i of a file: they stand behind the item that opens the rule.
+abbrev pub itemsOfRule : List ℕ → ℕ → List OwnItem
+itemsOfRule s i = ownItems (getD (behindRules (itemsAt s fileStart)) i [])
+
+-- The facts of those that ask in, or out.
+abbrev pub factsAsked : Sign → List OwnItem → List ℕ
+factsAsked sign [] = []
+factsAsked sign (o ∷ os) = cond (sameSign sign (o .sign)) (o .fact .0 ∷ factsAsked sign os) (factsAsked sign os)
+
+-- The view of a range gives these items, each from what the one before left, and then it ends with nothing left.
+abbrev pub GivesEach : List ℕ → ℕ → ℕ → List OwnItem → Type 0
+GivesEach s at end [] = takenAt s at end ≡ takenOf own.Ended at end
+GivesEach s at end (o ∷ os) = (takenAt s at end .item ≡ ownBy (o .sign) (o .fact)) × GivesEach s (takenAt s at end .rest) end os

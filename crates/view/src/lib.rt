@@ -25,10 +25,3 @@ pub fn next_item<'a>(view: RuleView<'a>) -> Taken
 {
     range::take_item(view.file, view.at, view.end)
 }
-
-// The same for callers without a view: whoever calls this needs no walk by hand.
-pub fn own_item(file: &[u8], at: usize, end: usize) -> Taken
-    ensures { λ r. ⌜ r ≡ takenAt (now (file .entry)) at end ⌝ }
-{
-    next_item(view_of(file, at, end))
-}

@@ -8,10 +8,12 @@
 //! example under every operation, and random ones.
 //!
 //! The file is a row of rows. A row is two bytes of length, high byte first, and
-//! that many bytes; all numbers have two bytes too. A case is nine rows:
+//! that many bytes; all numbers have two bytes too. A row that stands in the file
+//! already is not written again, unless that would be shorter: it has the length
+//! FFFF, then the place of that row in four bytes. So each file is stored once. A
+//! case is nine rows:
 //!
-//! - its numbers: the operation, from 1 in the order of `Operation::ALL`; 1 where
-//!   the file is that of the case before and its row is empty, else 0; the byte
+//! - its numbers: the operation, from 1 in the order of `Operation::ALL`; the byte
 //!   that every lent buffer holds throughout before the call; the asked fact, its
 //!   high half and its low half; the lengths of the four buffers; and the reply in
 //!   the order of the C structure, without the zeros at its end. Of two orders the reply goes
@@ -57,6 +59,7 @@ use cases::{Case, Load, Operation, Reply, Tally, random_case};
 use directed::{all_operations, directed_cases, examples};
 use list::List;
 use random::Random;
+use std::collections::HashMap;
 use std::process::ExitCode;
 
 const SEED: u64 = 1;
@@ -73,17 +76,11 @@ const MOST_LARGE: usize = 40;
 const BUFFERS: usize = 4;
 /// The buffer of an order that is handed back has so many bytes more.
 const MORE_THAN_HANDED_BACK: usize = 3;
+/// What a row that is named by its place has for its length.
+const NAMED: u16 = 0xFFFF;
 
-fn put_row(out: &mut Vec<u8>, row: &[u8]) {
-    let length = u16::try_from(row.len()).expect("a row's length fits in two bytes");
-    out.extend(length.to_be_bytes());
-    out.extend(row);
-}
-
-fn put_numbers(out: &mut Vec<u8>, numbers: &[u32]) {
-    let two_bytes =
-        |&number: &u32| u16::try_from(number).expect("a number fits in two bytes").to_be_bytes();
-    put_row(out, &numbers.iter().flat_map(two_bytes).collect::<Vec<u8>>());
+fn two_bytes(number: u32) -> [u8; 2] {
+    u16::try_from(number).expect("a number fits in two bytes").to_be_bytes()
 }
 
 /// What stands in the place of the file.
@@ -135,44 +132,53 @@ fn in_a_buffer(operation: Operation, fill: u8, expected: &Reply) -> Reply {
     Reply { numbers, handed_back, buffers }
 }
 
-/// The rows of a case; there is no file where it is that of the case before.
-fn vector(name: &str, case: &Case, fill: u8, expected: &Reply, file: Option<&[u8]>) -> Vec<u8> {
+/// The rows of a case.
+fn vector(name: &str, case: &Case, fill: u8, expected: &Reply) -> Vec<Vec<u8>> {
     let expected = in_a_buffer(case.operation, fill, expected);
     let is_too_long = |buffer: &Vec<u8>| buffer.len() > MOST_LENT;
     assert!(!expected.buffers.iter().any(is_too_long), "{name}: too much is lent");
-    let mut numbers = vec![case.operation as u32 + 1, u32::from(file.is_none()), u32::from(fill)];
+    let mut numbers = vec![case.operation as u32 + 1, u32::from(fill)];
     numbers.extend([case.asked >> 16, case.asked & 0xFFFF]);
     let buffers = in_places(case.operation, &expected.buffers);
     numbers.extend(buffers.map(|buffer| buffer.map_or(0, |buffer| buffer.len() as u32)));
     numbers.extend(without_end(&expected.numbers, 0));
-    let mut out = Vec::new();
-    put_numbers(&mut out, &numbers);
-    put_row(&mut out, name.as_bytes());
-    put_row(&mut out, file.unwrap_or_default());
-    inputs(case).iter().for_each(|input| put_row(&mut out, input));
-    for buffer in buffers {
-        put_row(&mut out, without_end(buffer.map_or(&[][..], Vec::as_slice), fill));
-    }
-    out
+    let numbers = numbers.into_iter().flat_map(two_bytes).collect();
+    let mut rows = vec![numbers, name.as_bytes().to_vec(), file_row(case)];
+    rows.extend(inputs(case).map(<[u8]>::to_vec));
+    let written = |buffer: &Vec<u8>| without_end(buffer, fill).to_vec();
+    rows.extend(buffers.map(|buffer| buffer.map(written).unwrap_or_default()));
+    rows
 }
 
 /// The vectors written so far.
 #[derive(Default)]
 struct Vectors {
     bytes: Vec<u8>,
-    file: Vec<u8>,
+    places: HashMap<Vec<u8>, u32>,
     count: usize,
     large: usize,
     tally: Tally,
 }
 
 impl Vectors {
+    fn put_row(&mut self, row: Vec<u8>) {
+        if row.len() > size_of::<u32>() {
+            if let Some(place) = self.places.get(&row) {
+                self.bytes.extend(NAMED.to_be_bytes());
+                self.bytes.extend(place.to_be_bytes());
+                return;
+            }
+        }
+        let length = u16::try_from(row.len()).ok().filter(|&length| length != NAMED);
+        let place = u32::try_from(self.bytes.len()).expect("a place fits in four bytes");
+        self.bytes.extend(length.expect("a row's length fits in two bytes").to_be_bytes());
+        self.bytes.extend(&row);
+        self.places.insert(row, place);
+    }
+
     fn put(&mut self, name: &str, case: &Case, fill: u8, expected: &Reply) {
         self.tally.count(case.operation, case.met(expected));
-        let file = file_row(case);
-        let other_file = (file != self.file).then_some(&file[..]);
-        self.bytes.extend(vector(name, case, fill, expected, other_file));
-        self.file = file;
+        vector(name, case, fill, expected).into_iter().for_each(|row| self.put_row(row));
         self.count += 1;
     }
 
@@ -193,9 +199,10 @@ impl Vectors {
     }
 
     fn end(&mut self) {
-        put_row(&mut self.bytes, &[]);
-        let names = Operation::ALL.map(Operation::name);
-        names.iter().for_each(|name| put_row(&mut self.bytes, name.as_bytes()));
+        self.put_row(vec![]);
+        for name in Operation::ALL.map(Operation::name) {
+            self.put_row(name.as_bytes().to_vec());
+        }
     }
 }
 

@@ -2,17 +2,14 @@
 use native.Mathlib.Omega.{arith}
 use mathlib.Core.Path.{sym, ap}
 use lib.Seq.{length-take-le}
-use Rattle.generator.specs.Outcome.{count}
+use Rattle.generator.specs.Outcome.{loadCount}
 use Rattle.generator.proofs.LoadAnswers.{counted-inside}
 use borrow.Author.Needs.{needs}
 use Rattle.load.proofs.write_load.Statement.{statement}
 use Rattle.load.proofs.write_load.Tie as tie
 
-slice-aggregate-load : tie.Need-slice-aggregate-load
-slice-aggregate-load c = search needs
-
-load-requires : tie.Need-load-requires
-load-requires c κs = search needs
+load-in-room-requires : tie.Need-load-in-room-requires
+load-in-room-requires c κs = search needs
 
 enum-known-r : tie.Need-enum-known-r
 enum-known-r c = search needs
@@ -45,10 +42,10 @@ cast-length : tie.Need-cast-length
 cast-length c = search needs
 
 array-share-prefix-room : tie.Need-array-share-prefix-room
-array-share-prefix-room c = omega (arith, counted-inside _ _ _ _ _ (c .before .before .before .before .load .ensures .0), ap count (c .before .bytes .given .1), c .before .before .before .before .load .kept .1 .1 .1 .0)
+array-share-prefix-room c = omega (arith, counted-inside _ _ _ _ _ (c .before .before .before .load-in-room .ensures .0), ap loadCount (c .before .bytes .given .1))
 
 slice-aggregate-write-all-3 : tie.Need-slice-aggregate-write-all-3
-slice-aggregate-write-all-3 c = sym (length-take-le _ _ (omega (arith, counted-inside _ _ _ _ _ (c .before .before .before .before .before .load .ensures .0), ap count (c .before .before .bytes .given .1), c .before .before .before .before .before .load .kept .1 .1 .1 .0)))
+slice-aggregate-write-all-3 c = sym (length-take-le _ _ (array-share-prefix-room (c .before)))
 
 write-all-requires-3 : tie.Need-write-all-requires-3
 write-all-requires-3 c κs = search needs
@@ -63,8 +60,7 @@ pub write-load-spec : {M : Type 1} → statement M
 write-load-spec =
     tie.close
     (tie.spec
-    slice-aggregate-load
-    load-requires
+    load-in-room-requires
     enum-known-r
     slice-aggregate-write-all
     write-all-requires

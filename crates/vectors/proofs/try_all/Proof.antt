@@ -4,10 +4,10 @@ use Rattle.vectors.proofs.try_all.Statement.{statement}
 use Rattle.vectors.proofs.try_all.Tie as tie
 
 abbrev Inv-loop : tie.InvT-loop
-Inv-loop bytes counts₀ at₀ file₀ turns₀ counts at file turns = Unit {0}
+Inv-loop bytes counts₀ at₀ turns₀ counts at turns = Unit {0}
 
 abbrev μ-loop : tie.MeasureT-loop
-μ-loop bytes counts₀ at₀ file₀ turns₀ counts at file turns = turns
+μ-loop bytes counts₀ at₀ turns₀ counts at turns = turns
 
 loop-holds : tie.Need-loop-holds Inv-loop μ-loop
 loop-holds c = search needs
@@ -21,12 +21,6 @@ returns c = search needs
 places-requires : tie.Need-places-requires Inv-loop μ-loop
 places-requires c κs = search needs
 
-number-requires : tie.Need-number-requires Inv-loop μ-loop
-number-requires c κs = search needs
-
-array-read-file : tie.Need-array-read-file Inv-loop μ-loop
-array-read-file c = search needs
-
 agrees-requires : tie.Need-agrees-requires Inv-loop μ-loop
 agrees-requires c κs = search needs
 
@@ -39,8 +33,8 @@ row-requires-2 c κs = search needs
 verdict-requires : tie.Need-verdict-requires Inv-loop μ-loop
 verdict-requires c κs = search needs
 
-number-requires-2 : tie.Need-number-requires-2 Inv-loop μ-loop
-number-requires-2 c κs = search needs
+number-requires : tie.Need-number-requires Inv-loop μ-loop
+number-requires c κs = search needs
 
 cast-k : tie.Need-cast-k Inv-loop μ-loop
 cast-k c = search needs
@@ -91,13 +85,11 @@ try-all-spec =
     row-requires
     returns
     places-requires
-    number-requires
-    array-read-file
     agrees-requires
     array-read-row
     row-requires-2
     verdict-requires
-    number-requires-2
+    number-requires
     cast-k
     mul-k
     add-k

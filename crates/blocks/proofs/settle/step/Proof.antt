@@ -33,10 +33,10 @@ returns c R p a f =
     let fact : c .before .before .before .before .conclusion .result .0 ≡ rule (programIn (now (c .before .before .before .before .before .before .before .before .args .tables))) (c .before .before .before .before .before .before .before .before .args .rule .0) .conclusion = ap (λ x. x .0) (c .before .before .before .before .conclusion .ensures) in
     let small : c .before .before .before .before .conclusion .result .0 < maxFacts narrow = omega (arith, fact, conclusion-below (q .0) (q .1), facts-below (q .0)) in
     let joined : Flags (λ k. p k || asksAt (programIn (now (c .before .before .before .before .before .before .before .before .args .tables))) R (c .before .before .before .before .conclusion .result .0) k) (c .join-row .last .1 .1 .0) = c .join-row .ensures (maxFacts narrow) p (asksAt (programIn (now (c .before .before .before .before .before .before .before .before .args .tables))) R) small (a .matrix) f in
-    stepped-new (rw (c .before .before .before .before .before .if1 .taken) at (c .before .before .before .before .before .before .fire .ensures)) (rw fact at joined)
+    stepped-new (c .before .before .before .before .before .before .fire .ensures) (c .before .before .before .before .before .if1 .taken) (rw fact at joined)
 
 returns-2 : tie.Need-returns-2
-returns-2 c R p a f = stepped-same (rw (c .if1 .left) at (c .before .fire .ensures)) f
+returns-2 c R p a f = stepped-same (c .before .fire .ensures) (c .if1 .left) f
 
 pub step-spec : {M : Type 1} → statement M
 step-spec =

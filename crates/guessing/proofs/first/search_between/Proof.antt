@@ -13,7 +13,7 @@ use Rattle.guessing.specs.Bounds.{Between}
 use Rattle.guessing.specs.First.{Tells}
 use Rattle.guessing.specs.Descended.{Descended}
 use Rattle.guessing.proofs.GuessDerived.{row-facts}
-use Rattle.guessing.proofs.GuessesTried.{Trying, stays, begins, go-on, one-more, end-of, end-below, tells, ends, fits-first, leaves, conflict, fits-not}
+use Rattle.guessing.proofs.GuessesTried.{Trying, already-marked, begins, go-on, one-more, end-of, end-below, tells, ends, fits-first, leaves, conflict, fits-not}
 use Rattle.guessing.proofs.first.search_between.Statement.{statement}
 use Rattle.guessing.proofs.first.search_between.Tie as tie
 
@@ -47,7 +47,7 @@ at-hand c = let w = c .before .before .before .loop .inv .0 in go-on _ w _ (c .n
 
 -- the first from there that nothing on the way refutes, with what it derives
 come-to : (c : tie.Joined2 Inv-loop μ-loop) → Descended (programIn (now (c .before .before .before .before .before .before .before .before .before .before .args .tables))) (now (c .before .before .before .before .before .before .before .before .before .before .args .row)) (now (c .before .before .before .before .before .before .before .before .before .before .args .base)) (c .before .before .next-open .result) (c .if2 .guess) (c .if2 .marks)
-come-to c = ⊎-elim (λ w. rw (w .3, w .4) (w .2 .ensures)) (λ w. rw (w .1, w .2) (stays (omega (arith, end-of (length (now (c .before .before .before .before .before .before .before .before .before .before .args .row))) (c .before .before .before .before .before .before .before .before .before .before .pre .1 .0 .row-base .few), c .before .if1 .left)) (subst (λ (g : ℕ). Derived (programIn (now (c .before .before .before .before .before .before .before .before .before .before .args .tables))) (now (c .before .before .before .before .before .before .before .before .before .before .args .row)) (now (c .before .before .before .before .before .before .before .before .before .before .args .base)) g (c .before .before .before .before .before .loop .marks)) (sym (w .0 .left)) (c .before .before .before .before .before .loop .inv .2 (omega (arith, w .0 .left, c .before .before .next-open .ensures .0 .0)))))) (c .if2 .came)
+come-to c = ⊎-elim (λ w. rw (w .3, w .4) (w .2 .ensures)) (λ w. rw (w .1, w .2) (already-marked (omega (arith, end-of (length (now (c .before .before .before .before .before .before .before .before .before .before .args .row))) (c .before .before .before .before .before .before .before .before .before .before .pre .1 .0 .row-base .few), c .before .if1 .left)) (subst (λ (g : ℕ). Derived (programIn (now (c .before .before .before .before .before .before .before .before .before .before .args .tables))) (now (c .before .before .before .before .before .before .before .before .before .before .args .row)) (now (c .before .before .before .before .before .before .before .before .before .before .args .base)) g (c .before .before .before .before .before .loop .marks)) (sym (w .0 .left)) (c .before .before .before .before .before .loop .inv .2 (omega (arith, w .0 .left, c .before .before .next-open .ensures .0 .0)))))) (c .if2 .came)
 
 reached : (c : tie.Joined2 Inv-loop μ-loop) → Trying (fitsAt (programIn (now (c .before .before .before .before .before .before .before .before .before .before .args .tables))) (now (c .before .before .before .before .before .before .before .before .before .before .args .row)) (now (c .before .before .before .before .before .before .before .before .before .before .args .base))) (c .before .before .before .before .before .loop .masks) (c .before .before .before .before .before .loop .values) (c .before .before .before .before .before .loop .kept) (c .if2 .guess)
 reached c = go-on _ (at-hand (c .before .before)) _ (omega (arith, come-to c .inside, end-below (length (now (c .before .before .before .before .before .before .before .before .before .before .args .row))) (c .before .before .before .before .before .before .before .before .before .before .pre .1 .0 .row-base .few))) (come-to c .passed)

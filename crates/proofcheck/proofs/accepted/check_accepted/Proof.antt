@@ -9,7 +9,7 @@ use Rattle.theory.specs.Rule.{Program}
 use Rattle.items.specs.declared.refusal.Refusal.{Refusal}
 use Rattle.tables.proofs.ProgramHeld.{facts-below}
 use Rattle.reader.specs.Questions.{programOf}
-use Rattle.questions.specs.Questions.{setNo, rowNo}
+use Rattle.questions.specs.Parts.{setNo, rowNo}
 use Rattle.questions.proofs.NamesAsked.{said-yes, said-no}
 use Rattle.proofcheck.proofs.CheckAsked.{asked-below, check-set-no, check-row-no, all-asked-yes}
 use Rattle.proofcheck.proofs.accepted.check_accepted.Statement.{statement}
