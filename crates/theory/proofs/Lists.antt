@@ -3,7 +3,7 @@ use Prim.Native.Nat.{ℕ, zero, suc, ◌+◌, ◌-◌, ◌≤◌, ◌<◌}
 use native.Mathlib.Omega.{arith}
 use native.Mathlib.Nat.{add-zero, zero-add}
 use native.Mathlib.Numerals.{add-one}
-use mathlib.Core.Path.{◌≡◌, refl, sym, ◌∙◌, ap, ap₂}
+use mathlib.Core.Path.{◌≡◌, refl, sym, ◌∙◌, ap, ap₂, subst}
 use mathlib.Core.Bool.{Bool, true, false, not, cond, ◌&&◌, ◌||◌}
 use mathlib.Core.List.{List, [], ◌∷◌, ◌++◌, map}
 use mathlib.Core.Logic.{◌⊎◌, inl, inr, ⊎_elim, ◌≢◌}
@@ -123,7 +123,7 @@ mem-keep p xs x = both_ways _ _ (into xs) (back xs)
         go true e r =
             let m : mem x (y ∷ keep p ys) ≡ true = rw e at h in
             ⊎_elim
-            (λ w. and_both {a = mem x (y ∷ ys)} {b = p x} (rw w (mem-here y ys)) (rw w e))
+            (λ w. and_both {a = mem x (y ∷ ys)} {b = p x} (subst (λ (z : ℕ). mem z (y ∷ ys) ≡ true) (sym w) (mem-here y ys)) (rw w e))
             (λ w. and_both (mem-there x y ys (and_left _ _ (r w))) (and_right (mem x ys) _ (r w)))
             (mem-cases x y (keep p ys) m)
         go false e r =
@@ -135,7 +135,7 @@ mem-keep p xs x = both_ways _ _ (into xs) (back xs)
     back (y ∷ ys) h = go (p y) refl (back ys) (mem-cases x y ys (and_left _ _ h)) (and_right (mem x (y ∷ ys)) _ h)
       where
         go : (b : Bool) → p y ≡ b → (mem x ys && p x ≡ true → mem x (keep p ys) ≡ true) → (x ≡ y) ⊎ (mem x ys ≡ true) → p x ≡ true → mem x (keep p (y ∷ ys)) ≡ true
-        go true e r c t = rw e (⊎_elim (λ w. rw w (mem-here y (keep p ys))) (λ w. mem-there x y (keep p ys) (r (and_both w t))) c)
+        go true e r c t = rw e (⊎_elim (λ w. subst (λ (z : ℕ). mem z (y ∷ keep p ys) ≡ true) (sym w) (mem-here y (keep p ys))) (λ w. mem-there x y (keep p ys) (r (and_both w t))) c)
         go false e r c t = rw e (⊎_elim (λ w. never (rw w at t) e) (λ w. r (and_both w t)) c)
 
 -- what is found passes, is an element, and stands at a place before which nothing passes
@@ -155,7 +155,7 @@ seek-some p (y ∷ ys) x h = go (p y) refl (seek-some p ys x)
     go true e r =
         let s : some y ≡ some x = rw (e, seek) at h in
         let q : y ≡ x = cc in
-        record { place = 0; inside = omega arith; is = q; passes = rw (← q) e; element = rw (← q) (mem-here y ys); none_before = λ j l. absurd (omega arith) }
+        record { place = 0; inside = omega arith; is = q; passes = rw (← q) e; element = subst (λ (z : ℕ). mem z (y ∷ ys) ≡ true) q (mem-here y ys); none_before = λ j l. absurd (omega arith) }
     go false e r =
         let t : Found p ys x = r (rw (e, seek) at h) in
         record {
