@@ -19,7 +19,7 @@ WORD = re.compile(r"[A-Za-z](?:[A-Za-z0-9_'₀-₉-]*[A-Za-z0-9_'₀-₉])?")
 LIBRARY = {"length", "take", "drop", "set", "replicate", "append", "eqb", "ltb", "leb", "cond", "map", "and", "or", "not", "add", "mul", "sub", "div", "mod", "pow", "bit_and", "bit_or", "bit_xor", "get_or", "reverse", "beq", "min", "max"}
 EXAMPLES = ["theory/specs/Examples.antt", "theory/proofs/Examples.antt", "demands/specs/Examples.antt", "demands/specs/Starred.antt", "demands/specs/Wish07.antt", "demands/proofs/Starred.antt"]
 
-EXAMPLE = re.compile(r"(?<![\w'{◌*-])([A-F][23]?)(?![\w'*-])")
+EXAMPLE = re.compile(r"(?<![\w'◌*-])(?!(?<=\{)[A-F] [=:])([A-F][23]?)(?![\w'*-])")
 
 
 def files(top, *ends):
@@ -115,8 +115,35 @@ def turned(text, new):
 def in_prose(text, new):
     """Camel case anywhere; names with a dash between backticks."""
     plain = {k: v for k, v in new.items() if "-" not in k}
+    if isinstance(new, Known):
+        plain.update({w: new.get(w, w) for w in WORD.findall(text) if "-" not in w})
     parts = text.split("`")
     return "`".join(turned(p, new if i % 2 else plain) for i, p in enumerate(parts))
+
+
+def canonical(name):
+    return "_".join(snake(p) for p in name.split("-"))
+
+
+class Known(dict):
+    """For pages and must-fail edits, which port.py leaves: a name that no file declares any more, but for its spelling."""
+
+    def __init__(self, new, every):
+        dict.__init__(self, new)
+        self.now = {new.get(n, n) for n in every}
+        self.by = {}
+        for n in sorted(self.now):
+            self.by.setdefault(canonical(n), n)
+
+    def get(self, word, default=None):
+        if word in self:
+            return self[word]
+        if word in self.now or not re.match(r"[a-z]", word) or not re.search(r"[A-Z-]", word):
+            return default
+        return self.by.get(canonical(word), default)
+
+    def items(self):
+        return dict.items(self)
 
 
 def by_comment(line, mark, new):
@@ -156,11 +183,12 @@ def main():
         if "--list" in sys.argv:
             print("\n".join(f"{a} {b}" for a, b in sorted(new.items())))
         return 1
+    known = Known(new, every)
     for path in files("crates", ".antt", ".rt", ".edit"):
         old = open(path, encoding="utf-8").read()
         mark = "//" if path.endswith(".rt") else "--"
         if path.endswith(".edit"):
-            text = "".join(turned(l, new) if l.startswith(("old:", "new:")) else in_prose(l, new) for l in old.splitlines(True))
+            text = "".join(turned(l, known) if l.startswith(("old:", "new:")) else in_prose(l, known) for l in old.splitlines(True))
         elif path.endswith(".rt"):
             text = "".join(in_code(l, new) for l in old.splitlines(True))
         else:
@@ -171,7 +199,7 @@ def main():
     for top in ("docs", "README.md", "samples", "harness", "include"):
         for path in [top] if top.endswith(".md") else files(top, ".md"):
             old = open(path, encoding="utf-8").read()
-            write(path, in_prose(old, new), old)
+            write(path, in_prose(old, known), old)
     return 0
 
 
@@ -186,6 +214,13 @@ OWN = {
     "handedOut": "handed_over",
     "factMarks": "marks_of_facts",
     "ruleMarks": "marks_of_rules",
+    # named in comments, or in proofs of one function
+    "firedFrom": "fired_from",
+    "upheldIn": "upheld_in",
+    "missingFacts": "missing_facts",
+    "viewVal": "view_val",
+    "typeIn": "type_in",
+    "toldVal": "told_val",
 }
 
 if __name__ == "__main__":

@@ -1,10 +1,10 @@
 // The rules that an order sets aside, counted on the tables of an accepted file. Internal.
 ghost use Rattle.std.specs.Prelude.{◌≡◌};
-ghost use Rattle.tables.specs.Layout.{programIn, WellFormed};
+ghost use Rattle.tables.specs.Layout.{program_in, WellFormed};
 ghost use Rattle.questions.specs.Questions.{named_in};
 ghost use Rattle.run.specs.Stands.{MayOrder};
 ghost use Rattle.better.specs.Outcome.{preferred};
-ghost use Rattle.better.specs.Counted.{asideIn};
+ghost use Rattle.better.specs.Counted.{aside_in};
 
 use crate::answer::Choice;
 use items::item::{MAX_FACTS, MAX_RULES};
@@ -15,8 +15,8 @@ use tables::layout::TABLE_CELLS;
 // How many rules an order that names exception rules alone sets aside. The run is made in working memory.
 fn aside_under(tables: &[u16; TABLE_CELLS], order: &[u8]) -> usize
     requires well_formed { WellFormed tables.now }
-    requires may_order { MayOrder (programIn tables.now) (named_in order.now) }
-    ensures { result ≡ asideIn tables.now order.now }
+    requires may_order { MayOrder (program_in tables.now) (named_in order.now) }
+    ensures { result ≡ aside_in tables.now order.now }
 {
     let mut marks = [0u8; MAX_FACTS];
     let mut fired = [0u16; MAX_FACTS];
@@ -29,8 +29,8 @@ fn aside_under(tables: &[u16; TABLE_CELLS], order: &[u8]) -> usize
 // run.
 pub fn choose_tabled(tables: &[u16; TABLE_CELLS], first: &[u8], second: &[u8]) -> Choice
     requires well_formed { WellFormed tables.now }
-    requires may_order { MayOrder (programIn tables.now) (named_in first.now) × MayOrder (programIn tables.now) (named_in second.now) }
-    ensures { result ≡ preferred (asideIn tables.now first.now) (asideIn tables.now second.now) }
+    requires may_order { MayOrder (program_in tables.now) (named_in first.now) × MayOrder (program_in tables.now) (named_in second.now) }
+    ensures { result ≡ preferred (aside_in tables.now first.now) (aside_in tables.now second.now) }
 {
     let aside = aside_under(tables, first);
     if aside == 0 {

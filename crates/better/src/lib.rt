@@ -1,8 +1,8 @@
 // The better of two orders: the one that sets aside fewer rules.
 ghost use Rattle.std.specs.Prelude.{◌≡◌};
-ghost use Rattle.items.specs.Question.{noNumber};
-ghost use Rattle.questions.specs.Questions.{betterNo};
-ghost use Rattle.better.specs.Outcome.{choice_of, ChoiceMeans, betterOf, HandedBack};
+ghost use Rattle.items.specs.Question.{no_number};
+ghost use Rattle.questions.specs.Questions.{better_no};
+ghost use Rattle.better.specs.Outcome.{choice_of, ChoiceMeans, better_of, HandedBack};
 
 pub mod answer;
 mod aside;
@@ -26,7 +26,7 @@ pub fn choose(file: &[u8], first: &[u8], second: &[u8]) -> Choice
 
 // Hands back that order, as it was lent; an empty part of the first where a question gets no.
 pub fn better<'a>(file: &[u8], first: &'a [u8], second: &'a [u8]) -> &'a [u8]
-    ensures result_value { result.now ≡ betterOf file.now first.now second.now }
+    ensures result_value { result.now ≡ better_of file.now first.now second.now }
     ensures handed_back { HandedBack (choice_of file.now first.now second.now) first.entry second.entry result }
 {
     match choose(file, first, second) {
@@ -38,7 +38,7 @@ pub fn better<'a>(file: &[u8], first: &'a [u8], second: &'a [u8]) -> &'a [u8]
 
 // The number of the first no, 0 where there is none. The orders are questioned and not run.
 pub fn better_number(file: &[u8], first: &[u8], second: &[u8]) -> u32
-    ensures { result ≡ noNumber (betterNo file.now first.now second.now) }
+    ensures { result ≡ no_number (better_no file.now first.now second.now) }
 {
     let mut tables = [0u16; TABLE_CELLS];
     match asked::ask_both(file, first, second, &mut tables) {

@@ -11,7 +11,7 @@ use lib.Dec.{eqb}
 use lib.ListN.{length, get_or, set, length-set}
 use lib.Seq.{get_or-set_same, get_or-set_other}
 use Rattle.theory.proofs.Bools.{either, or_cases}
-use Rattle.bits.specs.Flags.{wordBits, rowWords, digit, word, Flags}
+use Rattle.bits.specs.Flags.{word_bits, row_words, digit, word, Flags}
 use Rattle.bits.specs.Matrix.{Matrix}
 use Rattle.bits.proofs.WordBits.{half, odd}
 
@@ -34,32 +34,32 @@ word-joined p q a (suc n) =
 -- The first words have joined those of the key.
 pub record Joining (matrix : List ℕ) (key : ℕ) (row₀ row : List ℕ) (k : ℕ) : Type 0 where
   pub places : length row ≡ length row₀
-  pub joined : length row₀ ≡ rowWords → (j : ℕ) → j < k → get_or row j 0 ≡ bit_or (get_or row₀ j 0) (get_or matrix (key * rowWords + j) 0)
+  pub joined : length row₀ ≡ row_words → (j : ℕ) → j < k → get_or row j 0 ≡ bit_or (get_or row₀ j 0) (get_or matrix (key * row_words + j) 0)
   pub others : (j : ℕ) → k ≤ j → get_or row j 0 ≡ get_or row₀ j 0
 
-pub none-joined : (matrix : List ℕ) (key : ℕ) (row : List ℕ) → Joining matrix key row row 0
-none-joined matrix key row = record { places = refl; joined = λ e j h. absurd (omega arith); others = λ j h. refl }
+pub none_joined : (matrix : List ℕ) (key : ℕ) (row : List ℕ) → Joining matrix key row row 0
+none_joined matrix key row = record { places = refl; joined = λ e j h. absurd (omega arith); others = λ j h. refl }
 
 module _ {matrix : List ℕ} {key : ℕ} {row₀ row : List ℕ} {k : ℕ} (w : Joining matrix key row₀ row k) where
-  pub one-joined : k < rowWords → (v : ℕ) → v ≡ bit_or (get_or row k 0) (get_or matrix (key * rowWords + k) 0) → Joining matrix key row₀ (set row k v) (k + 1)
-  one-joined h v is =
+  pub one_joined : k < row_words → (v : ℕ) → v ≡ bit_or (get_or row k 0) (get_or matrix (key * row_words + k) 0) → Joining matrix key row₀ (set row k v) (k + 1)
+  one_joined h v is =
       record {
         places = length-set row k v ∙ w.places;
         joined = λ e j l.
             ⊎_elim
-            (λ q. let same : j ≡ k = eqb-true j k q in rw same (get_or-set_same row k v 0 (omega (arith, w.places)) ∙ is ∙ ap (λ (x : ℕ). bit_or x (get_or matrix (key * rowWords + k) 0)) (w.others k (omega arith))))
+            (λ q. let same : j ≡ k = eqb-true j k q in rw same (get_or-set_same row k v 0 (omega (arith, w.places)) ∙ is ∙ ap (λ (x : ℕ). bit_or x (get_or matrix (key * row_words + k) 0)) (w.others k (omega arith))))
             (λ q. let ne : j ≡ k → ⊥ = eqb-false j k q in get_or-set_other row k j v 0 ne ∙ w.joined e j (omega arith))
             (either (eqb j k));
         others = λ j l. get_or-set_other row k j v 0 (λ q. omega arith) ∙ w.others j (omega arith);
       }
 
-  pub all-joined : rowWords ≤ k → (keys : ℕ) (p : ℕ → Bool) (q : ℕ → ℕ → Bool) → key < keys → Matrix keys q matrix → Flags p row₀ → Flags (λ i. p i || q key i) row
+  pub all-joined : row_words ≤ k → (keys : ℕ) (p : ℕ → Bool) (q : ℕ → ℕ → Bool) → key < keys → Matrix keys q matrix → Flags p row₀ → Flags (λ i. p i || q key i) row
   all-joined h keys p q l m f =
       record {
         places = w.places ∙ f.places;
         words = λ j u.
             w.joined f.places j (omega arith)
             ∙ ap₂ bit_or (f.words j u) (m.words key j l u)
-            ∙ word-joined p (q key) (j * wordBits) wordBits;
+            ∙ word-joined p (q key) (j * word_bits) word_bits;
         inside = λ i t. ⊎_elim (λ e. f.inside i e) (λ e. m.inside key i e) (or_cases (p i) (q key i) t);
       }

@@ -16,36 +16,36 @@ use lib.Seq.{get_or-set_same, get_or-set_other}
 use Rattle.theory.specs.Rule.{keep, range, up_to}
 use Rattle.theory.specs.Lists.{seek}
 use Rattle.theory.proofs.Bools.{either, never, and_right, and-false, false_of}
-use Rattle.theory.proofs.Lists.{Found, seek-some, seek-none, seek-append, upTo-mem, mem-range, length-range, getD-upTo, keep_same}
-use Rattle.items.specs.Item.{maxRules}
-use Rattle.bits.specs.Flags.{wordBits, rowWords, word, Flags, without, lowestOf, Taken, total, Falls, NoneBefore}
+use Rattle.theory.proofs.Lists.{Found, seek-some, seek-none, seek-append, up_to-mem, mem-range, length-range, get_or-up_to, keep_same}
+use Rattle.items.specs.Item.{max_rules}
+use Rattle.bits.specs.Flags.{word_bits, row_words, word, Flags, without, lowest_of, Taken, total, Falls, NoneBefore}
 use Rattle.bits.specs.declared.row.Lowest.TheVariants.{At, Nothing}
 use Rattle.bits.proofs.WordBits.{word-ext, word_none, LowestTaken, word-lowest}
 
 -- What the lowest number of a set is.
-pub lowest-is : (p : ℕ → Bool) (i : ℕ) → lowestOf p ≡ some i → Found p (up_to maxRules) i
-unfolding lowestOf
-lowest-is p i e = go maxRules e
+pub lowest-is : (p : ℕ → Bool) (i : ℕ) → lowest_of p ≡ some i → Found p (up_to max_rules) i
+unfolding lowest_of
+lowest-is p i e = go max_rules e
   where
     go : (n : ℕ) → seek p (up_to n) ≡ some i → Found p (up_to n) i
     go n q = seek-some p (up_to n) i q
 
 -- None below it is in the set.
-pub none-lower : (p : ℕ → Bool) (k : ℕ) → lowestOf p ≡ some k → (j : ℕ) → j < k → p j ≡ false
-none-lower p k e j h =
-    let w : Found p (up_to maxRules) k = lowest-is p k e in
-    let in_list : w.place < maxRules = rw (length-range 0 maxRules) at w.inside in
-    let there : get_or (up_to maxRules) w.place 0 ≡ w.place = getD-upTo maxRules w.place in_list in
+pub none_lower : (p : ℕ → Bool) (k : ℕ) → lowest_of p ≡ some k → (j : ℕ) → j < k → p j ≡ false
+none_lower p k e j h =
+    let w : Found p (up_to max_rules) k = lowest-is p k e in
+    let in_list : w.place < max_rules = rw (length-range 0 max_rules) at w.inside in
+    let there : get_or (up_to max_rules) w.place 0 ≡ w.place = get_or-up_to max_rules w.place in_list in
     let lower : j < w.place = omega (arith, w.is) in
-    ap p (sym (getD-upTo maxRules j (omega arith))) ∙ w.none_before j lower
+    ap p (sym (get_or-up_to max_rules j (omega arith))) ∙ w.none_before j lower
 
 -- A set of which there is no lowest number has none.
-pub nothing_left : {p : ℕ → Bool} {row : List ℕ} → Flags p row → ◌≡◌ {A = Option ℕ} (lowestOf p) none → (i : ℕ) → p i ≡ false
-unfolding lowestOf
-nothing_left {p} w e i = false_of (p i) (λ t. never t (go maxRules e (w.inside i t)))
+pub nothing_left : {p : ℕ → Bool} {row : List ℕ} → Flags p row → ◌≡◌ {A = Option ℕ} (lowest_of p) none → (i : ℕ) → p i ≡ false
+unfolding lowest_of
+nothing_left {p} w e i = false_of (p i) (λ t. never t (go max_rules e (w.inside i t)))
   where
     go : (n : ℕ) → ◌≡◌ {A = Option ℕ} (seek p (up_to n)) none → i < n → p i ≡ false
-    go n q h = seek-none p (up_to n) q i (upTo-mem n i h)
+    go n q h = seek-none p (up_to n) q i (up_to-mem n i h)
 
 -- Where a set has no number, none is kept.
 pub none_kept : (p : ℕ → Bool) → ((i : ℕ) → p i ≡ false) → (xs : List ℕ) → keep p xs ≡ []
@@ -53,9 +53,9 @@ none_kept p e [] = refl
 none_kept p e (x ∷ xs) = rw (e x) (none_kept p e xs)
 
 -- The lowest number of a set is kept first, before the others.
-pub lowest-kept : (p : ℕ → Bool) (n k : ℕ) → lowestOf p ≡ some k → k < n → keep p (up_to n) ≡ k ∷ keep (without p k) (up_to n)
-unfolding lowestOf
-lowest-kept p n k e h = go 0 maxRules n e (omega arith)
+pub lowest-kept : (p : ℕ → Bool) (n k : ℕ) → lowest_of p ≡ some k → k < n → keep p (up_to n) ≡ k ∷ keep (without p k) (up_to n)
+unfolding lowest_of
+lowest-kept p n k e h = go 0 max_rules n e (omega arith)
   where
     go : (a m n : ℕ) → seek p (range a m) ≡ some k → k < a + n → keep p (range a n) ≡ k ∷ keep (without p k) (range a n)
     go a m zero s l = absurd (omega (arith, (mem-range a m k (seek-some p (range a m) k s).element).0))
@@ -92,19 +92,19 @@ seek-behind p (x ∷ xs) ys e = go (p x) refl (seek-behind p xs ys)
     go false q r = rw (q, seek) (r (rw (q, seek) at e))
 
 -- found among n numbers, none of the m before them passing
-found-behind : (p : ℕ → Bool) (m n rest all i : ℕ) → all ≡ m + (n + rest) → ◌≡◌ {A = Option ℕ} (seek p (range 0 m)) none → seek p (range m n) ≡ some i → seek p (up_to all) ≡ some i
-found-behind p m n rest all i e f s =
+found_behind : (p : ℕ → Bool) (m n rest all i : ℕ) → all ≡ m + (n + rest) → ◌≡◌ {A = Option ℕ} (seek p (range 0 m)) none → seek p (range m n) ≡ some i → seek p (up_to all) ≡ some i
+found_behind p m n rest all i e f s =
     rw (e, range-append 0 m (n + rest), zero-add m, range-append m n rest)
     (seek-behind p (range 0 m) (range m n ++ range (m + n) rest) f ∙ seek-append p (range m n) (range (m + n) rest) i s)
 
 -- no number before a word is in the set where the words before it are 0
-zeros-before : {p : ℕ → Bool} {row : List ℕ} → Flags p row → (n : ℕ) → ((k : ℕ) → k < n → get_or row k 0 ≡ 0) → n ≤ rowWords → ◌≡◌ {A = Option ℕ} (seek p (range 0 (n * wordBits))) none
-zeros-before f zero z h = refl
-zeros-before {p} f (suc n) z h =
-    let more : suc n * wordBits ≡ n * wordBits + wordBits = omega arith in
-    rw (more, range-append 0 (n * wordBits) wordBits, zero-add (n * wordBits))
-    (seek-behind p (range 0 (n * wordBits)) (range (n * wordBits) wordBits) (zeros-before f n (λ k l. z k (omega arith)) (omega arith))
-    ∙ word_none p (n * wordBits) wordBits (sym (f.words n (omega arith)) ∙ z n (omega arith)))
+zeros_before : {p : ℕ → Bool} {row : List ℕ} → Flags p row → (n : ℕ) → ((k : ℕ) → k < n → get_or row k 0 ≡ 0) → n ≤ row_words → ◌≡◌ {A = Option ℕ} (seek p (range 0 (n * word_bits))) none
+zeros_before f zero z h = refl
+zeros_before {p} f (suc n) z h =
+    let more : suc n * word_bits ≡ n * word_bits + word_bits = omega arith in
+    rw (more, range-append 0 (n * word_bits) word_bits, zero-add (n * word_bits))
+    (seek-behind p (range 0 (n * word_bits)) (range (n * word_bits) word_bits) (zeros_before f n (λ k l. z k (omega arith)) (omega arith))
+    ∙ word_none p (n * word_bits) word_bits (sym (f.words n (omega arith)) ∙ z n (omega arith)))
 
 less-total : (row : List ℕ) (at v : ℕ) → v < get_or row at 0 → total (set row at v) < total row
 less-total [] at v h = absurd (omega arith)
@@ -112,53 +112,53 @@ less-total (x ∷ xs) zero v h = omega arith
 less-total (x ∷ xs) (suc at) v h = omega (arith, less-total xs at v h)
 
 -- One number is taken out of a row: its word is that of the set without the number.
-module _ {row : List ℕ} (at : ℕ) (h : at < rowWords) (bit v : ℕ) (b : bit < wordBits) where
-  pub one-cleared : {p : ℕ → Bool} → Flags p row → v ≡ word (without p (at * wordBits + bit)) (at * wordBits) wordBits → Flags (without p (at * wordBits + bit)) (set row at v)
-  one-cleared {p} f v-is =
+module _ {row : List ℕ} (at : ℕ) (h : at < row_words) (bit v : ℕ) (b : bit < word_bits) where
+  pub one_cleared : {p : ℕ → Bool} → Flags p row → v ≡ word (without p (at * word_bits + bit)) (at * word_bits) word_bits → Flags (without p (at * word_bits + bit)) (set row at v)
+  one_cleared {p} f v-is =
       record {
         places = length-set row at v ∙ f.places;
         words = λ k u. ⊎_elim (λ q. let is : k ≡ at = eqb-true k at q in rw is own) (λ q. other k u (eqb-false k at q)) (either (eqb k at));
-        inside = λ i t. f.inside i (and_right (not (eqb i (at * wordBits + bit))) (p i) t);
+        inside = λ i t. f.inside i (and_right (not (eqb i (at * word_bits + bit))) (p i) t);
       }
     where
-      own : get_or (set row at v) at 0 ≡ word (without p (at * wordBits + bit)) (at * wordBits) wordBits
+      own : get_or (set row at v) at 0 ≡ word (without p (at * word_bits + bit)) (at * word_bits) word_bits
       own = get_or-set_same row at v 0 (omega (arith, f.places)) ∙ v-is
 
-      other : (k : ℕ) → k < rowWords → (k ≡ at → ⊥) → get_or (set row at v) k 0 ≡ word (without p (at * wordBits + bit)) (k * wordBits) wordBits
+      other : (k : ℕ) → k < row_words → (k ≡ at → ⊥) → get_or (set row at v) k 0 ≡ word (without p (at * word_bits + bit)) (k * word_bits) word_bits
       other k u ne =
           get_or-set_other row at k v 0 ne ∙ f.words k u
-          ∙ word-ext p (without p (at * wordBits + bit)) (k * wordBits) wordBits (λ i low high. sym (ap (λ (t : Bool). not t && p i) (ne_eqb i (at * wordBits + bit) (λ e. omega arith))))
+          ∙ word-ext p (without p (at * word_bits + bit)) (k * word_bits) word_bits (λ i low high. sym (ap (λ (t : Bool). not t && p i) (ne_eqb i (at * word_bits + bit) (λ e. omega arith))))
 
-  pub less-falls : v < get_or row at 0 → Falls (At (at * wordBits + bit)) row (set row at v)
+  pub less-falls : v < get_or row at 0 → Falls (At (at * word_bits + bit)) row (set row at v)
   less-falls l =
       record {
-        inside = λ i e. let is : at * wordBits + bit ≡ i = cc in omega arith;
+        inside = λ i e. let is : at * word_bits + bit ≡ i = cc in omega arith;
         less = λ i e. less-total row at v l;
       }
 
 -- The lowest number of one word is taken out of a row.
-module _ {row : List ℕ} (at : ℕ) (h : at < rowWords) (l : 0 < get_or row at 0) (bit v : ℕ) (b : bit < wordBits) (v-is : v ≡ bit_and (get_or row at 0) (get_or row at 0 - 1)) where
-  pub lowest-falls : Falls (At (at * wordBits + bit)) row (set row at v)
+module _ {row : List ℕ} (at : ℕ) (h : at < row_words) (l : 0 < get_or row at 0) (bit v : ℕ) (b : bit < word_bits) (v-is : v ≡ bit_and (get_or row at 0) (get_or row at 0 - 1)) where
+  pub lowest-falls : Falls (At (at * word_bits + bit)) row (set row at v)
   lowest-falls = less-falls at h bit v b (omega (arith, and_le_r (get_or row at 0) (get_or row at 0 - 1)))
 
-  module _ {p : ℕ → Bool} (f : Flags p row) (bit_is : bit ≡ count_trailing_zeros wordBits (get_or row at 0)) where
-    held : get_or row at 0 ≡ word p (at * wordBits) wordBits
+  module _ {p : ℕ → Bool} (f : Flags p row) (bit_is : bit ≡ count_trailing_zeros word_bits (get_or row at 0)) where
+    held : get_or row at 0 ≡ word p (at * word_bits) word_bits
     held = f.words at h
 
-    lowest : LowestTaken p (at * wordBits) wordBits
-    lowest = word-lowest p (at * wordBits) wordBits (subst (λ (x : ℕ). 0 < x) held l)
+    lowest : LowestTaken p (at * word_bits) word_bits
+    lowest = word-lowest p (at * word_bits) word_bits (subst (λ (x : ℕ). 0 < x) held l)
 
-    bit-held : count_trailing_zeros wordBits (word p (at * wordBits) wordBits) ≡ bit
-    bit-held = sym (bit_is ∙ ap (count_trailing_zeros wordBits) held)
+    bit-held : count_trailing_zeros word_bits (word p (at * word_bits) word_bits) ≡ bit
+    bit-held = sym (bit_is ∙ ap (count_trailing_zeros word_bits) held)
 
-    pub lowest-first : seek p (range (at * wordBits) wordBits) ≡ some (at * wordBits + bit)
-    lowest-first = lowest.found ∙ ap (λ (b : ℕ). some (at * wordBits + b)) bit-held
+    pub lowest_first : seek p (range (at * word_bits) word_bits) ≡ some (at * word_bits + bit)
+    lowest_first = lowest.found ∙ ap (λ (b : ℕ). some (at * word_bits + b)) bit-held
 
-    pub lowest-rest : Flags (without p (at * wordBits + bit)) (set row at v)
+    pub lowest-rest : Flags (without p (at * word_bits + bit)) (set row at v)
     lowest-rest =
-        one-cleared at h bit v b f
+        one_cleared at h bit v b f
         (v-is ∙ ap (λ (x : ℕ). bit_and x (x - 1)) held ∙ lowest.rest
-        ∙ ap (λ (b : ℕ). word (without p (at * wordBits + b)) (at * wordBits) wordBits) bit-held)
+        ∙ ap (λ (b : ℕ). word (without p (at * word_bits + b)) (at * word_bits) word_bits) bit-held)
 
 -- an answer is not both
 pub not_at : {A : Type 0} (i : ℕ) → Nothing ≡ At i → A
@@ -173,52 +173,52 @@ pub record Passed (row₀ row : List ℕ) (at : ℕ) : Type 0 where
   pub same : row ≡ row₀
   pub zeros : (k : ℕ) → k < at → get_or row k 0 ≡ 0
 
-pub passed-before : (row : List ℕ) (from : ℕ) → NoneBefore from row → Passed row row from
-passed-before row from z = record { same = refl; zeros = z }
+pub passed_before : (row : List ℕ) (from : ℕ) → NoneBefore from row → Passed row row from
+passed_before row from z = record { same = refl; zeros = z }
 
 module _ {row₀ row : List ℕ} {at : ℕ} (w : Passed row₀ row at) where
-  pub one-passed : get_or row at 0 ≡ 0 → Passed row₀ row (at + 1)
-  one-passed e =
+  pub one_passed : get_or row at 0 ≡ 0 → Passed row₀ row (at + 1)
+  one_passed e =
       record {
         same = w.same;
         zeros = λ k h. ⊎_elim (λ q. let is : k ≡ at = eqb-true k at q in rw is e) (λ q. let ne : k ≡ at → ⊥ = eqb-false k at q in w.zeros k (omega arith)) (either (eqb k at));
       }
 
-  pub none-taken : rowWords ≤ at → (p : ℕ → Bool) → Flags p row₀ → Taken p Nothing row
-  unfolding lowestOf
-  none-taken h p g =
+  pub none_taken : row_words ≤ at → (p : ℕ → Bool) → Flags p row₀ → Taken p Nothing row
+  unfolding lowest_of
+  none_taken h p g =
       let f : Flags p row = rw w.same g in
       record {
         lowest = λ i e. not_at i e;
         rest = λ i e. not_at i e;
-        none_left = λ e. zeros-before f rowWords (λ k l. w.zeros k (omega arith)) (omega arith);
+        none_left_lem = λ e. zeros_before f row_words (λ k l. w.zeros k (omega arith)) (omega arith);
         kept = λ e. f;
       }
 
-  pub none-falls : Falls Nothing row₀ row
-  none-falls = record { inside = λ i e. not_at i e; less = λ i e. not_at i e }
+  pub none_falls : Falls Nothing row₀ row
+  none_falls = record { inside = λ i e. not_at i e; less = λ i e. not_at i e }
 
-  module _ (h : at < rowWords) (l : 0 < get_or row at 0) (bit v : ℕ) (b : bit < wordBits) (v-is : v ≡ bit_and (get_or row at 0) (get_or row at 0 - 1)) where
-    pub one-falls : Falls (At (at * wordBits + bit)) row₀ (set row at v)
-    one-falls = subst (λ (x : List ℕ). Falls (At (at * wordBits + bit)) x (set row at v)) w.same (lowest-falls at h l bit v b v-is)
+  module _ (h : at < row_words) (l : 0 < get_or row at 0) (bit v : ℕ) (b : bit < word_bits) (v-is : v ≡ bit_and (get_or row at 0) (get_or row at 0 - 1)) where
+    pub one_falls : Falls (At (at * word_bits + bit)) row₀ (set row at v)
+    one_falls = subst (λ (x : List ℕ). Falls (At (at * word_bits + bit)) x (set row at v)) w.same (lowest-falls at h l bit v b v-is)
 
-    pub before-taken : (i : ℕ) → At (at * wordBits + bit) ≡ At i → NoneBefore (i / wordBits) (set row at v)
-    before-taken i e k u =
-        let is : at * wordBits + bit ≡ i = cc in
+    pub before_taken : (i : ℕ) → At (at * word_bits + bit) ≡ At i → NoneBefore (i / word_bits) (set row at v)
+    before_taken i e k u =
+        let is : at * word_bits + bit ≡ i = cc in
         get_or-set_other row at k v 0 (λ q. omega arith) ∙ w.zeros k (omega arith)
 
-    pub one-taken : bit ≡ count_trailing_zeros wordBits (get_or row at 0) → (p : ℕ → Bool) → Flags p row₀ → Taken p (At (at * wordBits + bit)) (set row at v)
-    unfolding lowestOf
-    one-taken bit_is p g = taken (rw w.same g)
+    pub one_taken : bit ≡ count_trailing_zeros word_bits (get_or row at 0) → (p : ℕ → Bool) → Flags p row₀ → Taken p (At (at * word_bits + bit)) (set row at v)
+    unfolding lowest_of
+    one_taken bit_is p g = taken (rw w.same g)
       where
-        taken : Flags p row → Taken p (At (at * wordBits + bit)) (set row at v)
+        taken : Flags p row → Taken p (At (at * word_bits + bit)) (set row at v)
         taken f =
             record {
               lowest = λ i e. whole ∙ ap (λ (m : ℕ). some m) (same_place e);
               rest = λ i e. subst (λ (m : ℕ). Flags (without p m) (set row at v)) (same_place e) (lowest-rest at h l bit v b v-is f bit_is);
-              none_left = λ e. not_at (at * wordBits + bit) (sym e);
-              kept = λ e. not_at (at * wordBits + bit) (sym e);
+              none_left_lem = λ e. not_at (at * word_bits + bit) (sym e);
+              kept = λ e. not_at (at * word_bits + bit) (sym e);
             }
           where
-            whole : seek p (up_to maxRules) ≡ some (at * wordBits + bit)
-            whole = found-behind p (at * wordBits) wordBits (maxRules - (at * wordBits + wordBits)) maxRules (at * wordBits + bit) (omega arith) (zeros-before f at w.zeros (omega arith)) (lowest-first at h l bit v b v-is f bit_is)
+            whole : seek p (up_to max_rules) ≡ some (at * word_bits + bit)
+            whole = found_behind p (at * word_bits) word_bits (max_rules - (at * word_bits + word_bits)) max_rules (at * word_bits + bit) (omega arith) (zeros_before f at w.zeros (omega arith)) (lowest_first at h l bit v b v-is f bit_is)

@@ -32,11 +32,11 @@ odd x b = digits_mod x (digit-small b)
 once : (x : ℕ) → 1 * x ≡ x
 once x = omega arith
 
-power-half : (b : ℕ) → 2 ^ suc b / 2 ≡ 2 ^ b
-power-half b = ap (λ (x : ℕ). x / 2) (sym (once (2 ^ suc b))) ∙ shifted_half 1 b ∙ once (2 ^ b)
+power_half : (b : ℕ) → 2 ^ suc b / 2 ≡ 2 ^ b
+power_half b = ap (λ (x : ℕ). x / 2) (sym (once (2 ^ suc b))) ∙ shifted_half 1 b ∙ once (2 ^ b)
 
-power-even : (b : ℕ) → 2 ^ suc b % 2 ≡ 0
-power-even b = ap (λ (x : ℕ). x % 2) (sym (once (2 ^ suc b))) ∙ shifted_even 1 b
+power_even : (b : ℕ) → 2 ^ suc b % 2 ≡ 0
+power_even b = ap (λ (x : ℕ). x % 2) (sym (once (2 ^ suc b))) ∙ shifted_even 1 b
 
 -- Sets that agree on its numbers have the same word.
 pub word-ext : (p q : ℕ → Bool) (a n : ℕ) → ((i : ℕ) → a ≤ i → i < a + n → p i ≡ q i) → word p a n ≡ word q a n
@@ -90,7 +90,7 @@ word-marked p a (suc n) zero h =
 word-marked p a (suc n) (suc b) h =
     or_step (word p (suc a) n * 2 + digit (p a)) (2 ^ suc b)
     ∙ ap₂ (λ (x y : ℕ). bit_or x (2 ^ suc b / 2) * 2 + max y (2 ^ suc b % 2)) (half (word p (suc a) n) (p a)) (odd (word p (suc a) n) (p a))
-    ∙ ap₂ (λ (x y : ℕ). bit_or (word p (suc a) n) x * 2 + max (digit (p a)) y) (power-half b) (power-even b)
+    ∙ ap₂ (λ (x y : ℕ). bit_or (word p (suc a) n) x * 2 + max (digit (p a)) y) (power_half b) (power_even b)
     ∙ ap₂ (λ (x y : ℕ). x * 2 + y) (word-marked p (suc a) n b (omega arith) ∙ ap (λ (m : ℕ). word (adjoin p m) (suc a) n) (next a b)) (max-zero (digit (p a)) ∙ kept)
   where
     next : (a b : ℕ) → suc a + b ≡ a + suc b
@@ -119,8 +119,8 @@ unfolding word count_trailing_zeros
 word-lowest p a zero h = absurd (omega arith)
 word-lowest p a (suc n) h = go (p a) refl (word-lowest p (suc a) n)
   where
-    zeros-are : (b : Bool) → p a ≡ b → count_trailing_zeros (suc n) (word p a (suc n)) ≡ under (digit b) (count_trailing_zeros n (word p (suc a) n))
-    zeros-are b q =
+    zeros_are : (b : Bool) → p a ≡ b → count_trailing_zeros (suc n) (word p a (suc n)) ≡ under (digit b) (count_trailing_zeros n (word p (suc a) n))
+    zeros_are b q =
         ap₂ (λ (d y : ℕ). under d (count_trailing_zeros n y)) (odd (word p (suc a) n) (p a)) (half (word p (suc a) n) (p a))
         ∙ ap (λ (b : Bool). under (digit b) (count_trailing_zeros n (word p (suc a) n))) q
 
@@ -128,13 +128,13 @@ word-lowest p a (suc n) h = go (p a) refl (word-lowest p (suc a) n)
     word-is b q = ap (λ (b : Bool). word p (suc a) n * 2 + digit b) q
 
     go : (b : Bool) → p a ≡ b → (0 < word p (suc a) n → LowestTaken p (suc a) n) → LowestTaken p a (suc n)
-    go true q r = record { found = first ∙ ap (λ (m : ℕ). some m) here; rest = cleared ∙ sym (ap (λ (t : ℕ). word (without p (a + t)) a (suc n)) (zeros-are true q) ∙ left) }
+    go true q r = record { found = first ∙ ap (λ (m : ℕ). some m) here; rest = cleared ∙ sym (ap (λ (t : ℕ). word (without p (a + t)) a (suc n)) (zeros_are true q) ∙ left) }
       where
         first : seek p (range a (suc n)) ≡ some a
         first = rw (q, seek) refl
 
         here : a ≡ a + count_trailing_zeros (suc n) (word p a (suc n))
-        here = omega (arith, zeros-are true q)
+        here = omega (arith, zeros_are true q)
 
         others : (i : ℕ) → suc a ≤ i → i < suc a + n → without p (a + 0) i ≡ p i
         others i l u = ap (λ (t : Bool). not t && p i) (ne_eqb i (a + 0) (λ e. omega arith))
@@ -160,13 +160,13 @@ word-lowest p a (suc n) h = go (p a) refl (word-lowest p (suc a) n)
         later (omega arith) (r (omega arith))
       where
         later : 0 < word p (suc a) n → LowestTaken p (suc a) n → LowestTaken p a (suc n)
-        later g t = record { found = skipped ∙ t.found ∙ ap (λ (m : ℕ). some m) there; rest = cleared ∙ sym (ap (λ (t : ℕ). word (without p (a + t)) a (suc n)) (zeros-are false q) ∙ left) }
+        later g t = record { found = skipped ∙ t.found ∙ ap (λ (m : ℕ). some m) there; rest = cleared ∙ sym (ap (λ (t : ℕ). word (without p (a + t)) a (suc n)) (zeros_are false q) ∙ left) }
           where
             skipped : ◌≡◌ {A = Option ℕ} (seek p (range a (suc n))) (seek p (range (suc a) n))
             skipped = rw (q, seek) refl
 
             there : suc a + count_trailing_zeros n (word p (suc a) n) ≡ a + count_trailing_zeros (suc n) (word p a (suc n))
-            there = omega (arith, zeros-are false q)
+            there = omega (arith, zeros_are false q)
 
             next : (y : ℕ) → a + suc y ≡ suc a + y
             next y = omega arith
@@ -189,10 +189,10 @@ word-lowest p a (suc n) h = go (p a) refl (word-lowest p (suc a) n)
                 ∙ ap (λ (m : ℕ). m * 2 + 0) t.rest
 
 -- A word that is not 0 has a lowest bit among its bits.
-pub zeros-inside : (n w : ℕ) → 0 < w → w < 2 ^ n → count_trailing_zeros n w < n
+pub zeros_inside : (n w : ℕ) → 0 < w → w < 2 ^ n → count_trailing_zeros n w < n
 unfolding count_trailing_zeros
-zeros-inside zero w l h = absurd (omega arith)
-zeros-inside (suc n) w l h = go (w % 2) refl (zeros-inside n (w / 2))
+zeros_inside zero w l h = absurd (omega arith)
+zeros_inside (suc n) w l h = go (w % 2) refl (zeros_inside n (w / 2))
   where
     halved : w / 2 < 2 ^ n
     halved = let two : 0 < 2 = omega arith in (div-lt_iff_lt-mul two).1 (subst (λ (m : ℕ). w < m) (pow-suc 2 n) h)
@@ -241,10 +241,10 @@ lowest_set (suc n) x h = go (x % 2) refl (lowest_set n (x / 2)) h
     go zero e r l = r (omega arith)
     go (suc d) e r l = eq-eqb (x % 2) 1 (omega (arith, mod-lt x (zero-lt-suc 1)))
 
-pub lower-clear : (n x t : ℕ) → t < count_trailing_zeros n x → bit x t ≡ false
+pub lower_clear : (n x t : ℕ) → t < count_trailing_zeros n x → bit x t ≡ false
 unfolding count_trailing_zeros
-lower-clear zero x t h = absurd (omega arith)
-lower-clear (suc n) x t h = go (x % 2) refl (lower-clear n (x / 2)) t h
+lower_clear zero x t h = absurd (omega arith)
+lower_clear (suc n) x t h = go (x % 2) refl (lower_clear n (x / 2)) t h
   where
     go : (d : ℕ) → x % 2 ≡ d → ((t : ℕ) → t < count_trailing_zeros n (x / 2) → bit (x / 2) t ≡ false) → (t : ℕ) → t < under d (count_trailing_zeros n (x / 2)) → bit x t ≡ false
     go zero e r zero l = ap (λ (m : ℕ). eqb m 1) e
@@ -255,13 +255,13 @@ lower-clear (suc n) x t h = go (x % 2) refl (lower-clear n (x / 2)) t h
 pub upper_fits : (n from w : ℕ) → w < 2 ^ n → w / 2 ^ from * 2 ^ from % 2 ^ n ≡ w / 2 ^ from * 2 ^ from
 upper_fits n from w h = mod-eq_of_lt (lt_of_le_of_lt (div-mul-le_self w (2 ^ from)) h)
 
-pub upper-set : (from w j : ℕ) → bit (w / 2 ^ from * 2 ^ from) j ≡ true → bit w j ≡ true
-upper-set zero w j e = subst (λ (x : ℕ). bit x j ≡ true) (whole w) e
+pub upper_set : (from w j : ℕ) → bit (w / 2 ^ from * 2 ^ from) j ≡ true → bit w j ≡ true
+upper_set zero w j e = subst (λ (x : ℕ). bit x j ≡ true) (whole w) e
   where
     whole : (x : ℕ) → x / 1 * 1 ≡ x
     whole x = omega arith
-upper-set (suc k) w zero e = never e (ap (λ (m : ℕ). eqb m 1) (shifted_even (w / 2 ^ suc k) k))
-upper-set (suc k) w (suc j) e = upper-set k (w / 2) j (subst (λ (x : ℕ). bit x j ≡ true) (shifted_half (w / 2 ^ suc k) k ∙ ap (λ (m : ℕ). m * 2 ^ k) halved) e)
+upper_set (suc k) w zero e = never e (ap (λ (m : ℕ). eqb m 1) (shifted_even (w / 2 ^ suc k) k))
+upper_set (suc k) w (suc j) e = upper_set k (w / 2) j (subst (λ (x : ℕ). bit x j ≡ true) (shifted_half (w / 2 ^ suc k) k ∙ ap (λ (m : ℕ). m * 2 ^ k) halved) e)
   where
     more : (m : ℕ) → suc m ≡ 1 + m
     more m = omega arith
@@ -278,7 +278,7 @@ set-cleared w zero e =
 set-cleared w (suc b) e =
     let rest : bit_xor (w / 2) (2 ^ b) + 2 ^ b ≡ w / 2 = set-cleared (w / 2) b e in
     let twice : 2 ^ suc b ≡ 2 ^ b * 2 = pow-suc 2 b in
-    let stepped : bit_xor w (2 ^ suc b) ≡ bit_xor (w / 2) (2 ^ b) * 2 + w % 2 = xor_step w (2 ^ suc b) ∙ ap₂ (λ (x y : ℕ). bit_xor (w / 2) x * 2 + differ (w % 2) y) (power-half b) (power-even b) ∙ ap (λ (y : ℕ). bit_xor (w / 2) (2 ^ b) * 2 + y) (alone (w % 2)) in
+    let stepped : bit_xor w (2 ^ suc b) ≡ bit_xor (w / 2) (2 ^ b) * 2 + w % 2 = xor_step w (2 ^ suc b) ∙ ap₂ (λ (x y : ℕ). bit_xor (w / 2) x * 2 + differ (w % 2) y) (power_half b) (power_even b) ∙ ap (λ (y : ℕ). bit_xor (w / 2) (2 ^ b) * 2 + y) (alone (w % 2)) in
     omega (arith, div-add-mod' w 2)
   where
     alone : (x : ℕ) → differ x 0 ≡ x

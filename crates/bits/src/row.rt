@@ -1,9 +1,9 @@
 // A row of bits: one is marked, and the lowest is taken. Internal.
 ghost use Rattle.std.specs.Prelude.{ℕ, ◌/◌, ◌<◌, ◌≡◌, Bool};
 ghost use Rattle.theory.specs.Rule.{adjoin};
-ghost use Rattle.items.specs.Item.{maxRules};
+ghost use Rattle.items.specs.Item.{max_rules};
 ghost use Rattle.bits.specs.declared.row.Lowest.TheVariants.{At};
-ghost use Rattle.bits.specs.Flags.{wordBits, Flags, Taken, Picked, Falls, NoneBefore};
+ghost use Rattle.bits.specs.Flags.{word_bits, Flags, Taken, Picked, Falls, NoneBefore};
 
 use crate::word::{bits_from, lowest_bit, with_bit, without_bit, without_lowest};
 use items::item::MAX_RULES;
@@ -21,7 +21,7 @@ pub enum Lowest {
 
 // Marks a place.
 pub fn mark(row: &mut [u64; ROW_WORDS], place: usize)
-    requires { place < maxRules }
+    requires { place < max_rules }
     ensures { (p : ℕ → Bool) → Flags p row.old → Flags (adjoin p place) row.new }
 {
     let at = place / WORD_BITS;
@@ -34,7 +34,7 @@ pub fn take_from(row: &mut [u64; ROW_WORDS], from: usize) -> Lowest
     requires { NoneBefore from row.old }
     ensures falls { Falls result row.old row.new }
     ensures by_index { (p : ℕ → Bool) → Flags p row.old → Taken p result row.new }
-    ensures by_index_2 { (i : ℕ) → result ≡ At i → NoneBefore (i / wordBits) row.new }
+    ensures by_index_2 { (i : ℕ) → result ≡ At i → NoneBefore (i / word_bits) row.new }
 {
     let mut at = from;
     while at < ROW_WORDS {

@@ -10,101 +10,101 @@ use mathlib.Core.Logic.{by_cases}
 use mathlib.Core.Option.{some}
 use lib.ListN.{length}
 use lib.Pow.{pow_mono}
-use Rattle.theory.specs.Rule.{all, mem, Program, FactSet, inForce}
+use Rattle.theory.specs.Rule.{all, mem, Program, FactSet, in_force}
 use Rattle.theory.specs.Conditions.{Bounded}
 use Rattle.theory.specs.Search.{guessed, fits}
-use Rattle.theory.specs.Guesses.{bit, unlike, factAt, guessAt}
+use Rattle.theory.specs.Guesses.{bit, unlike, fact_at, guess_at}
 use Rattle.theory.proofs.Bools.{never}
 use Rattle.theory.proofs.Lists.{all-elem, all-fails}
-use Rattle.theory.proofs.Stable.{leastOf-agrees, constraint-below}
-use Rattle.theory.proofs.Search.{constraint-guessed, guessed-constraint}
-use Rattle.theory.proofs.Guesses.{guess-off, guess-at, fact-in, bit-of, hunt-first, hunt-none, fits-where, fits-apart}
-use Rattle.items.specs.Item.{narrow, maxFacts, maxGuessed, has}
-use Rattle.bits.specs.Flags.{wordBits}
+use Rattle.theory.proofs.Stable.{least_of-agrees, constraint_below}
+use Rattle.theory.proofs.Search.{constraint_guessed, guessed-constraint}
+use Rattle.theory.proofs.Guesses.{guess_off, guess-at, fact-in, bit-of, hunt-first, hunt-none, fits-where, fits-apart}
+use Rattle.items.specs.Item.{narrow, max_facts, max_guessed, has}
+use Rattle.bits.specs.Flags.{word_bits}
 use Rattle.index.specs.Literal.{outside}
 use Rattle.nogoods.specs.Nogoods.{Passed}
-use Rattle.lanes.specs.Lanes.{laneWords, laneCount, laneCells, laneIn, laneGuess}
+use Rattle.lanes.specs.Lanes.{lane_words, lane_count, lane_cells, lane_in, lane_guess}
 use Rattle.lanes.specs.Held.{BaseHeld, BlockHeld}
-use Rattle.guessing.specs.Guessing.{sureIn, RowBase, derivedBy, fitsAt, Derived}
-use Rattle.guessing.specs.First.{firstFit}
-use Rattle.blocks.specs.Find.{laneDerives, laneFits, LaneFound, Tried, PassedTo, FoundBefore, Found}
+use Rattle.guessing.specs.Guessing.{sure_in, RowBase, derived_by, fits_at, Derived}
+use Rattle.guessing.specs.First.{first_fit}
+use Rattle.blocks.specs.Find.{lane_derives, lane_fits, LaneFound, Tried, PassedTo, FoundBefore, Found}
 
 -- Beside the row every lane holds out what is held out at the base.
 pub record Beside (row base outs : List ℕ) : Type 0 where
-  pub places : length outs ≡ laneCells
-  pub held : (k w t : ℕ) → mem k row ≡ false → k < maxFacts narrow → w < laneWords → t < wordBits → laneIn outs w t k ≡ has base (outside k)
+  pub places : length outs ≡ lane_cells
+  pub held : (k w t : ℕ) → mem k row ≡ false → k < max_facts narrow → w < lane_words → t < word_bits → lane_in outs w t k ≡ has base (outside k)
 
-pub base-beside : (row : List ℕ) {base outs : List ℕ} → BaseHeld base outs → Beside row base outs
-base-beside row b = record { places = b.places; held = λ k w t m l h u. b.held k w t l h u }
+pub base_beside : (row : List ℕ) {base outs : List ℕ} → BaseHeld base outs → Beside row base outs
+base_beside row b = record { places = b.places; held = λ k w t m l h u. b.held k w t l h u }
 
-pub block-beside : {row base outs outs' : List ℕ} {c : ℕ} → Beside row base outs → BlockHeld row c outs outs' → Beside row base outs'
-block-beside b h = record { places = h.places ∙ b.places; held = λ k w t m l u v. h.others k w t m u v ∙ b.held k w t m l u v }
+pub block_beside : {row base outs outs' : List ℕ} {c : ℕ} → Beside row base outs → BlockHeld row c outs outs' → Beside row base outs'
+block_beside b h = record { places = h.places ∙ b.places; held = λ k w t m l u v. h.others k w t m u v ∙ b.held k w t m l u v }
 
 -- the number of guesses, as the code shifts it
-pub guesses-of : (places : ℕ) → places ≤ maxGuessed → (1 * 2 ^ places % 18446744073709551616 ≡ 2 ^ places) × (2 ^ places ≤ 65536)
+pub guesses-of : (places : ℕ) → places ≤ max_guessed → (1 * 2 ^ places % 18446744073709551616 ≡ 2 ^ places) × (2 ^ places ≤ 65536)
 guesses-of places l =
     let few : 2 ^ places ≤ 65536 = pow_mono {i = places} {j = 16} l in
     let one : 1 * 2 ^ places ≡ 2 ^ places = omega arith in
     (mod-eq_of_lt (omega arith) ∙ one, few)
 
-pub block_start : (P : Program) (row base : List ℕ) (from : ℕ) → Passed (fitsAt P row base) 0 from → PassedTo P row base (from / laneCount)
+pub block_start : (P : Program) (row base : List ℕ) (from : ℕ) → Passed (fits_at P row base) 0 from → PassedTo P row base (from / lane_count)
 block_start P row base from p x l h = p x l (omega arith)
 
 -- no guess of the blocks before one fits
-pub none_before : (P : Program) (row base found : List ℕ) (c end : ℕ) → length found ≡ maxFacts narrow → end ≤ c → PassedTo P row base c → FoundBefore P row base end false found
-none_before P row base found c end size l p = record { places = size; one-fits = λ e. never e refl; none-fits = λ e x a h. p x a (omega arith) }
+pub none_before : (P : Program) (row base found : List ℕ) (c end : ℕ) → length found ≡ max_facts narrow → end ≤ c → PassedTo P row base c → FoundBefore P row base end false found
+none_before P row base found c end size l p = record { places = size; one_fits = λ e. never e refl; none_fits = λ e x a h. p x a (omega arith) }
 
 -- What is found in the first part is what is found, ..
 pub found_first : {P : Program} {row base found : List ℕ} {end : ℕ} → FoundBefore P row base end true found → Found P row base true found
-found_first f = record { places = f.places; one-fits = f.one-fits; none-fits = λ e. never refl e }
+found_first f = record { places = f.places; one_fits = f.one_fits; none_fits = λ e. never refl e }
 
 -- .. and so is what is found where the blocks have all guesses.
-pub found_in : {P : Program} {row base found : List ℕ} {end : ℕ} (t : Bool) → 2 ^ length row ≤ end * laneCount → FoundBefore P row base end t found → Found P row base t found
+pub found_in : {P : Program} {row base found : List ℕ} {end : ℕ} (t : Bool) → 2 ^ length row ≤ end * lane_count → FoundBefore P row base end t found → Found P row base t found
 found_in {P} {row} {base} {found} {end} t m f =
     record {
       places = f.places;
-      one-fits = f.one-fits;
-      none-fits = λ e. hunt-none (fits P (inForce P)) row (sureIn P row base) (λ x h. f.none-fits e x (omega arith) (omega arith));
+      one_fits = f.one_fits;
+      none_fits = λ e. hunt-none (fits P (in_force P)) row (sure_in P row base) (λ x h. f.none_fits e x (omega arith) (omega arith));
     }
 
-module _ {P : Program} (bounded : Bounded P) (few : P.facts ≤ maxFacts narrow) {row base : List ℕ} (r : RowBase P row base) {before outs : List ℕ} {c : ℕ} (b : Beside row base before) (h : BlockHeld row c before outs) where
+module _ {P : Program} (bounded : Bounded P) (few : P.facts ≤ max_facts narrow) {row base : List ℕ} (r : RowBase P row base) {before outs : List ℕ} {c : ℕ} (b : Beside row base before) (h : BlockHeld row c before outs) where
   -- A lane holds out what its guess leaves out.
-  lane-agrees : (w t : ℕ) → w < laneWords → t < wordBits → (k : ℕ) → mem k (guessed P (inForce P)) ≡ true → not (laneIn outs w t k) ≡ guessAt row (sureIn P row base) (laneGuess c w t) k
-  lane-agrees w t u v k m = go (mem k row) refl
+  lane_agrees : (w t : ℕ) → w < lane_words → t < word_bits → (k : ℕ) → mem k (guessed P (in_force P)) ≡ true → not (lane_in outs w t k) ≡ guess_at row (sure_in P row base) (lane_guess c w t) k
+  lane_agrees w t u v k m = go (mem k row) refl
     where
       twice : (x : Bool) → not (not x) ≡ x
       twice true = refl
       twice false = refl
 
-      sure-is : (a x y : Bool) → a ≡ true → x ≡ false → not y ≡ a && not x && not y
-      sure-is a x y p q = rw (p, q) refl
+      sure_is : (a x y : Bool) → a ≡ true → x ≡ false → not y ≡ a && not x && not y
+      sure_is a x y p q = rw (p, q) refl
 
-      go : (x : Bool) → mem k row ≡ x → not (laneIn outs w t k) ≡ guessAt row (sureIn P row base) (laneGuess c w t) k
+      go : (x : Bool) → mem k row ≡ x → not (lane_in outs w t k) ≡ guess_at row (sure_in P row base) (lane_guess c w t) k
       go true e =
-          let j : (j : ℕ) × (j < length row) × (factAt row j ≡ k) = bit-of row k e in
-          ap (λ (f : ℕ). not (laneIn outs w t f)) (sym j.2)
+          let j : (j : ℕ) × (j < length row) × (fact_at row j ≡ k) = bit-of row k e in
+          ap (λ (f : ℕ). not (lane_in outs w t f)) (sym j.2)
           ∙ ap not (h.held b.places j.0 w t j.1 u v)
-          ∙ twice (bit (laneGuess c w t) j.0)
-          ∙ sym (guess-at row (sureIn P row base) (laneGuess c w t) j.0 r.to-guess.once r.to-guess.free j.1)
-          ∙ ap (guessAt row (sureIn P row base) (laneGuess c w t)) j.2
+          ∙ twice (bit (lane_guess c w t) j.0)
+          ∙ sym (guess-at row (sure_in P row base) (lane_guess c w t) j.0 r.to_guess.once r.to_guess.free j.1)
+          ∙ ap (guess_at row (sure_in P row base) (lane_guess c w t)) j.2
       go false e =
-          let l : k < P.facts = constraint-below P (inForce P) bounded k (guessed-constraint P (inForce P) k m) in
+          let l : k < P.facts = constraint_below P (in_force P) bounded k (guessed-constraint P (in_force P) k m) in
           ap not (h.others k w t e u v ∙ b.held k w t e (omega (arith, few)) u v)
-          ∙ sure-is (mem k (guessed P (inForce P))) (mem k row) (has base (outside k)) m e
-          ∙ sym (guess-off row (sureIn P row base) (laneGuess c w t) k e)
+          ∙ sure_is (mem k (guessed P (in_force P))) (mem k row) (has base (outside k)) m e
+          ∙ sym (guess_off row (sure_in P row base) (lane_guess c w t) k e)
 
   -- So it derives what its guess derives, ..
-  lane-derives : (w t : ℕ) → w < laneWords → t < wordBits → laneDerives P outs w t ≡ derivedBy P row base (laneGuess c w t)
+  lane-derives : (w t : ℕ) → w < lane_words → t < word_bits → lane_derives P outs w t ≡ derived_by P row base (lane_guess c w t)
   lane-derives w t u v =
-      leastOf-agrees P (inForce P) (λ k. not (laneIn outs w t k)) (guessAt row (sureIn P row base) (laneGuess c w t))
-      (λ k q. lane-agrees w t u v k (constraint-guessed P (inForce P) bounded k q))
+      least_of-agrees P (in_force P) (λ k. not (lane_in outs w t k)) (guess_at row (sure_in P row base) (lane_guess c w t))
+      (λ k q. lane_agrees w t u v k (constraint_guessed P (in_force P) bounded k q))
 
   -- .. and fits where its guess fits.
-  lane-fits : (w t : ℕ) → w < laneWords → t < wordBits → fitsAt P row base (laneGuess c w t) ≡ laneFits P row outs w t
-  lane-fits w t u v = go (laneFits P row outs w t) refl
+  lane-fits : (w t : ℕ) → w < lane_words → t < word_bits → fits_at P row base (lane_guess c w t) ≡ lane_fits P row outs w t
+  lane-fits w t u v = go (lane_fits P row outs w t) refl
     where
       Test : ℕ → Bool
-      Test k = unlike (laneDerives P outs w t k) (laneIn outs w t k)
+      Test k = unlike (lane_derives P outs w t k) (lane_in outs w t k)
 
       apart : (d x : Bool) → unlike d (not x) ≡ true → d ≡ x
       apart true true q = refl
@@ -118,54 +118,54 @@ module _ {P : Program} (bounded : Bounded P) (few : P.facts ≤ maxFacts narrow)
       alike false true q = refl
       alike false false q = never refl q
 
-      at_row : (j : ℕ) → j < length row → laneIn outs w t (factAt row j) ≡ not (bit (laneGuess c w t) j)
+      at_row : (j : ℕ) → j < length row → lane_in outs w t (fact_at row j) ≡ not (bit (lane_guess c w t) j)
       at_row j l = h.held b.places j w t l u v
 
-      derives-at : (k : ℕ) → laneDerives P outs w t k ≡ derivedBy P row base (laneGuess c w t) k
-      derives-at k = ap (λ (S : FactSet). S k) (lane-derives w t u v)
+      derives_at : (k : ℕ) → lane_derives P outs w t k ≡ derived_by P row base (lane_guess c w t) k
+      derives_at k = ap (λ (S : FactSet). S k) (lane-derives w t u v)
 
-      go : (x : Bool) → laneFits P row outs w t ≡ x → fitsAt P row base (laneGuess c w t) ≡ x
+      go : (x : Bool) → lane_fits P row outs w t ≡ x → fits_at P row base (lane_guess c w t) ≡ x
       go true e =
-          fits-where P (inForce P) row (sureIn P row base) r.to-guess (laneGuess c w t)
-          (λ j l. sym (derives-at (factAt row j)) ∙ apart (laneDerives P outs w t (factAt row j)) (bit (laneGuess c w t) j)
-          (sym (ap (unlike (laneDerives P outs w t (factAt row j))) (at_row j l)) ∙ all-elem (λ k. unlike (laneDerives P outs w t k) (laneIn outs w t k)) row e (factAt row j) (fact-in row j l)))
+          fits-where P (in_force P) row (sure_in P row base) r.to_guess (lane_guess c w t)
+          (λ j l. sym (derives_at (fact_at row j)) ∙ apart (lane_derives P outs w t (fact_at row j)) (bit (lane_guess c w t) j)
+          (sym (ap (unlike (lane_derives P outs w t (fact_at row j))) (at_row j l)) ∙ all-elem (λ k. unlike (lane_derives P outs w t k) (lane_in outs w t k)) row e (fact_at row j) (fact-in row j l)))
       go false e =
-          let (k, m, q) = all-fails (λ k. unlike (laneDerives P outs w t k) (laneIn outs w t k)) row e in
-          let j : (j : ℕ) × (j < length row) × (factAt row j ≡ k) = bit-of row k m in
-          let q' : unlike (laneDerives P outs w t (factAt row j.0)) (laneIn outs w t (factAt row j.0)) ≡ false = subst (λ (f : ℕ). unlike (laneDerives P outs w t f) (laneIn outs w t f) ≡ false) (sym j.2) q in
-          fits-apart P (inForce P) row (sureIn P row base) r.to-guess (laneGuess c w t) j.0 j.1
-          (sym (derives-at (factAt row j.0)) ∙ alike (laneDerives P outs w t (factAt row j.0)) (bit (laneGuess c w t) j.0) (sym (ap (unlike (laneDerives P outs w t (factAt row j.0))) (at_row j.0 j.1)) ∙ q'))
+          let (k, m, q) = all-fails (λ k. unlike (lane_derives P outs w t k) (lane_in outs w t k)) row e in
+          let j : (j : ℕ) × (j < length row) × (fact_at row j ≡ k) = bit-of row k m in
+          let q' : unlike (lane_derives P outs w t (fact_at row j.0)) (lane_in outs w t (fact_at row j.0)) ≡ false = subst (λ (f : ℕ). unlike (lane_derives P outs w t f) (lane_in outs w t f) ≡ false) (sym j.2) q in
+          fits-apart P (in_force P) row (sure_in P row base) r.to_guess (lane_guess c w t) j.0 j.1
+          (sym (derives_at (fact_at row j.0)) ∙ alike (lane_derives P outs w t (fact_at row j.0)) (bit (lane_guess c w t) j.0) (sym (ap (unlike (lane_derives P outs w t (fact_at row j.0))) (at_row j.0 j.1)) ∙ q'))
 
   -- Each guess of the block is that of a lane.
-  in_block : (Q : ℕ → Type 0) → ((w t : ℕ) → w < laneWords → t < wordBits → Q (laneGuess c w t)) → (x : ℕ) → c * laneCount ≤ x → x < (c + 1) * laneCount → Q x
+  in_block : (Q : ℕ → Type 0) → ((w t : ℕ) → w < lane_words → t < word_bits → Q (lane_guess c w t)) → (x : ℕ) → c * lane_count ≤ x → x < (c + 1) * lane_count → Q x
   in_block Q q x l u =
-      let is : laneGuess c (x / wordBits - c * laneWords) (x % wordBits) ≡ x = omega arith in
-      subst Q is (q (x / wordBits - c * laneWords) (x % wordBits) (omega arith) (omega arith))
+      let is : lane_guess c (x / word_bits - c * lane_words) (x % word_bits) ≡ x = omega arith in
+      subst Q is (q (x / word_bits - c * lane_words) (x % word_bits) (omega arith) (omega arith))
 
   module _ (p : PassedTo P row base c) where
     -- Where no lane fits, the block is passed.
-    pub block-passed : {found : List ℕ} → Tried P row outs false found → PassedTo P row base (c + 1)
-    block-passed t x l u =
-        by_cases (dec_lt x (c * laneCount)) (p x l)
-        (λ n. in_block (λ y. fitsAt P row base y ≡ false) (λ w s a d. lane-fits w s a d ∙ t.none-fits refl w s a d) x (omega arith) u)
+    pub block_passed : {found : List ℕ} → Tried P row outs false found → PassedTo P row base (c + 1)
+    block_passed t x l u =
+        by_cases (dec_lt x (c * lane_count)) (p x l)
+        (λ n. in_block (λ y. fits_at P row base y ≡ false) (λ w s a d. lane-fits w s a d ∙ t.none_fits refl w s a d) x (omega arith) u)
 
     -- The first lane that fits has the first guess that fits.
-    pub block-found : {found : List ℕ} (end : ℕ) → Tried P row outs true found → FoundBefore P row base end true found
-    block-found {found} end t = record { places = t.places; one-fits = λ e. (laneGuess c f.word f.lane, first, derived); none-fits = λ e. never refl e }
+    pub block_found : {found : List ℕ} (end : ℕ) → Tried P row outs true found → FoundBefore P row base end true found
+    block_found {found} end t = record { places = t.places; one_fits = λ e. (lane_guess c f.word f.lane, first, derived); none_fits = λ e. never refl e }
       where
         f : LaneFound P row outs found
-        f = t.one-fits refl
+        f = t.one_fits refl
 
-        earlier : (x : ℕ) → x < laneGuess c f.word f.lane → fitsAt P row base x ≡ false
+        earlier : (x : ℕ) → x < lane_guess c f.word f.lane → fits_at P row base x ≡ false
         earlier x l =
-            by_cases (dec_lt x (c * laneCount)) (p x (omega arith))
-            (λ n. in_block (λ y. y < laneGuess c f.word f.lane → fitsAt P row base y ≡ false)
-            (λ w s a d m. lane-fits w s a d ∙ f.none_before w s a d (omega arith)) x (omega arith) (omega (arith, f.word-inside, f.lane_inside)) l)
+            by_cases (dec_lt x (c * lane_count)) (p x (omega arith))
+            (λ n. in_block (λ y. y < lane_guess c f.word f.lane → fits_at P row base y ≡ false)
+            (λ w s a d m. lane-fits w s a d ∙ f.none_before w s a d (omega arith)) x (omega arith) (omega (arith, f.word_inside, f.lane_inside)) l)
 
-        first : firstFit P row base ≡ some (guessAt row (sureIn P row base) (laneGuess c f.word f.lane))
+        first : first_fit P row base ≡ some (guess_at row (sure_in P row base) (lane_guess c f.word f.lane))
         first =
-            hunt-first (fits P (inForce P)) row (sureIn P row base) (laneGuess c f.word f.lane)
-            (lane-fits f.word f.lane f.word-inside f.lane_inside ∙ f.fits) earlier
+            hunt-first (fits P (in_force P)) row (sure_in P row base) (lane_guess c f.word f.lane)
+            (lane-fits f.word f.lane f.word_inside f.lane_inside ∙ f.fits) earlier
 
-        derived : Derived P row base (laneGuess c f.word f.lane) found
-        derived g l = f.derives g l ∙ ap (λ (S : FactSet). S g) (lane-derives f.word f.lane f.word-inside f.lane_inside)
+        derived : Derived P row base (lane_guess c f.word f.lane) found
+        derived g l = f.derives g l ∙ ap (λ (S : FactSet). S g) (lane-derives f.word f.lane f.word_inside f.lane_inside)

@@ -9,32 +9,32 @@ use borrow.Author.Tests.{eqb-true, ltb-true, lt-ltb}
 use lib.Dec.{eqb, ltb}
 use lib.ListN.{length, get_or, take, replicate, length-take, length-replicate}
 use lib.Seq.{get_or-take}
-use Rattle.theory.specs.Rule.{all, clear, mem, Program, FactSet, Sub, nothing, inForce, count, rule, Closed}
-use Rattle.theory.specs.Check.{leastOf}
+use Rattle.theory.specs.Rule.{all, clear, mem, Program, FactSet, Sub, nothing, in_force, count, rule, Closed}
+use Rattle.theory.specs.Check.{least_of}
 use Rattle.theory.specs.Stable.{reduct}
 use Rattle.theory.proofs.Bools.{either, never, and_left, and_right, and_both, or_left, or_right, or_cases, false_of, both_ways}
-use Rattle.theory.proofs.Lists.{all-ext, all-mono, all-elem, zeros, eqb-self, getD-mem}
-use Rattle.theory.proofs.Stable.{leastOf-least, reduct-has, reduct-on, reduct-clear}
+use Rattle.theory.proofs.Lists.{all-ext, all-mono, all-elem, zeros, eqb-self, get_or-mem}
+use Rattle.theory.proofs.Stable.{least_of-least, reduct-has, reduct-on, reduct-clear}
 use Rattle.theory.proofs.NumberBits.{bit-zero}
 use Rattle.theory.specs.Guesses.{bit}
-use Rattle.bits.specs.Flags.{wordBits, Flags, without}
+use Rattle.bits.specs.Flags.{word_bits, Flags, without}
 use Rattle.premises.specs.Premises.{in_row, ripe}
-use Rattle.lanes.specs.Lanes.{laneWords, laneCells, laneIn, Fit}
+use Rattle.lanes.specs.Lanes.{lane_words, lane_cells, lane_in, Fit}
 use Rattle.blocks.specs.Order.{InOrder}
-use Rattle.blocks.specs.Settling.{firesIn, Stepped, Settled}
+use Rattle.blocks.specs.Settling.{fires_in, Stepped, Settled}
 
 -- what a lane derives in the end
-abbrev pub leastIn : Program → List ℕ → ℕ → ℕ → FactSet
-leastIn P outs w t = leastOf P (inForce P) (λ k. not (laneIn outs w t k))
+abbrev pub least_in : Program → List ℕ → ℕ → ℕ → FactSet
+least_in P outs w t = least_of P (in_force P) (λ k. not (lane_in outs w t k))
 
 -- On the way: some places wait. The rules of the others derive nothing new, and nothing is derived without grounds.
 pub record Settling (P : Program) (order : List ℕ) (names : ℕ) (outs derived pending : List ℕ) : Type 0 where
   pub waits : ℕ → Bool
   pub flags : Flags waits pending
   pub below : (k : ℕ) → waits k ≡ true → k < names
-  pub closed : (k : ℕ) → k < names → waits k ≡ false → (w t : ℕ) → w < laneWords → t < wordBits → firesIn P outs derived (get_or order k 0) w t ≡ true → laneIn derived w t (rule P (get_or order k 0)).conclusion ≡ true
-  pub sound : (w t : ℕ) → w < laneWords → t < wordBits → Sub (laneIn derived w t) (leastIn P outs w t)
-  pub places : length derived ≡ laneCells
+  pub closed : (k : ℕ) → k < names → waits k ≡ false → (w t : ℕ) → w < lane_words → t < word_bits → fires_in P outs derived (get_or order k 0) w t ≡ true → lane_in derived w t (rule P (get_or order k 0)).conclusion ≡ true
+  pub sound : (w t : ℕ) → w < lane_words → t < word_bits → Sub (lane_in derived w t) (least_in P outs w t)
+  pub places : length derived ≡ lane_cells
   pub fitting : Fit derived
 
 module _ {P : Program} {order : List ℕ} {names : ℕ} (o : InOrder P order names) where
@@ -47,41 +47,41 @@ module _ {P : Program} {order : List ℕ} {names : ℕ} (o : InOrder P order nam
   -- the rule at a place is one of the program
   pub known_at : (k : ℕ) → k < names → get_or order k 0 < count P
   known_at k h =
-      let m : mem (get_or (take names order) k 0) (take names order) ≡ true = getD-mem (take names order) k (omega (arith, row-length)) in
+      let m : mem (get_or (take names order) k 0) (take names order) ≡ true = get_or-mem (take names order) k (omega (arith, row-length)) in
       let t : ltb (get_or (take names order) k 0) (count P) ≡ true = all-elem (λ i. ltb i (count P)) (take names order) o.listed.known (get_or (take names order) k 0) m in
       ltb-true (get_or order k 0) (count P) (subst (λ (n : ℕ). ltb n (count P) ≡ true) (at_place k h) t)
 
   -- At first nothing is derived, and the places whose rules have no premise wait.
-  pub none-settled : (outs derived pending : List ℕ) → derived ≡ replicate laneCells 0 → Flags (ripe P (in_row (take names order)) nothing) pending → Settling P order names outs derived pending
-  none-settled outs derived pending e f =
+  pub none_settled : (outs derived pending : List ℕ) → derived ≡ replicate lane_cells 0 → Flags (ripe P (in_row (take names order)) nothing) pending → Settling P order names outs derived pending
+  none_settled outs derived pending e f =
       record {
         waits = ripe P (in_row (take names order)) nothing;
         flags = f;
         below = λ k t. let l : k < length (take names order) = ltb-true k _ (and_left (ltb k (length (take names order))) _ t) in omega (arith, row-length);
-        closed = λ k h q w t u v g. never (asks_nothing k h (sym (all-ext (laneIn derived w t) nothing (rule P (get_or order k 0)).premises (λ x m. out w t x)) ∙ and_left _ _ g)) q;
+        closed = λ k h q w t u v g. never (asks_nothing k h (sym (all-ext (lane_in derived w t) nothing (rule P (get_or order k 0)).premises (λ x m. out w t x)) ∙ and_left _ _ g)) q;
         sound = λ w t h l g q. never q (out w t g);
-        places = ap length e ∙ length-replicate {A = ℕ} laneCells 0;
+        places = ap length e ∙ length-replicate {A = ℕ} lane_cells 0;
         fitting = λ i. let z : get_or derived i 0 ≡ 0 = nothing-there i in omega arith;
       }
     where
       nothing-there : (i : ℕ) → get_or derived i 0 ≡ 0
-      nothing-there i = ap (λ (l : List ℕ). get_or l i 0) e ∙ zeros laneCells i
+      nothing-there i = ap (λ (l : List ℕ). get_or l i 0) e ∙ zeros lane_cells i
 
-      out : (w t g : ℕ) → laneIn derived w t g ≡ false
-      out w t g = ap (λ (n : ℕ). bit n t) (nothing-there (g * laneWords + w)) ∙ bit-zero t
+      out : (w t g : ℕ) → lane_in derived w t g ≡ false
+      out w t g = ap (λ (n : ℕ). bit n t) (nothing-there (g * lane_words + w)) ∙ bit-zero t
 
       asks_nothing : (k : ℕ) → k < names → all nothing (rule P (get_or order k 0)).premises ≡ true → ripe P (in_row (take names order)) nothing k ≡ true
       asks_nothing k h q = and_both (lt-ltb k _ (omega (arith, row-length))) (subst (λ (n : ℕ). all nothing (rule P n).premises ≡ true) (sym (at_place k h)) q)
 
   module _ {outs derived pending : List ℕ} (s : Settling P order names outs derived pending) where
     -- A place is taken, and its rule looked at.
-    pub one-settled : (place : ℕ) → s.waits place ≡ true → {pending₁ derived' pending' : List ℕ} → Stepped P (in_row (take names order)) (without s.waits place) (get_or order place 0) outs derived pending₁ derived' pending' → Settling P order names outs derived' pending'
-    one-settled place t {pending₁} {derived'} {pending'} d =
+    pub one_settled : (place : ℕ) → s.waits place ≡ true → {pending₁ derived' pending' : List ℕ} → Stepped P (in_row (take names order)) (without s.waits place) (get_or order place 0) outs derived pending₁ derived' pending' → Settling P order names outs derived' pending'
+    one_settled place t {pending₁} {derived'} {pending'} d =
         record {
           waits = d.waits;
           flags = d.flags;
           below = λ k q. ⊎_elim (λ e. s.below k (and_right (not (eqb k place)) (s.waits k) e)) (λ e. within k (d.taken k q e)) (either (without s.waits place k));
-          closed = λ k h q w l u v f. go k h w l u v (before-too k h q w l u v f) (left k q);
+          closed = λ k h q w l u v f. go k h w l u v (before_too k h q w l u v f) (left k q);
           sound = λ w l h u g q. ⊎_elim (s.sound w l h u g) (λ e. grounded w l h u g e) (or_cases _ _ (sym (d.adds w l g h u) ∙ q));
           places = d.places;
           fitting = d.fitting s.fitting;
@@ -102,34 +102,34 @@ module _ {P : Program} {order : List ℕ} {names : ℕ} (o : InOrder P order nam
             sorted false b e = inr e
 
         -- its rule fired before where it fires now
-        before-too : (k : ℕ) → k < names → d.waits k ≡ false → (w l : ℕ) → w < laneWords → l < wordBits → firesIn P outs derived' (get_or order k 0) w l ≡ true → firesIn P outs derived (get_or order k 0) w l ≡ true
-        before-too k h q w l u v f =
-            let same : all (laneIn derived' w l) (rule P (get_or order k 0)).premises ≡ all (laneIn derived w l) (rule P (get_or order k 0)).premises =
-            subst (λ (n : ℕ). all (laneIn derived' w l) (rule P n).premises ≡ all (laneIn derived w l) (rule P n).premises) (at_place k h) (d.known k (taken_at k h) q w l u v) in
-            and_both (sym same ∙ and_left _ _ f) (and_right (all (laneIn derived' w l) (rule P (get_or order k 0)).premises) _ f)
+        before_too : (k : ℕ) → k < names → d.waits k ≡ false → (w l : ℕ) → w < lane_words → l < word_bits → fires_in P outs derived' (get_or order k 0) w l ≡ true → fires_in P outs derived (get_or order k 0) w l ≡ true
+        before_too k h q w l u v f =
+            let same : all (lane_in derived' w l) (rule P (get_or order k 0)).premises ≡ all (lane_in derived w l) (rule P (get_or order k 0)).premises =
+            subst (λ (n : ℕ). all (lane_in derived' w l) (rule P n).premises ≡ all (lane_in derived w l) (rule P n).premises) (at_place k h) (d.known k (taken_at k h) q w l u v) in
+            and_both (sym same ∙ and_left _ _ f) (and_right (all (lane_in derived' w l) (rule P (get_or order k 0)).premises) _ f)
 
-        go : (k : ℕ) → k < names → (w l : ℕ) → w < laneWords → l < wordBits → firesIn P outs derived (get_or order k 0) w l ≡ true → (eqb k place ≡ true) ⊎ (s.waits k ≡ false) → laneIn derived' w l (rule P (get_or order k 0)).conclusion ≡ true
+        go : (k : ℕ) → k < names → (w l : ℕ) → w < lane_words → l < word_bits → fires_in P outs derived (get_or order k 0) w l ≡ true → (eqb k place ≡ true) ⊎ (s.waits k ≡ false) → lane_in derived' w l (rule P (get_or order k 0)).conclusion ≡ true
         go k h w l u v f (inl e) =
             let is : k ≡ place = eqb-true k place e in
-            let fires : firesIn P outs derived (get_or order place 0) w l ≡ true = subst (λ (n : ℕ). firesIn P outs derived (get_or order n 0) w l ≡ true) is f in
-            subst (λ (n : ℕ). laneIn derived' w l (rule P (get_or order n 0)).conclusion ≡ true) (sym is)
-            (d.adds w l (rule P (get_or order place 0)).conclusion u v ∙ or_right (laneIn derived w l (rule P (get_or order place 0)).conclusion) _ (and_both (eqb-self (rule P (get_or order place 0)).conclusion) fires))
+            let fires : fires_in P outs derived (get_or order place 0) w l ≡ true = subst (λ (n : ℕ). fires_in P outs derived (get_or order n 0) w l ≡ true) is f in
+            subst (λ (n : ℕ). lane_in derived' w l (rule P (get_or order n 0)).conclusion ≡ true) (sym is)
+            (d.adds w l (rule P (get_or order place 0)).conclusion u v ∙ or_right (lane_in derived w l (rule P (get_or order place 0)).conclusion) _ (and_both (eqb-self (rule P (get_or order place 0)).conclusion) fires))
         go k h w l u v f (inr e) =
-            d.adds w l (rule P (get_or order k 0)).conclusion u v ∙ or_left (laneIn derived w l (rule P (get_or order k 0)).conclusion) _ (s.closed k h e w l u v f)
+            d.adds w l (rule P (get_or order k 0)).conclusion u v ∙ or_left (lane_in derived w l (rule P (get_or order k 0)).conclusion) _ (s.closed k h e w l u v f)
 
         -- what is new has grounds
-        grounded : (w l : ℕ) → w < laneWords → l < wordBits → (g : ℕ) → eqb g (rule P (get_or order place 0)).conclusion && firesIn P outs derived (get_or order place 0) w l ≡ true → leastIn P outs w l g ≡ true
+        grounded : (w l : ℕ) → w < lane_words → l < word_bits → (g : ℕ) → eqb g (rule P (get_or order place 0)).conclusion && fires_in P outs derived (get_or order place 0) w l ≡ true → least_in P outs w l g ≡ true
         grounded w l h u g e =
             let at : place < names = s.below place t in
             let is : g ≡ (rule P (get_or order place 0)).conclusion = eqb-true g _ (and_left _ _ e) in
-            let f : firesIn P outs derived (get_or order place 0) w l ≡ true = and_right (eqb g (rule P (get_or order place 0)).conclusion) _ e in
-            subst (λ (n : ℕ). leastIn P outs w l n ≡ true) (sym is)
-            ((leastOf-least P (inForce P) (λ k. not (laneIn outs w l k))).closed (get_or order place 0) (known_at place at)
-            (reduct-has P (inForce P) (λ k. not (laneIn outs w l k)) (get_or order place 0) (o.only place at) (held-clear (rule P (get_or order place 0)).constraints (and_right (all (laneIn derived w l) (rule P (get_or order place 0)).premises) _ f)))
-            (all-mono (laneIn derived w l) (leastIn P outs w l) (rule P (get_or order place 0)).premises (s.sound w l h u) (and_left _ _ f)))
+            let f : fires_in P outs derived (get_or order place 0) w l ≡ true = and_right (eqb g (rule P (get_or order place 0)).conclusion) _ e in
+            subst (λ (n : ℕ). least_in P outs w l n ≡ true) (sym is)
+            ((least_of-least P (in_force P) (λ k. not (lane_in outs w l k))).closed (get_or order place 0) (known_at place at)
+            (reduct-has P (in_force P) (λ k. not (lane_in outs w l k)) (get_or order place 0) (o.only place at) (held-clear (rule P (get_or order place 0)).constraints (and_right (all (lane_in derived w l) (rule P (get_or order place 0)).premises) _ f)))
+            (all-mono (lane_in derived w l) (least_in P outs w l) (rule P (get_or order place 0)).premises (s.sound w l h u) (and_left _ _ f)))
           where
-            held-clear : (ks : List ℕ) → all (laneIn outs w l) ks ≡ true → clear (λ k. not (laneIn outs w l k)) ks ≡ true
-            held-clear ks q = sym (all-ext (laneIn outs w l) (λ k. not (not (laneIn outs w l k))) ks (λ k m. twice (laneIn outs w l k))) ∙ q
+            held-clear : (ks : List ℕ) → all (lane_in outs w l) ks ≡ true → clear (λ k. not (lane_in outs w l k)) ks ≡ true
+            held-clear ks q = sym (all-ext (lane_in outs w l) (λ k. not (not (lane_in outs w l k))) ks (λ k m. twice (lane_in outs w l k))) ∙ q
               where
                 twice : (b : Bool) → b ≡ not (not b)
                 twice true = refl
@@ -139,20 +139,20 @@ module _ {P : Program} {order : List ℕ} {names : ℕ} (o : InOrder P order nam
     pub all_settled : ((k : ℕ) → s.waits k ≡ false) → Settled P outs derived
     all_settled q = record { places = s.places; least = λ w t h l. fun_ext (λ f. both_ways _ _ (s.sound w t h l f) (contained w t h l f)) }
       where
-        contained : (w t : ℕ) → w < laneWords → t < wordBits → Sub (leastIn P outs w t) (laneIn derived w t)
+        contained : (w t : ℕ) → w < lane_words → t < word_bits → Sub (least_in P outs w t) (lane_in derived w t)
         contained w t h l =
-            (leastOf-least P (inForce P) (λ k. not (laneIn outs w t k))).below (laneIn derived w t) (λ f z. never z refl) kept
+            (least_of-least P (in_force P) (λ k. not (lane_in outs w t k))).below (lane_in derived w t) (λ f z. never z refl) kept
           where
-            clear-held : (ks : List ℕ) → clear (λ k. not (laneIn outs w t k)) ks ≡ true → all (laneIn outs w t) ks ≡ true
-            clear-held ks e = all-ext (laneIn outs w t) (λ k. not (not (laneIn outs w t k))) ks (λ k m. twice (laneIn outs w t k)) ∙ e
+            clear-held : (ks : List ℕ) → clear (λ k. not (lane_in outs w t k)) ks ≡ true → all (lane_in outs w t) ks ≡ true
+            clear-held ks e = all-ext (lane_in outs w t) (λ k. not (not (lane_in outs w t k))) ks (λ k m. twice (lane_in outs w t k)) ∙ e
               where
                 twice : (b : Bool) → b ≡ not (not b)
                 twice true = refl
                 twice false = refl
 
-            kept : Closed P (reduct P (inForce P) (λ k. not (laneIn outs w t k))) (laneIn derived w t)
+            kept : Closed P (reduct P (in_force P) (λ k. not (lane_in outs w t k))) (lane_in derived w t)
             kept i k r p =
-                let e : (m : ℕ) × (m < names) × (get_or order m 0 ≡ i) = o.every i k (reduct-on P (inForce P) (λ j. not (laneIn outs w t j)) i r) in
-                subst (λ (n : ℕ). laneIn derived w t (rule P n).conclusion ≡ true) e.2
+                let e : (m : ℕ) × (m < names) × (get_or order m 0 ≡ i) = o.every i k (reduct-on P (in_force P) (λ j. not (lane_in outs w t j)) i r) in
+                subst (λ (n : ℕ). lane_in derived w t (rule P n).conclusion ≡ true) e.2
                 (s.closed e.0 e.1 (q e.0) w t h l
-                (subst (λ (n : ℕ). firesIn P outs derived n w t ≡ true) (sym e.2) (and_both p (clear-held (rule P i).constraints (reduct-clear P (inForce P) (λ j. not (laneIn outs w t j)) i r)))))
+                (subst (λ (n : ℕ). fires_in P outs derived n w t ≡ true) (sym e.2) (and_both p (clear-held (rule P i).constraints (reduct-clear P (in_force P) (λ j. not (lane_in outs w t j)) i r)))))

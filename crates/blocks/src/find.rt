@@ -1,13 +1,13 @@
 // The blocks of guesses, one after another. Internal.
 ghost use Rattle.std.specs.Prelude.{◌≤◌, ◌<◌, ◌^◌, ◌*◌, ◌≡◌, true, ltb, length, take};
 ghost use Rattle.theory.specs.Rule.{all, nothing};
-ghost use Rattle.items.specs.Item.{narrow, maxFacts, maxGuessed};
-ghost use Rattle.tables.specs.Layout.{programIn, WellFormed};
+ghost use Rattle.items.specs.Item.{narrow, max_facts, max_guessed};
+ghost use Rattle.tables.specs.Layout.{program_in, WellFormed};
 ghost use Rattle.bits.specs.Flags.{Flags};
 ghost use Rattle.premises.specs.Premises.{in_row, Asked, ripe};
 ghost use Rattle.nogoods.specs.Nogoods.{guesses, Passed};
-ghost use Rattle.lanes.specs.Lanes.{laneCount, blocks};
-ghost use Rattle.guessing.specs.Guessing.{RowBase, fitsAt};
+ghost use Rattle.lanes.specs.Lanes.{lane_count, blocks};
+ghost use Rattle.guessing.specs.Guessing.{RowBase, fits_at};
 ghost use Rattle.blocks.specs.Order.{InOrder};
 ghost use Rattle.blocks.specs.Find.{Tried, PassedTo, FoundBefore, Found};
 
@@ -34,9 +34,9 @@ fn try_block(
     outs: &[u64; LANE_CELLS],
     found: &mut [u8; MAX_FACTS],
 ) -> bool
-    requires well_formed { WellFormed tables.now × InOrder (programIn tables.now) order.now names × Asked (programIn tables.now) (in_row (take names order.now)) asks.now × Flags (ripe (programIn tables.now) (in_row (take names order.now)) nothing) awake.now }
-    requires row_value { (all (λ k. ltb k (maxFacts narrow)) row.now ≡ true) × (length found.old ≡ maxFacts narrow) }
-    ensures { Tried (programIn tables.now) row.now outs.now result found.new }
+    requires well_formed { WellFormed tables.now × InOrder (program_in tables.now) order.now names × Asked (program_in tables.now) (in_row (take names order.now)) asks.now × Flags (ripe (program_in tables.now) (in_row (take names order.now)) nothing) awake.now }
+    requires row_value { (all (λ k. ltb k (max_facts narrow)) row.now ≡ true) × (length found.old ≡ max_facts narrow) }
+    ensures { Tried (program_in tables.now) row.now outs.now result found.new }
 {
     let mut derived = [0u64; LANE_CELLS];
     settle(tables, order, names, asks, awake, outs, &mut derived);
@@ -51,8 +51,8 @@ fn try_block(
 
 // How many blocks the guesses over a row have.
 fn count_blocks(places: usize) -> usize
-    requires { places ≤ maxGuessed }
-    ensures { (result ≤ blocks) × (2 ^ places ≤ result * laneCount) }
+    requires { places ≤ max_guessed }
+    ensures { (result ≤ blocks) × (2 ^ places ≤ result * lane_count) }
 {
     ((1usize << places) + (LANES - 1)) / LANES
 }
@@ -66,9 +66,9 @@ fn find_between(
     end: usize,
     found: &mut [u8; MAX_FACTS],
 ) -> bool
-    requires well_formed { WellFormed tables.now × RowBase (programIn tables.now) row.now base.now }
-    requires end_le_blocks { (end ≤ blocks) × PassedTo (programIn tables.now) row.now base.now begin × (length found.old ≡ maxFacts narrow) }
-    ensures { FoundBefore (programIn tables.now) row.now base.now end result found.new }
+    requires well_formed { WellFormed tables.now × RowBase (program_in tables.now) row.now base.now }
+    requires end_le_blocks { (end ≤ blocks) × PassedTo (program_in tables.now) row.now base.now begin × (length found.old ≡ max_facts narrow) }
+    ensures { FoundBefore (program_in tables.now) row.now base.now end result found.new }
 {
     let mut order = [0u16; MAX_RULES];
     let names = order_rules(tables, &mut order);
@@ -98,9 +98,9 @@ pub fn find(
     from: u32,
     found: &mut [u8; MAX_FACTS],
 ) -> bool
-    requires well_formed { WellFormed tables.now × RowBase (programIn tables.now) row.now base.now }
-    requires from_le_guesses { (from ≤ guesses) × Passed (fitsAt (programIn tables.now) row.now base.now) 0 from × (length found.old ≡ maxFacts narrow) }
-    ensures { Found (programIn tables.now) row.now base.now result found.new }
+    requires well_formed { WellFormed tables.now × RowBase (program_in tables.now) row.now base.now }
+    requires from_le_guesses { (from ≤ guesses) × Passed (fits_at (program_in tables.now) row.now base.now) 0 from × (length found.old ≡ max_facts narrow) }
+    ensures { Found (program_in tables.now) row.now base.now result found.new }
 {
     let end = count_blocks(row.len());
     let begin = from as usize / LANES;

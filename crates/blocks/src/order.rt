@@ -1,7 +1,7 @@
 // The order in which rules are looked at: each after rules that derive its premises, where that can be. It is for speed alone. Internal.
 ghost use Rattle.std.specs.Prelude.{◌≤◌, ◌≡◌, length};
-ghost use Rattle.items.specs.Item.{narrow, maxFacts, maxRules};
-ghost use Rattle.tables.specs.Layout.{programIn, WellFormed};
+ghost use Rattle.items.specs.Item.{narrow, max_facts, max_rules};
+ghost use Rattle.tables.specs.Layout.{program_in, WellFormed};
 ghost use Rattle.blocks.specs.Order.{InOrder, Placing, PlacedReady};
 
 use items::item::{MAX_FACTS, MAX_RULES, RuleId};
@@ -17,9 +17,9 @@ fn list_ready(
     order: &mut [u16; MAX_RULES],
     n: usize,
 ) -> usize
-    requires { WellFormed tables.now × Placing (programIn tables.now) listed.old order.old n × (length set.old ≡ maxFacts narrow) }
-    ensures placing { Placing (programIn tables.now) listed.new order.new result × (n ≤ result) × (length set.new ≡ maxFacts narrow) }
-    ensures placed_ready { PlacedReady (programIn tables.now) set.old listed.new }
+    requires { WellFormed tables.now × Placing (program_in tables.now) listed.old order.old n × (length set.old ≡ max_facts narrow) }
+    ensures placing { Placing (program_in tables.now) listed.new order.new result × (n ≤ result) × (length set.new ≡ max_facts narrow) }
+    ensures placed_ready { PlacedReady (program_in tables.now) set.old listed.new }
 {
     let rules = rules_of(tables);
     let mut n = n;
@@ -42,8 +42,8 @@ fn list_ready(
 
 // Lists the rules in force as they become ready if every constraint is held out, and behind them those that never do. Answers how many there are.
 pub fn order_rules(tables: &[u16; TABLE_CELLS], order: &mut [u16; MAX_RULES]) -> usize
-    requires { WellFormed tables.now × (length order.old ≡ maxRules) }
-    ensures { InOrder (programIn tables.now) order.new result }
+    requires { WellFormed tables.now × (length order.old ≡ max_rules) }
+    ensures { InOrder (program_in tables.now) order.new result }
 {
     let mut set = [0u8; MAX_FACTS];
     let mut listed = [0u8; MAX_RULES];

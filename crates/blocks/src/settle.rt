@@ -1,10 +1,10 @@
 // The lanes of a block are settled. Internal.
 ghost use Rattle.std.specs.Prelude.{ℕ, ◌<◌, ◌≡◌, Bool, List, length, take, replicate};
-ghost use Rattle.theory.specs.Rule.{count, nothing, rule as ruleOf};
-ghost use Rattle.tables.specs.Layout.{programIn, WellFormed};
+ghost use Rattle.theory.specs.Rule.{count, nothing, rule as rule_of};
+ghost use Rattle.tables.specs.Layout.{program_in, WellFormed};
 ghost use Rattle.bits.specs.Flags.{Flags};
 ghost use Rattle.premises.specs.Premises.{Places, in_row, Asked, ripe};
-ghost use Rattle.lanes.specs.Lanes.{laneCells};
+ghost use Rattle.lanes.specs.Lanes.{lane_cells};
 ghost use Rattle.blocks.specs.Order.{InOrder};
 ghost use Rattle.blocks.specs.Settling.{MetAll, Fired, Stepped, Settled};
 
@@ -23,8 +23,8 @@ fn meet_premises(
     derived: &[u64; LANE_CELLS],
     body: &mut [u64; LANE_WORDS],
 )
-    requires { WellFormed tables.now × (rule.0 < count (programIn tables.now)) }
-    ensures { MetAll (ruleOf (programIn tables.now) rule.0).premises derived.now body.old body.new }
+    requires { WellFormed tables.now × (rule.0 < count (program_in tables.now)) }
+    ensures { MetAll (rule_of (program_in tables.now) rule.0).premises derived.now body.old body.new }
 {
     let own = premise_span(tables, rule);
     let end = own.end;
@@ -42,8 +42,8 @@ fn meet_constraints(
     outs: &[u64; LANE_CELLS],
     body: &mut [u64; LANE_WORDS],
 )
-    requires { WellFormed tables.now × (rule.0 < count (programIn tables.now)) }
-    ensures { MetAll (ruleOf (programIn tables.now) rule.0).constraints outs.now body.old body.new }
+    requires { WellFormed tables.now × (rule.0 < count (program_in tables.now)) }
+    ensures { MetAll (rule_of (program_in tables.now) rule.0).constraints outs.now body.old body.new }
 {
     let own = constraint_span(tables, rule);
     let end = own.end;
@@ -61,8 +61,8 @@ fn fire(
     outs: &[u64; LANE_CELLS],
     derived: &mut [u64; LANE_CELLS],
 ) -> bool
-    requires { WellFormed tables.now × (rule.0 < count (programIn tables.now)) × (length derived.old ≡ laneCells) }
-    ensures { Fired (programIn tables.now) rule.0 outs.now derived.old derived.new result }
+    requires { WellFormed tables.now × (rule.0 < count (program_in tables.now)) × (length derived.old ≡ lane_cells) }
+    ensures { Fired (program_in tables.now) rule.0 outs.now derived.old derived.new result }
 {
     let mut body = [EVERY_LANE; LANE_WORDS];
     meet_premises(tables, rule, derived, &mut body);
@@ -80,8 +80,8 @@ fn step(
     derived: &mut [u64; LANE_CELLS],
     pending: &mut [u64; ROW_WORDS],
 )
-    requires { WellFormed tables.now × (rule.0 < count (programIn tables.now)) × (length derived.old ≡ laneCells) }
-    ensures { (R : Places) (p : ℕ → Bool) → Asked (programIn tables.now) R asks.now → Flags p pending.old → Stepped (programIn tables.now) R p rule.0 outs.now derived.old pending.old derived.new pending.new }
+    requires { WellFormed tables.now × (rule.0 < count (program_in tables.now)) × (length derived.old ≡ lane_cells) }
+    ensures { (R : Places) (p : ℕ → Bool) → Asked (program_in tables.now) R asks.now → Flags p pending.old → Stepped (program_in tables.now) R p rule.0 outs.now derived.old pending.old derived.new pending.new }
 {
     if fire(tables, rule, outs, derived) {
         let fact = conclusion(tables, rule);
@@ -101,9 +101,9 @@ pub fn settle(
     outs: &[u64; LANE_CELLS],
     derived: &mut [u64; LANE_CELLS],
 )
-    requires well_formed { WellFormed tables.now × InOrder (programIn tables.now) order.now names × Asked (programIn tables.now) (in_row (take names order.now)) asks.now × Flags (ripe (programIn tables.now) (in_row (take names order.now)) nothing) awake.now }
-    requires fact { ◌≡◌ {A = List ℕ} derived.old (replicate laneCells 0) }
-    ensures { Settled (programIn tables.now) outs.now derived.new }
+    requires well_formed { WellFormed tables.now × InOrder (program_in tables.now) order.now names × Asked (program_in tables.now) (in_row (take names order.now)) asks.now × Flags (ripe (program_in tables.now) (in_row (take names order.now)) nothing) awake.now }
+    requires fact { ◌≡◌ {A = List ℕ} derived.old (replicate lane_cells 0) }
+    ensures { Settled (program_in tables.now) outs.now derived.new }
 {
     let mut pending = *awake;
     let mut from: usize = 0;

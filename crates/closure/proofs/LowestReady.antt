@@ -10,25 +10,25 @@ use lib.Dec.{eqb}
 use Rattle.theory.specs.Rule.{all, Program, Mask, FactSet, Sub, count, rule}
 use Rattle.theory.specs.Derive.{ready, lowest, conclude}
 use Rattle.theory.proofs.Bools.{never, and_left, and_right, and_both, not_of_false, false_of_not, false_of}
-use Rattle.theory.proofs.Lists.{seek-number, no_number}
+use Rattle.theory.proofs.Lists.{seek-number, no_number_lem}
 use Rattle.theory.proofs.Derive.{adjoin-above, adjoin-has}
 use Rattle.items.specs.declared.item.RuleId.{RuleId}
-use Rattle.items.specs.Item.{ruleId}
+use Rattle.items.specs.Item.{rule_id}
 use Rattle.bits.specs.Flags.{without, Taken}
 use Rattle.bits.specs.declared.row.Lowest.{Lowest}
 use Rattle.bits.specs.declared.row.Lowest.TheVariants as taken
-use Rattle.bits.proofs.RowTaken.{lowest-is, none-lower, nothing_left}
+use Rattle.bits.proofs.RowTaken.{lowest-is, none_lower, nothing_left}
 use Rattle.premises.proofs.PlainRows.{plain_known}
 use Rattle.closure.specs.declared.found.Found.TheVariants.{At, Nothing}
-use Rattle.closure.specs.Steps.{foundOf}
+use Rattle.closure.specs.Steps.{found_of}
 use Rattle.closure.specs.Deriving.{Waits}
 
 -- What a search for a rule says.
-pub found_at : (o : Option ℕ) (r : RuleId) → At r ≡ foundOf o → o ≡ some r.0
+pub found_at : (o : Option ℕ) (r : RuleId) → At r ≡ found_of o → o ≡ some r.0
 found_at none r e = absurd (let z : ◌≡◌ {A = ℕ} 0 1 = cc in omega arith)
-found_at (some i) r e = let same : r ≡ ruleId i = cc in ap (λ (q : RuleId). some q.0) (sym same)
+found_at (some i) r e = let same : r ≡ rule_id i = cc in ap (λ (q : RuleId). some q.0) (sym same)
 
-pub found_nothing : (o : Option ℕ) → Nothing ≡ foundOf o → ◌≡◌ {A = Option ℕ} o none
+pub found_nothing : (o : Option ℕ) → Nothing ≡ found_of o → ◌≡◌ {A = Option ℕ} o none
 found_nothing none e = refl
 found_nothing (some i) e = absurd (let z : ◌≡◌ {A = ℕ} 0 1 = cc in omega arith)
 
@@ -39,20 +39,20 @@ module _ {P : Program} {on : Mask} {S : FactSet} {row : List ℕ} (w : Waits P o
       let both : all S (rule P i).premises && not (S (rule P i).conclusion) ≡ true = and_right (on i) _ t in
       w.waits i (and_left (on i) _ t) (and_left (all S (rule P i).premises) _ both) (false_of_not (S (rule P i).conclusion) (and_right (all S (rule P i).premises) _ both))
 
-  pub none-ready : {r : Lowest} {row' : List ℕ} → Taken w.p r row' → r ≡ taken.Nothing → Nothing ≡ foundOf (lowest P on S)
-  none-ready t e = sym (ap foundOf (no_number (ready P on S) (count P) (λ j h. false_of (ready P on S j) (λ u. never (ready-waits j u) (nothing_left w.flags (t.none_left e) j)))))
+  pub none_ready : {r : Lowest} {row' : List ℕ} → Taken w.p r row' → r ≡ taken.Nothing → Nothing ≡ found_of (lowest P on S)
+  none_ready t e = sym (ap found_of (no_number_lem (ready P on S) (count P) (λ j h. false_of (ready P on S j) (λ u. never (ready-waits j u) (nothing_left w.flags (t.none_left_lem e) j)))))
 
   -- Rule i was taken, the lowest that waits.
   module _ {r : Lowest} {row' : List ℕ} (t : Taken w.p r row') (i : ℕ) (e : r ≡ taken.At i) where
     there : w.p i ≡ true
     there = (lowest-is w.p i (t.lowest i e)).passes
 
-    pub rule-known : i < count P
-    rule-known = plain_known P i (w.sound i there).0
+    pub rule_known : i < count P
+    rule_known = plain_known P i (w.sound i there).0
 
     -- the others wait still, if the rule is not on or its conclusion is in the set
-    others-wait : (T : FactSet) → Sub S T → (on i ≡ true → T (rule P i).conclusion ≡ true) → Waits P on S T row'
-    others-wait T grows done =
+    others_wait : (T : FactSet) → Sub S T → (on i ≡ true → T (rule P i).conclusion ≡ true) → Waits P on S T row'
+    others_wait T grows done =
         record {
           p = without w.p i;
           flags = t.rest i e;
@@ -63,18 +63,18 @@ module _ {P : Program} {on : Mask} {S : FactSet} {row : List ℕ} (w : Waits P o
         other : (j : ℕ) → on j ≡ true → T (rule P j).conclusion ≡ false → j ≡ i → ⊥
         other j o out q = never (done (ap on (sym q) ∙ o)) (ap (λ (k : ℕ). T (rule P k).conclusion) (sym q) ∙ out)
 
-    pub off-passed : on i ≡ false → Waits P on S S row'
-    off-passed f = others-wait S (λ g u. u) (λ o. never o f)
+    pub off_passed : on i ≡ false → Waits P on S S row'
+    off_passed f = others_wait S (λ g u. u) (λ o. never o f)
 
     pub concluded-passed : S (rule P i).conclusion ≡ true → Waits P on S S row'
-    concluded-passed c = others-wait S (λ g u. u) (λ o. c)
+    concluded-passed c = others_wait S (λ g u. u) (λ o. c)
 
     module _ (o : on i ≡ true) (out : S (rule P i).conclusion ≡ false) where
-      pub one_found : At (ruleId i) ≡ foundOf (lowest P on S)
+      pub one_found : At (rule_id i) ≡ found_of (lowest P on S)
       one_found =
-          sym (ap foundOf (seek-number (ready P on S) (count P) i rule-known
-          (λ j h. false_of (ready P on S j) (λ u. never (ready-waits j u) (none-lower w.p i (t.lowest i e) j h)))
+          sym (ap found_of (seek-number (ready P on S) (count P) i rule_known
+          (λ j h. false_of (ready P on S j) (λ u. never (ready-waits j u) (none_lower w.p i (t.lowest i e) j h)))
           (and_both o (and_both (w.sound i there).1 (not_of_false out)))))
 
       pub one_left : Waits P on S (conclude P S i) row'
-      one_left = others-wait (conclude P S i) (adjoin-above S (rule P i).conclusion) (λ u. adjoin-has S (rule P i).conclusion)
+      one_left = others_wait (conclude P S i) (adjoin-above S (rule P i).conclusion) (λ u. adjoin-has S (rule P i).conclusion)

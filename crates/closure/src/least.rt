@@ -1,10 +1,10 @@
 // Deriving over lent marks. Internal.
 ghost use Rattle.std.specs.Prelude.{ℕ, ◌≡◌, List, length};
 ghost use Rattle.theory.specs.Derive.{lowest};
-ghost use Rattle.items.specs.Item.{narrow, maxFacts, has};
-ghost use Rattle.tables.specs.Layout.{programIn, WellFormed};
-ghost use Rattle.premises.specs.Plain.{maskIn, PlainIndexed};
-ghost use Rattle.closure.specs.Steps.{foundOf};
+ghost use Rattle.items.specs.Item.{narrow, max_facts, has};
+ghost use Rattle.tables.specs.Layout.{program_in, WellFormed};
+ghost use Rattle.premises.specs.Plain.{mask_in, PlainIndexed};
+ghost use Rattle.closure.specs.Steps.{found_of};
 ghost use Rattle.closure.specs.Room.{Room};
 ghost use Rattle.closure.specs.Deriving.{Waits, Left, Poised, Deriving, Derived, Turned};
 
@@ -27,10 +27,10 @@ fn lowest_ready(
     set: &[u8; MAX_FACTS],
     ready: &mut [u64; ROW_WORDS],
 ) -> Found
-    requires well_formed { WellFormed tables.now × PlainIndexed (programIn tables.now) index.now × (length set.now ≡ maxFacts narrow) }
-    requires waits { Waits (programIn tables.now) (maskIn index.now) (has set.now) (has set.now) ready.old }
-    ensures value { result ≡ foundOf (lowest (programIn tables.now) (maskIn index.now) (has set.now)) }
-    ensures left { Left (programIn tables.now) (maskIn index.now) (has set.now) result ready.new }
+    requires well_formed { WellFormed tables.now × PlainIndexed (program_in tables.now) index.now × (length set.now ≡ max_facts narrow) }
+    requires waits { Waits (program_in tables.now) (mask_in index.now) (has set.now) (has set.now) ready.old }
+    ensures value { result ≡ found_of (lowest (program_in tables.now) (mask_in index.now) (has set.now)) }
+    ensures left { Left (program_in tables.now) (mask_in index.now) (has set.now) result ready.new }
 {
     loop {
         match bits::row::take(ready) {
@@ -59,10 +59,10 @@ fn fire(
     fired: &mut [u16; MAX_FACTS],
     to: usize,
 ) -> Turn
-    requires well_formed { WellFormed tables.now × PlainIndexed (programIn tables.now) index.now }
-    requires room { Room (programIn tables.now) marks.old to × (length fired.old ≡ maxFacts narrow) }
-    requires poised { Poised (programIn tables.now) (maskIn index.now) (has marks.old) missing.old ready.old }
-    ensures { (marks₀ fired₀ : List ℕ) (at : ℕ) → Deriving (programIn tables.now) (maskIn index.now) marks₀ fired₀ at marks.old fired.old to → Turned (programIn tables.now) (maskIn index.now) marks₀ fired₀ at marks.old to result marks.new missing.new ready.new fired.new }
+    requires well_formed { WellFormed tables.now × PlainIndexed (program_in tables.now) index.now }
+    requires room { Room (program_in tables.now) marks.old to × (length fired.old ≡ max_facts narrow) }
+    requires poised { Poised (program_in tables.now) (mask_in index.now) (has marks.old) missing.old ready.old }
+    ensures { (marks₀ fired₀ : List ℕ) (at : ℕ) → Deriving (program_in tables.now) (mask_in index.now) marks₀ fired₀ at marks.old fired.old to → Turned (program_in tables.now) (mask_in index.now) marks₀ fired₀ at marks.old to result marks.new missing.new ready.new fired.new }
 {
     match lowest_ready(tables, index, marks, ready) {
         Found::Nothing => Turn::Done,
@@ -91,10 +91,10 @@ pub fn derive(
     fired: &mut [u16; MAX_FACTS],
     at: usize,
 ) -> Derivation
-    requires well_formed { WellFormed tables.now × PlainIndexed (programIn tables.now) index.now }
-    requires room { Room (programIn tables.now) marks.old at × (length fired.old ≡ maxFacts narrow) }
-    requires poised { Poised (programIn tables.now) (maskIn index.now) (has marks.old) missing.old ready.old }
-    ensures { Derived (programIn tables.now) (maskIn index.now) marks.old fired.old at result marks.new missing.new fired.new }
+    requires well_formed { WellFormed tables.now × PlainIndexed (program_in tables.now) index.now }
+    requires room { Room (program_in tables.now) marks.old at × (length fired.old ≡ max_facts narrow) }
+    requires poised { Poised (program_in tables.now) (mask_in index.now) (has marks.old) missing.old ready.old }
+    ensures { Derived (program_in tables.now) (mask_in index.now) marks.old fired.old at result marks.new missing.new fired.new }
 {
     let mut to = at;
     loop {

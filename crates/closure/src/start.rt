@@ -1,8 +1,8 @@
 // A derivation from any set, with an index of its own. Internal.
 ghost use Rattle.std.specs.Prelude.{◌≡◌, length};
-ghost use Rattle.items.specs.Item.{narrow, maxFacts, maxRules};
-ghost use Rattle.tables.specs.Layout.{programIn, WellFormed};
-ghost use Rattle.premises.specs.Plain.{maskIn, PlainIndexed, Zeroed, RowsAre, Masks, OnlyPlain};
+ghost use Rattle.items.specs.Item.{narrow, max_facts, max_rules};
+ghost use Rattle.tables.specs.Layout.{program_in, WellFormed};
+ghost use Rattle.premises.specs.Plain.{mask_in, PlainIndexed, Zeroed, RowsAre, Masks, OnlyPlain};
 ghost use Rattle.closure.specs.Room.{Room};
 ghost use Rattle.closure.specs.Deriving.{Derived};
 
@@ -24,12 +24,12 @@ pub fn start(
     missing: &mut [u16; MAX_RULES],
     fired: &mut [u16; MAX_FACTS],
 ) -> Derivation
-    requires well_formed { WellFormed tables.now × OnlyPlain (programIn tables.now) mask.now × Zeroed index.old }
-    requires room { Room (programIn tables.now) marks.old 0 × (length missing.old ≡ maxRules) × (length fired.old ≡ maxFacts narrow) }
-    ensures rows_are { RowsAre (programIn tables.now) index.new }
-    ensures plain_indexed { PlainIndexed (programIn tables.now) index.new }
+    requires well_formed { WellFormed tables.now × OnlyPlain (program_in tables.now) mask.now × Zeroed index.old }
+    requires room { Room (program_in tables.now) marks.old 0 × (length missing.old ≡ max_rules) × (length fired.old ≡ max_facts narrow) }
+    ensures rows_are { RowsAre (program_in tables.now) index.new }
+    ensures plain_indexed { PlainIndexed (program_in tables.now) index.new }
     ensures masks { Masks mask.now index.new }
-    ensures derived { Derived (programIn tables.now) (maskIn index.new) marks.old fired.old 0 result marks.new missing.new fired.new }
+    ensures derived { Derived (program_in tables.now) (mask_in index.new) marks.old fired.old 0 result marks.new missing.new fired.new }
 {
     let mut ready = [0u64; ROW_WORDS];
     index_plain(tables, mask, index, missing, &mut ready);

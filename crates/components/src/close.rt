@@ -1,8 +1,8 @@
 // Components that are closed. Internal.
 ghost use Rattle.std.specs.Prelude.{ℕ, ◌<◌, ◌≤◌, ◌≡◌, length};
-ghost use Rattle.theory.specs.Places.{rankIn};
-ghost use Rattle.items.specs.Item.{narrow, maxFacts};
-ghost use Rattle.components.specs.Open.{factAt, ClosedFrom};
+ghost use Rattle.theory.specs.Places.{rank_in};
+ghost use Rattle.items.specs.Item.{narrow, max_facts};
+ghost use Rattle.components.specs.Open.{fact_at, ClosedFrom};
 
 use crate::look::CLOSED;
 use crate::open::fact_at;
@@ -10,9 +10,9 @@ use items::item::MAX_FACTS;
 
 // The highest rank of the facts from one place of the stack up to another.
 fn highest_rank(stack: &[u16; MAX_FACTS], ranks: &[u16; MAX_FACTS], from: usize, to: usize) -> u16
-    requires { (from < to) × (to ≤ maxFacts narrow) }
-    ensures by_index { (a : ℕ) × ((from ≤ a) × ((a < to) × (result ≡ rankIn ranks.now (factAt stack.now a)))) }
-    ensures by_index_2 { (a : ℕ) → from ≤ a → a < to → rankIn ranks.now (factAt stack.now a) ≤ result }
+    requires { (from < to) × (to ≤ max_facts narrow) }
+    ensures by_index { (a : ℕ) × ((from ≤ a) × ((a < to) × (result ≡ rank_in ranks.now (fact_at stack.now a)))) }
+    ensures by_index_2 { (a : ℕ) → from ≤ a → a < to → rank_in ranks.now (fact_at stack.now a) ≤ result }
 {
     let mut high = ranks[fact_at(stack, from)];
     let mut a = from + 1;
@@ -34,8 +34,8 @@ pub fn close_from(
     from: usize,
     to: usize,
 )
-    requires from_lt_to { (from < to) × (to ≤ maxFacts narrow) }
-    requires seen_len { (length seen.old ≡ maxFacts narrow) × (length ranks.old ≡ maxFacts narrow) }
+    requires from_lt_to { (from < to) × (to ≤ max_facts narrow) }
+    requires seen_len { (length seen.old ≡ max_facts narrow) × (length ranks.old ≡ max_facts narrow) }
     ensures { ClosedFrom stack.now from to seen.old ranks.old seen.new ranks.new }
 {
     let high = highest_rank(stack, ranks, from, to);

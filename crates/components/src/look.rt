@@ -1,7 +1,7 @@
 // What a rule of an open fact says. Internal.
 ghost use Rattle.std.specs.Prelude.{◌<◌, ◌≡◌, true, false};
-ghost use Rattle.theory.specs.Rule.{count, inForce};
-ghost use Rattle.tables.specs.Layout.{programIn, WellFormed};
+ghost use Rattle.theory.specs.Rule.{count, in_force};
+ghost use Rattle.tables.specs.Layout.{program_in, WellFormed};
 ghost use Rattle.tables.specs.Ranking.{RanksSoFar};
 ghost use Rattle.components.specs.Look.{PartFinds, LookFinds};
 
@@ -36,10 +36,10 @@ fn look_at_premises(
     seen: &[u16; MAX_FACTS],
     ranks: &[u16; MAX_FACTS],
 ) -> Look
-    requires well_formed { WellFormed tables.now × (rule.0 < count (programIn tables.now)) }
-    requires ranks_so_far { RanksSoFar (programIn tables.now) ranks.now }
-    requires rule_value { inForce (programIn tables.now) rule.0 ≡ true }
-    ensures { PartFinds (programIn tables.now) rule.0 false seen.now ranks.now result }
+    requires well_formed { WellFormed tables.now × (rule.0 < count (program_in tables.now)) }
+    requires ranks_so_far { RanksSoFar (program_in tables.now) ranks.now }
+    requires rule_value { in_force (program_in tables.now) rule.0 ≡ true }
+    ensures { PartFinds (program_in tables.now) rule.0 false seen.now ranks.now result }
 {
     let own = premise_span(tables, rule);
     let end = own.end;
@@ -76,10 +76,10 @@ fn look_at_constraints(
     seen: &[u16; MAX_FACTS],
     ranks: &[u16; MAX_FACTS],
 ) -> Look
-    requires well_formed { WellFormed tables.now × (rule.0 < count (programIn tables.now)) }
-    requires ranks_so_far { RanksSoFar (programIn tables.now) ranks.now }
-    requires rule_value { inForce (programIn tables.now) rule.0 ≡ true }
-    ensures { PartFinds (programIn tables.now) rule.0 true seen.now ranks.now result }
+    requires well_formed { WellFormed tables.now × (rule.0 < count (program_in tables.now)) }
+    requires ranks_so_far { RanksSoFar (program_in tables.now) ranks.now }
+    requires rule_value { in_force (program_in tables.now) rule.0 ≡ true }
+    ensures { PartFinds (program_in tables.now) rule.0 true seen.now ranks.now result }
 {
     let own = constraint_span(tables, rule);
     let end = own.end;
@@ -112,10 +112,10 @@ pub fn look_at_rule(
     seen: &[u16; MAX_FACTS],
     ranks: &[u16; MAX_FACTS],
 ) -> Look
-    requires well_formed { WellFormed tables.now × (rule.0 < count (programIn tables.now)) }
-    requires ranks_so_far { RanksSoFar (programIn tables.now) ranks.now }
-    requires rule_value { inForce (programIn tables.now) rule.0 ≡ true }
-    ensures { LookFinds (programIn tables.now) rule.0 seen.now ranks.now result }
+    requires well_formed { WellFormed tables.now × (rule.0 < count (program_in tables.now)) }
+    requires ranks_so_far { RanksSoFar (program_in tables.now) ranks.now }
+    requires rule_value { in_force (program_in tables.now) rule.0 ≡ true }
+    ensures { LookFinds (program_in tables.now) rule.0 seen.now ranks.now result }
 {
     match look_at_premises(tables, rule, seen, ranks) {
         Look::Unmet(fact, barring) => Look::Unmet(fact, barring),

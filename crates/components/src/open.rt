@@ -1,8 +1,8 @@
 // Open facts and roots. Internal.
 ghost use Rattle.std.specs.Prelude.{◌<◌, ◌≤◌, ◌≡◌, length};
-ghost use Rattle.items.specs.Item.{narrow, maxFacts};
+ghost use Rattle.items.specs.Item.{narrow, max_facts};
 ghost use Rattle.theory.specs.Rule.{Program};
-ghost use Rattle.components.specs.Open.{unmet, seenOf, factAt, openerAt, rootPlace, rootBarred, Walking, Current, MayOpen, Opened, Merges};
+ghost use Rattle.components.specs.Open.{unmet, seen_of, fact_at, opener_at, root_place, root_barred, Walking, Current, MayOpen, Opened, Merges};
 
 use items::item::{FactId, MAX_FACTS};
 use tables::layout::wide;
@@ -22,9 +22,9 @@ pub fn open_fact(
     fact: FactId,
     barring: bool,
 )
-    requires seen_len { (length seen.old ≡ maxFacts narrow) × (length stack.old ≡ maxFacts narrow) × (length roots.old ≡ maxFacts narrow) }
-    requires height_bound { (height < maxFacts narrow) × (count ≤ height) × (opener < maxFacts narrow) × (fact.0 < maxFacts narrow) }
-    ensures { (P : Program) → Walking P seen.old stack.old roots.old height count → (0 < height → Current roots.old height count opener) → fact.0 < P.facts → seenOf seen.old fact.0 ≡ unmet → MayOpen P stack.old height fact.0 barring → Opened P seen.old stack.old roots.old height count opener fact.0 seen.new stack.new roots.new }
+    requires seen_len { (length seen.old ≡ max_facts narrow) × (length stack.old ≡ max_facts narrow) × (length roots.old ≡ max_facts narrow) }
+    requires height_bound { (height < max_facts narrow) × (count ≤ height) × (opener < max_facts narrow) × (fact.0 < max_facts narrow) }
+    ensures { (P : Program) → Walking P seen.old stack.old roots.old height count → (0 < height → Current roots.old height count opener) → fact.0 < P.facts → seen_of seen.old fact.0 ≡ unmet → MayOpen P stack.old height fact.0 barring → Opened P seen.old stack.old roots.old height count opener fact.0 seen.new stack.new roots.new }
 {
     seen[fact.0 as usize] = height as u16;
     stack[height] = (fact.0 as usize + MAX_FACTS * opener) as u16;
@@ -37,24 +37,24 @@ pub fn open_fact(
 
 // The fact at a place of the stack.
 pub fn fact_at(stack: &[u16; MAX_FACTS], at: usize) -> usize
-    requires { at < maxFacts narrow }
-    ensures { (result ≡ factAt stack.now at) × (result < maxFacts narrow) }
+    requires { at < max_facts narrow }
+    ensures { (result ≡ fact_at stack.now at) × (result < max_facts narrow) }
 {
     wide(stack[at]) % MAX_FACTS
 }
 
 // The place of the fact that opened it.
 pub fn opener_at(stack: &[u16; MAX_FACTS], at: usize) -> usize
-    requires { at < maxFacts narrow }
-    ensures { result ≡ openerAt stack.now at }
+    requires { at < max_facts narrow }
+    ensures { result ≡ opener_at stack.now at }
 {
     wide(stack[at]) / MAX_FACTS
 }
 
 // The place of a root.
 pub fn root_place(roots: &[u16; MAX_FACTS], root: usize) -> usize
-    requires { root < maxFacts narrow }
-    ensures { result ≡ rootPlace roots.now root }
+    requires { root < max_facts narrow }
+    ensures { result ≡ root_place roots.now root }
 {
     let cell = roots[root];
     if cell < BARRED {
@@ -65,8 +65,8 @@ pub fn root_place(roots: &[u16; MAX_FACTS], root: usize) -> usize
 
 // Was it met by a constraint?
 fn is_barred(roots: &[u16; MAX_FACTS], root: usize) -> bool
-    requires { root < maxFacts narrow }
-    ensures { result ≡ rootBarred roots.now root }
+    requires { root < max_facts narrow }
+    ensures { result ≡ root_barred roots.now root }
 {
     roots[root] >= BARRED
 }
@@ -80,7 +80,7 @@ pub enum Merge {
 
 // The roots behind a place go: what stands there is one component with what stands at the place.
 pub fn merge_roots(roots: &[u16; MAX_FACTS], count: usize, low: u16) -> Merge
-    requires { (count ≤ maxFacts narrow) × (length roots.now ≡ maxFacts narrow) }
+    requires { (count ≤ max_facts narrow) × (length roots.now ≡ max_facts narrow) }
     ensures { Merges roots.now count low result }
 {
     let mut left = count;

@@ -13,44 +13,44 @@ use Rattle.cursors.specs.declared.cursor.Fault.{Fault}
 use Rattle.cursors.specs.declared.cursor.Fault.TheVariants.{NoByte, OtherKind, ShortBody}
 use Rattle.cursors.specs.declared.cursor.Cursor.{Cursor}
 use Rattle.cursors.specs.declared.cursor.Read.TheVariants.{Found}
-use Rattle.items.specs.Question.{firstNo}
-use Rattle.items.specs.Item.{narrow, Width, opensKind, premiseKind, constraintKind, rulesKind, unreadKind, bodyLength, item_of}
-use Rattle.cursors.specs.Cursor.{bad, placeQuestions, stayed, width_in, ofRow, rowAfter, next_at}
+use Rattle.items.specs.Question.{first_no}
+use Rattle.items.specs.Item.{narrow, Width, opens_kind, premise_kind, constraint_kind, rules_kind, unread_kind, body_length, item_of}
+use Rattle.cursors.specs.Cursor.{bad, place_questions, stayed, width_in, of_row, row_after, next_at}
 use Rattle.cursors.proofs.EachKind.{all-narrow}
-use Rattle.cursors.proofs.CursorWays.{no_byte, other-kind, short-body, whole_item}
+use Rattle.cursors.proofs.CursorWays.{no_byte, other-kind, short_body, whole_item}
 
 -- The kinds that are not of a file's body: none of the five is.
-not-in-body : (k : ℕ) → (k ≡ opensKind narrow → ⊥) → (k ≡ premiseKind narrow → ⊥) → (k ≡ constraintKind narrow → ⊥) → (k ≡ rulesKind → ⊥) → (k ≡ unreadKind narrow → ⊥) → ofRow Body k ≡ false
-not-in-body k o p q r u = rw (ne_eqb k (opensKind narrow) o, ne_eqb k (premiseKind narrow) p, ne_eqb k (constraintKind narrow) q, ne_eqb k rulesKind r, ne_eqb k (unreadKind narrow) u)
+not-in_body : (k : ℕ) → (k ≡ opens_kind narrow → ⊥) → (k ≡ premise_kind narrow → ⊥) → (k ≡ constraint_kind narrow → ⊥) → (k ≡ rules_kind → ⊥) → (k ≡ unread_kind narrow → ⊥) → of_row Body k ≡ false
+not-in_body k o p q r u = rw (ne_eqb k (opens_kind narrow) o, ne_eqb k (premise_kind narrow) p, ne_eqb k (constraint_kind narrow) q, ne_eqb k rules_kind r, ne_eqb k (unread_kind narrow) u)
 
 -- Past the kinds of a rule's items there are the last item's and an unread fact's alone, and among them are those of three items.
-pub past-rule-kinds : (k : ℕ) → constraintKind narrow < k → (k ≡ rulesKind → ⊥) → (k ≡ unreadKind narrow → ⊥) → ofRow Body k ≡ false
-past-rule-kinds k h r u = not-in-body k (λ e. omega arith) (λ e. omega arith) (λ e. omega arith) r u
+pub past-rule_kinds : (k : ℕ) → constraint_kind narrow < k → (k ≡ rules_kind → ⊥) → (k ≡ unread_kind narrow → ⊥) → of_row Body k ≡ false
+past-rule_kinds k h r u = not-in_body k (λ e. omega arith) (λ e. omega arith) (λ e. omega arith) r u
 
-pub no-rule-kind : (k : ℕ) → k ≤ constraintKind narrow → (k ≡ opensKind narrow → ⊥) → (k ≡ premiseKind narrow → ⊥) → (k ≡ constraintKind narrow → ⊥) → ofRow Body k ≡ false
-no-rule-kind k h o p q = not-in-body k o p q (λ e. omega arith) (λ e. omega arith)
+pub no-rule_kind : (k : ℕ) → k ≤ constraint_kind narrow → (k ≡ opens_kind narrow → ⊥) → (k ≡ premise_kind narrow → ⊥) → (k ≡ constraint_kind narrow → ⊥) → of_row Body k ≡ false
+no-rule_kind k h o p q = not-in_body k o p q (λ e. omega arith) (λ e. omega arith)
 
 module _ (s : List ℕ) (c : Cursor) (row : Row) (known : c.row ≡ row) where
-  stays : (fault : Fault) → next_at s c ≡ stayed (firstNo (placeQuestions c.row (bad fault))) c → stayed (firstNo (placeQuestions row (bad fault))) c ≡ next_at s c
-  stays fault e = sym (e ∙ ap (λ (r : Row). stayed (firstNo (placeQuestions r (bad fault))) c) known)
+  stays : (fault : Fault) → next_at s c ≡ stayed (first_no (place_questions c.row (bad fault))) c → stayed (first_no (place_questions row (bad fault))) c ≡ next_at s c
+  stays fault e = sym (e ∙ ap (λ (r : Row). stayed (first_no (place_questions r (bad fault))) c) known)
 
-  pub nothing-there : length s ≤ c.at → stayed (firstNo (placeQuestions row (bad NoByte))) c ≡ next_at s c
+  pub nothing-there : length s ≤ c.at → stayed (first_no (place_questions row (bad NoByte))) c ≡ next_at s c
   nothing-there h = stays NoByte (no_byte s c h)
 
   module _ (more : c.at < length s) where
-    pub unlike : ofRow row (get_or s c.at 0) ≡ false → stayed (firstNo (placeQuestions row (bad OtherKind))) c ≡ next_at s c
+    pub unlike : of_row row (get_or s c.at 0) ≡ false → stayed (first_no (place_questions row (bad OtherKind))) c ≡ next_at s c
     unlike h = stays OtherKind (other-kind s c more (rw known h))
 
     -- a kind of the row, with the length of its body
-    module _ (k n : ℕ) (kind : get_or s c.at 0 ≡ k) (ours : ofRow row k ≡ true) (looked : n ≡ bodyLength narrow k) where
-      width : bodyLength (width_in row) k ≡ n
-      width = ap (λ (w : Width). bodyLength w k) (all-narrow row) ∙ sym looked
+    module _ (k n : ℕ) (kind : get_or s c.at 0 ≡ k) (ours : of_row row k ≡ true) (looked : n ≡ body_length narrow k) where
+      width : body_length (width_in row) k ≡ n
+      width = ap (λ (w : Width). body_length w k) (all-narrow row) ∙ sym looked
 
-      pub short : length s - (c.at + 1) < n → stayed (firstNo (placeQuestions row (bad ShortBody))) c ≡ next_at s c
-      short h = stays ShortBody (short-body s c more (rw (known, kind) ours) (rw (kind, known, width) h))
+      pub short : length s - (c.at + 1) < n → stayed (first_no (place_questions row (bad ShortBody))) c ≡ next_at s c
+      short h = stays ShortBody (short_body s c more (rw (known, kind) ours) (rw (kind, known, width) h))
 
-      pub whole : n ≤ length s - (c.at + 1) → (i : Item) → i ≡ item_of narrow k (take (bodyLength narrow k) (drop (c.at + 1) s)) → (next : Row) → next ≡ rowAfter row → Found i (record { at = c.at + 1 + n; row = next }) ≡ next_at s c
+      pub whole : n ≤ length s - (c.at + 1) → (i : Item) → i ≡ item_of narrow k (take (body_length narrow k) (drop (c.at + 1) s)) → (next : Row) → next ≡ row_after row → Found i (record { at = c.at + 1 + n; row = next }) ≡ next_at s c
       whole h i e next q =
-          let found : next_at s c ≡ Found (item_of narrow k (take n (drop (c.at + 1) s))) (record { at = c.at + 1 + n; row = rowAfter c.row }) =
+          let found : next_at s c ≡ Found (item_of narrow k (take n (drop (c.at + 1) s))) (record { at = c.at + 1 + n; row = row_after c.row }) =
           rw (kind, ap width_in known, width, all-narrow row) at (whole_item s c more (rw (known, kind) ours) (rw (kind, known, width) h)) in
-          sym (found ∙ ap₂ (λ (j : Item) (r : Row). Found j (record { at = c.at + 1 + n; row = r })) (sym (rw (← looked) at e)) (ap rowAfter known ∙ sym q))
+          sym (found ∙ ap₂ (λ (j : Item) (r : Row). Found j (record { at = c.at + 1 + n; row = r })) (sym (rw (← looked) at e)) (ap row_after known ∙ sym q))

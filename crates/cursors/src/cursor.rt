@@ -1,7 +1,7 @@
 ghost use Rattle.std.specs.Prelude.{◌≡◌, true, ℕ, ◌<◌, length, get_or, eqb};
-ghost use Rattle.items.specs.Question.{firstNo};
+ghost use Rattle.items.specs.Question.{first_no};
 ghost use Rattle.cursors.specs.declared.cursor.Row.TheVariants.{Opening, Body, Order, Steps};
-ghost use Rattle.cursors.specs.Cursor.{bad, placeQuestions, stayed, ofRow, rowAfter, next_at, ReadNumbers};
+ghost use Rattle.cursors.specs.Cursor.{bad, place_questions, stayed, of_row, row_after, next_at, ReadNumbers};
 
 use items::item::{
     CONSTRAINT_KIND, FACTS_KIND, Item, KIND_BYTES, NAMES_KIND, OPENS_KIND, PREMISE_KIND,
@@ -47,7 +47,7 @@ pub enum Read {
 
 // The read where no item stands.
 fn stay(row: Row, fault: Fault, here: Cursor) -> Read
-    ensures { result ≡ stayed (firstNo (placeQuestions row (bad fault))) here }
+    ensures { result ≡ stayed (first_no (place_questions row (bad fault))) here }
 {
     match row {
         Row::Opening => Read::Refused(Refusal::NoFactCount, here),
@@ -71,7 +71,7 @@ fn stay(row: Row, fault: Fault, here: Cursor) -> Read
 
 // The row of the next item: the body of a file follows its opening.
 fn row_after(row: Row) -> Row
-    ensures { result ≡ rowAfter row }
+    ensures { result ≡ row_after row }
 {
     match row {
         Row::Opening => Row::Body,
@@ -83,7 +83,7 @@ fn row_after(row: Row) -> Row
 
 // The read of an item whose kind is of the row. Each call writes the kind out, so that the compiler looks its length up and no loop has to.
 fn read_kind(row: Row, kind: u8, bytes: &[u8], here: Cursor) -> Read
-    requires { (here.row ≡ row) × (here.at < length bytes.now) × (get_or bytes.now here.at 0 ≡ kind) × (ofRow row kind ≡ true) }
+    requires { (here.row ≡ row) × (here.at < length bytes.now) × (get_or bytes.now here.at 0 ≡ kind) × (of_row row kind ≡ true) }
     ensures { result ≡ next_at bytes.now here }
 {
     let body = here.at + KIND_BYTES;
@@ -103,7 +103,7 @@ fn read_kind(row: Row, kind: u8, bytes: &[u8], here: Cursor) -> Read
 
 // The read in a row that has items of this kind only.
 fn read_only(row: Row, kind: u8, bytes: &[u8], here: Cursor) -> Read
-    requires { (here.row ≡ row) × ((k : ℕ) → ofRow row k ≡ eqb k kind) }
+    requires { (here.row ≡ row) × ((k : ℕ) → of_row row k ≡ eqb k kind) }
     ensures { result ≡ next_at bytes.now here }
 {
     let at = here.at;

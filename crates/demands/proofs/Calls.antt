@@ -4,235 +4,235 @@ use mathlib.Core.Path.{◌≡◌, refl, ap, ◌∙◌}
 use mathlib.Core.Bool.{Bool, true, false, cond}
 use mathlib.Core.List.{List}
 use lib.ListN.{length}
-use Rattle.theory.specs.Rule.{inForce, count, exception}
-use Rattle.theory.specs.Check.{isStable, isProof}
-use Rattle.items.specs.Question.{Question, noNumber}
+use Rattle.theory.specs.Rule.{in_force, count, exception}
+use Rattle.theory.specs.Check.{is_stable, is_proof}
+use Rattle.items.specs.Question.{Question, no_number}
 use Rattle.reader.specs.Questions.{program_of}
-use Rattle.reader.specs.Accept.{acceptOf}
+use Rattle.reader.specs.Accept.{accept_of}
 use Rattle.items.specs.Item.{has}
-use Rattle.questions.specs.Questions.{row_of, listQuestions, orderQuestions, setQuestions, rowQuestions, askListQuestions, askOrderQuestions, askSetQuestions, askRowQuestions}
-use Rattle.run.specs.Outcome.{runOutcome, runWritten}
-use Rattle.keeping.specs.Outcome.{groundsOutcome, groundsWritten}
+use Rattle.questions.specs.Questions.{row_of, list_questions, order_questions, set_questions, row_questions, ask_list_questions, ask_order_questions, ask_set_questions, ask_row_questions}
+use Rattle.run.specs.Outcome.{run_outcome, run_written}
+use Rattle.keeping.specs.Outcome.{grounds_outcome, grounds_written}
 use Rattle.judge.specs.declared.answer.Judged.TheVariants.{Stable, NotStable}
-use Rattle.judge.specs.Judged.{unlisted, judged, judgedNumber}
+use Rattle.judge.specs.Judged.{unlisted, judged, judged_number}
 use Rattle.proofcheck.specs.declared.answer.Checked.TheVariants.{Yes, No}
-use Rattle.proofcheck.specs.Checked.{checked, checkedNumber}
-use Rattle.search.specs.Outcome.{searchOutcome, searchWritten}
-use Rattle.layers.specs.Outcome.{layeredOutcome, orderedBy}
+use Rattle.proofcheck.specs.Checked.{checked, checked_number}
+use Rattle.search.specs.Outcome.{search_outcome, search_written}
+use Rattle.layers.specs.Outcome.{layered_outcome, ordered_by}
 use Rattle.better.specs.Outcome.{choice_of}
-use Rattle.better.proofs.Chosen.{choice-means, none-handed}
-use Rattle.generator.specs.Outcome.{loadOutcome, loadWritten}
-use Rattle.replies.specs.Reply.{fileOf, countsOfRan, countsOfSearched, verdictOfJudged, verdictOfChecked, runReply, searchReply, countOfGrounds, groundsReply, countOfLayered, layeredReply, countOfLoaded, loadReply, replyOfChoice}
+use Rattle.better.proofs.Chosen.{choice-means, none_handed}
+use Rattle.generator.specs.Outcome.{load_outcome, load_written}
+use Rattle.replies.specs.Reply.{file_of, counts_of_ran, counts_of_searched, verdict_of_judged, verdict_of_checked, run_reply, search_reply, count_of_grounds, grounds_reply, count_of_layered, layered_reply, count_of_loaded, load_reply, reply_of_choice}
 use Rattle.demands.specs.Demands.{Demand1}
-use Rattle.demands.specs.Calls.{RefusesExactly, listNumbers, orderNumbers, setNumbers, rowNumbers, acceptCall, askCall, askListCall, askOrderCall, askSetCall, askRowCall, runCall, groundsCall, judgeCall, checkCall, searchCall, layeredCall, chooseCall, betterCall, loadCall}
-use Rattle.demands.specs.RetentionCalls.{retentionAcceptCall, retentionRunCall, retentionGroundsCall, retentionJudgeCall, retentionCheckCall, retentionSearchCall, retentionLayeredCall, retentionBetterCall, retentionLoadCall}
-use Rattle.demands.proofs.RefusesExactly.{Own, refuses-exactly}
-use Rattle.demands.proofs.OwnNumbers.{file-own, after-file, list-own, order-own, set_own, row-own, run-own, grounds-own, judge-own, check-own, search-own, layered-own, better-own, load-own}
-use Rattle.demands.proofs.CursorNext.{next-exactly, next-stays}
-use Rattle.demands.proofs.PanelShows.{panel-shows, grounds-show, rendered}
+use Rattle.demands.specs.Calls.{RefusesExactly, list_numbers, order_numbers, set_numbers, row_numbers, accept_call, ask_call, ask_list_call, ask_order_call, ask_set_call, ask_row_call, run_call, grounds_call, judge_call, check_call, search_call, layered_call, choose_call, better_call, load_call}
+use Rattle.demands.specs.RetentionCalls.{retention_accept_call, retention_run_call, retention_grounds_call, retention_judge_call, retention_check_call, retention_search_call, retention_layered_call, retention_better_call, retention_load_call}
+use Rattle.demands.proofs.RefusesExactly.{Own, refuses_exactly}
+use Rattle.demands.proofs.OwnNumbers.{file_own, after-file, list_own, order-own, set_own, row-own, run-own, grounds_own, judge_own, check_own, search-own, layered_own, better-own, load_own}
+use Rattle.demands.proofs.CursorNext.{next-exactly, next_stays}
+use Rattle.demands.proofs.PanelShows.{panel_shows, grounds_show, rendered}
 
-pub accept-exactly : (file : List ℕ) → RefusesExactly (acceptCall file)
-unfolding acceptOf
-accept-exactly file =
-    refuses-exactly 4 (acceptCall file)
-    (record { own-numbers = file-own file; all_yes = λ h. rw (h, acceptOf); first-no = λ r h. rw (h, acceptOf) })
+pub accept_exactly : (file : List ℕ) → RefusesExactly (accept_call file)
+unfolding accept_of
+accept_exactly file =
+    refuses_exactly 4 (accept_call file)
+    (record { own_numbers = file_own file; all_yes = λ h. rw (h, accept_of); first-no = λ r h. rw (h, accept_of) })
 
 -- the answer is that of the questions
-ask-exactly : (qs : List Question) (ns : List ℕ) → Own ns qs → RefusesExactly (askCall qs ns)
+ask-exactly : (qs : List Question) (ns : List ℕ) → Own ns qs → RefusesExactly (ask_call qs ns)
 ask-exactly qs ns o =
-    refuses-exactly 0 (askCall qs ns) (record { own-numbers = o; all_yes = λ h. rw h; first-no = λ r h. rw h })
+    refuses_exactly 0 (ask_call qs ns) (record { own_numbers = o; all_yes = λ h. rw h; first-no = λ r h. rw h })
 
-pub ask-list-exactly : (file list : List ℕ) → RefusesExactly (askListCall file list)
-unfolding askListQuestions
-ask-list-exactly file list =
+pub ask-list_exactly : (file list : List ℕ) → RefusesExactly (ask_list_call file list)
+unfolding ask_list_questions
+ask-list_exactly file list =
     let known = exception (program_of file) in
-    ask-exactly _ _ (after-file listNumbers file (listQuestions known list) (list-own known list))
+    ask-exactly _ _ (after-file list_numbers file (list_questions known list) (list_own known list))
 
-pub ask-order-exactly : (file order : List ℕ) → RefusesExactly (askOrderCall file order)
-unfolding askOrderQuestions
-ask-order-exactly file order =
+pub ask-order_exactly : (file order : List ℕ) → RefusesExactly (ask_order_call file order)
+unfolding ask_order_questions
+ask-order_exactly file order =
     let known = exception (program_of file) in
     let n = count (program_of file) in
-    ask-exactly _ _ (after-file orderNumbers file (orderQuestions known n order) (order-own known n order))
+    ask-exactly _ _ (after-file order_numbers file (order_questions known n order) (order-own known n order))
 
-pub ask-set-exactly : (file set : List ℕ) → RefusesExactly (askSetCall file set)
-unfolding askSetQuestions
-ask-set-exactly file set =
+pub ask-set_exactly : (file set : List ℕ) → RefusesExactly (ask_set_call file set)
+unfolding ask_set_questions
+ask-set_exactly file set =
     let n = (program_of file).facts in
-    ask-exactly _ _ (after-file setNumbers file (setQuestions n set) (set_own n set))
+    ask-exactly _ _ (after-file set_numbers file (set_questions n set) (set_own n set))
 
-pub ask-row-exactly : (file : List ℕ) (fact : ℕ) (row : List ℕ) → RefusesExactly (askRowCall file fact row)
-unfolding askRowQuestions
-ask-row-exactly file fact row =
+pub ask-row_exactly : (file : List ℕ) (fact : ℕ) (row : List ℕ) → RefusesExactly (ask_row_call file fact row)
+unfolding ask_row_questions
+ask-row_exactly file fact row =
     let n = (program_of file).facts in
-    ask-exactly _ _ (after-file rowNumbers file (rowQuestions n fact row) (row-own n fact row))
+    ask-exactly _ _ (after-file row_numbers file (row_questions n fact row) (row-own n fact row))
 
-pub run-exactly : (file order facts rules steps : List ℕ) → RefusesExactly (runCall file order facts rules steps)
-unfolding runOutcome runWritten
+pub run-exactly : (file order facts rules steps : List ℕ) → RefusesExactly (run_call file order facts rules steps)
+unfolding run_outcome run_written
 run-exactly file order facts rules steps =
-    refuses-exactly 2 (runCall file order facts rules steps)
+    refuses_exactly 2 (run_call file order facts rules steps)
     (record {
-      own-numbers = run-own file order (length facts) (length rules) (length steps);
-      all_yes = λ h. rw (h, runOutcome);
-      first-no = λ r h. rw (h, runOutcome);
+      own_numbers = run-own file order (length facts) (length rules) (length steps);
+      all_yes = λ h. rw (h, run_outcome);
+      first-no = λ r h. rw (h, run_outcome);
     })
 
-pub grounds-exactly : (file order : List ℕ) (fact : ℕ) (facts rules steps : List ℕ) → RefusesExactly (groundsCall file order fact facts rules steps)
-unfolding groundsOutcome groundsWritten
-grounds-exactly file order fact facts rules steps =
-    refuses-exactly 1 (groundsCall file order fact facts rules steps)
+pub grounds_exactly : (file order : List ℕ) (fact : ℕ) (facts rules steps : List ℕ) → RefusesExactly (grounds_call file order fact facts rules steps)
+unfolding grounds_outcome grounds_written
+grounds_exactly file order fact facts rules steps =
+    refuses_exactly 1 (grounds_call file order fact facts rules steps)
     (record {
-      own-numbers = grounds-own file order fact (length facts) (length rules) (length steps);
-      all_yes = λ h. rw (h, groundsOutcome);
-      first-no = λ r h. rw (h, groundsOutcome);
+      own_numbers = grounds_own file order fact (length facts) (length rules) (length steps);
+      all_yes = λ h. rw (h, grounds_outcome);
+      first-no = λ r h. rw (h, grounds_outcome);
     })
 
-pub judge-exactly : (file list set : List ℕ) → RefusesExactly (judgeCall file list set)
+pub judge_exactly : (file list set : List ℕ) → RefusesExactly (judge_call file list set)
 unfolding judged
-judge-exactly file list set =
-    refuses-exactly 1 (judgeCall file list set)
+judge_exactly file list set =
+    refuses_exactly 1 (judge_call file list set)
     (record {
-      own-numbers = judge-own file list set;
-      all_yes = λ h. rw (h, judged) (either_way (isStable (program_of file) (unlisted (program_of file) list) (has set)));
+      own_numbers = judge_own file list set;
+      all_yes = λ h. rw (h, judged) (either_way (is_stable (program_of file) (unlisted (program_of file) list) (has set)));
       first-no = λ r h. rw (h, judged);
     })
   where
-    either_way : (b : Bool) → judgedNumber (cond b Stable NotStable) ≡ 0
+    either_way : (b : Bool) → judged_number (cond b Stable NotStable) ≡ 0
     either_way true = refl
     either_way false = refl
 
-pub check-exactly : (file set : List ℕ) (fact : ℕ) (row : List ℕ) → RefusesExactly (checkCall file set fact row)
+pub check_exactly : (file set : List ℕ) (fact : ℕ) (row : List ℕ) → RefusesExactly (check_call file set fact row)
 unfolding checked
-check-exactly file set fact row =
-    refuses-exactly 1 (checkCall file set fact row)
+check_exactly file set fact row =
+    refuses_exactly 1 (check_call file set fact row)
     (record {
-      own-numbers = check-own file set fact row;
-      all_yes = λ h. rw (h, checked) (either_way (isProof (program_of file) (inForce (program_of file)) (has set) (row_of row) fact));
+      own_numbers = check_own file set fact row;
+      all_yes = λ h. rw (h, checked) (either_way (is_proof (program_of file) (in_force (program_of file)) (has set) (row_of row) fact));
       first-no = λ r h. rw (h, checked);
     })
   where
-    either_way : (b : Bool) → checkedNumber (cond b Yes No) ≡ 0
+    either_way : (b : Bool) → checked_number (cond b Yes No) ≡ 0
     either_way true = refl
     either_way false = refl
 
-pub search-exactly : (file facts rules steps order : List ℕ) → RefusesExactly (searchCall file facts rules steps order)
-unfolding searchOutcome searchWritten
+pub search-exactly : (file facts rules steps order : List ℕ) → RefusesExactly (search_call file facts rules steps order)
+unfolding search_outcome search_written
 search-exactly file facts rules steps order =
-    refuses-exactly 2 (searchCall file facts rules steps order)
+    refuses_exactly 2 (search_call file facts rules steps order)
     (record {
-      own-numbers = search-own file (length facts) (length rules) (length steps) (length order);
-      all_yes = λ h. rw (h, searchOutcome);
-      first-no = λ r h. rw (h, searchOutcome);
+      own_numbers = search-own file (length facts) (length rules) (length steps) (length order);
+      all_yes = λ h. rw (h, search_outcome);
+      first-no = λ r h. rw (h, search_outcome);
     })
 
-pub layered-exactly : (file order : List ℕ) → RefusesExactly (layeredCall file order)
-unfolding layeredOutcome orderedBy
-layered-exactly file order =
-    refuses-exactly 1 (layeredCall file order)
+pub layered_exactly : (file order : List ℕ) → RefusesExactly (layered_call file order)
+unfolding layered_outcome ordered_by
+layered_exactly file order =
+    refuses_exactly 1 (layered_call file order)
     (record {
-      own-numbers = layered-own file (length order);
-      all_yes = λ h. rw (h, layeredOutcome);
-      first-no = λ r h. rw (h, layeredOutcome);
+      own_numbers = layered_own file (length order);
+      all_yes = λ h. rw (h, layered_outcome);
+      first-no = λ r h. rw (h, layered_outcome);
     })
 
-pub choose-exactly : (file first second : List ℕ) → RefusesExactly (chooseCall file first second)
+pub choose_exactly : (file first second : List ℕ) → RefusesExactly (choose_call file first second)
 unfolding choice_of
-choose-exactly file first second =
-    refuses-exactly 1 (chooseCall file first second)
+choose_exactly file first second =
+    refuses_exactly 1 (choose_call file first second)
     (record {
-      own-numbers = better-own file first second;
-      all_yes = λ h. (choice-means file first second).numbered ∙ ap noNumber h;
+      own_numbers = better-own file first second;
+      all_yes = λ h. (choice-means file first second).numbered ∙ ap no_number h;
       first-no = λ r h. rw (h, choice_of);
     })
 
-pub better-exactly : (file first second : List ℕ) → RefusesExactly (betterCall file first second)
+pub better-exactly : (file first second : List ℕ) → RefusesExactly (better_call file first second)
 better-exactly file first second =
-    refuses-exactly 1 (betterCall file first second)
+    refuses_exactly 1 (better_call file first second)
     (record {
-      own-numbers = better-own file first second;
-      all_yes = λ h. ap noNumber h;
-      first-no = λ r h. rw (h, none-handed file first second r h);
+      own_numbers = better-own file first second;
+      all_yes = λ h. ap no_number h;
+      first-no = λ r h. rw (h, none_handed file first second r h);
     })
 
-pub load-exactly : (start facts rules : ℕ) (out : List ℕ) → RefusesExactly (loadCall start facts rules out)
-unfolding loadOutcome loadWritten
-load-exactly start facts rules out =
-    refuses-exactly 1 (loadCall start facts rules out)
+pub load_exactly : (start facts rules : ℕ) (out : List ℕ) → RefusesExactly (load_call start facts rules out)
+unfolding load_outcome load_written
+load_exactly start facts rules out =
+    refuses_exactly 1 (load_call start facts rules out)
     (record {
-      own-numbers = load-own facts rules (length out);
-      all_yes = λ h. rw (h, loadOutcome);
-      first-no = λ r h. rw (h, loadOutcome);
+      own_numbers = load_own facts rules (length out);
+      all_yes = λ h. rw (h, load_outcome);
+      first-no = λ r h. rw (h, load_outcome);
     })
 
 -- The operations for C. But for `retention_accept`, which has one count more, the plain numbers are those of the answer.
-pub retention-accept-exactly : (file : List ℕ) → RefusesExactly (retentionAcceptCall file)
-unfolding acceptOf fileOf
-retention-accept-exactly file =
-    refuses-exactly 5 (retentionAcceptCall file)
-    (record { own-numbers = file-own file; all_yes = λ h. rw (h, acceptOf); first-no = λ r h. rw (h, acceptOf) })
+pub retention_accept_exactly : (file : List ℕ) → RefusesExactly (retention_accept_call file)
+unfolding accept_of file_of
+retention_accept_exactly file =
+    refuses_exactly 5 (retention_accept_call file)
+    (record { own_numbers = file_own file; all_yes = λ h. rw (h, accept_of); first-no = λ r h. rw (h, accept_of) })
 
-pub retention-run-exactly : (file order facts rules steps : List ℕ) → RefusesExactly (retentionRunCall file order facts rules steps)
-unfolding runReply countsOfRan
-retention-run-exactly = run-exactly
+pub retention_run_exactly : (file order facts rules steps : List ℕ) → RefusesExactly (retention_run_call file order facts rules steps)
+unfolding run_reply counts_of_ran
+retention_run_exactly = run-exactly
 
-pub retention-grounds-exactly : (file order : List ℕ) (fact : ℕ) (facts rules steps : List ℕ) → RefusesExactly (retentionGroundsCall file order fact facts rules steps)
-unfolding groundsReply countOfGrounds
-retention-grounds-exactly = grounds-exactly
+pub retention_grounds_exactly : (file order : List ℕ) (fact : ℕ) (facts rules steps : List ℕ) → RefusesExactly (retention_grounds_call file order fact facts rules steps)
+unfolding grounds_reply count_of_grounds
+retention_grounds_exactly = grounds_exactly
 
-pub retention-judge-exactly : (file list set : List ℕ) → RefusesExactly (retentionJudgeCall file list set)
-unfolding verdictOfJudged
-retention-judge-exactly = judge-exactly
+pub retention_judge_exactly : (file list set : List ℕ) → RefusesExactly (retention_judge_call file list set)
+unfolding verdict_of_judged
+retention_judge_exactly = judge_exactly
 
-pub retention-check-exactly : (file set : List ℕ) (fact : ℕ) (row : List ℕ) → RefusesExactly (retentionCheckCall file set fact row)
-unfolding verdictOfChecked
-retention-check-exactly = check-exactly
+pub retention_check_exactly : (file set : List ℕ) (fact : ℕ) (row : List ℕ) → RefusesExactly (retention_check_call file set fact row)
+unfolding verdict_of_checked
+retention_check_exactly = check_exactly
 
-pub retention-search-exactly : (file facts rules steps order : List ℕ) → RefusesExactly (retentionSearchCall file facts rules steps order)
-unfolding searchReply countsOfSearched
-retention-search-exactly = search-exactly
+pub retention_search_exactly : (file facts rules steps order : List ℕ) → RefusesExactly (retention_search_call file facts rules steps order)
+unfolding search_reply counts_of_searched
+retention_search_exactly = search-exactly
 
-pub retention-layered-exactly : (file order : List ℕ) → RefusesExactly (retentionLayeredCall file order)
-unfolding layeredReply countOfLayered
-retention-layered-exactly = layered-exactly
+pub retention_layered_exactly : (file order : List ℕ) → RefusesExactly (retention_layered_call file order)
+unfolding layered_reply count_of_layered
+retention_layered_exactly = layered_exactly
 
-pub retention-better-exactly : (file first second : List ℕ) → RefusesExactly (retentionBetterCall file first second)
-unfolding replyOfChoice
-retention-better-exactly = choose-exactly
+pub retention_better_exactly : (file first second : List ℕ) → RefusesExactly (retention_better_call file first second)
+unfolding reply_of_choice
+retention_better_exactly = choose_exactly
 
-pub retention-load-exactly : (start facts rules : ℕ) (out : List ℕ) → RefusesExactly (retentionLoadCall start facts rules out)
-unfolding loadReply countOfLoaded
-retention-load-exactly = load-exactly
+pub retention_load_exactly : (start facts rules : ℕ) (out : List ℕ) → RefusesExactly (retention_load_call start facts rules out)
+unfolding load_reply count_of_loaded
+retention_load_exactly = load_exactly
 
 -- Demand 1.
 pub every_call : Demand1
 every_call =
     record {
-      accept = accept-exactly;
+      accept = accept_exactly;
       next = next-exactly;
-      next-stays = next-stays;
-      ask-list = ask-list-exactly;
-      ask-order = ask-order-exactly;
-      ask-set = ask-set-exactly;
-      ask-row = ask-row-exactly;
+      next_stays = next_stays;
+      ask_list = ask-list_exactly;
+      ask_order = ask-order_exactly;
+      ask_set = ask-set_exactly;
+      ask_row = ask-row_exactly;
       run = run-exactly;
-      grounds = grounds-exactly;
-      judge = judge-exactly;
-      check = check-exactly;
+      grounds = grounds_exactly;
+      judge = judge_exactly;
+      check = check_exactly;
       search = search-exactly;
-      layered = layered-exactly;
-      choose = choose-exactly;
+      layered = layered_exactly;
+      choose = choose_exactly;
       better = better-exactly;
-      load = load-exactly;
-      retention-accept = retention-accept-exactly;
-      retention-run = retention-run-exactly;
-      retention-grounds = retention-grounds-exactly;
-      retention-judge = retention-judge-exactly;
-      retention-check = retention-check-exactly;
-      retention-search = retention-search-exactly;
-      retention-layered = retention-layered-exactly;
-      retention-better = retention-better-exactly;
-      retention-load = retention-load-exactly;
-      panel-shows = panel-shows;
-      grounds-show = grounds-show;
+      load = load_exactly;
+      retention_accept = retention_accept_exactly;
+      retention_run = retention_run_exactly;
+      retention_grounds = retention_grounds_exactly;
+      retention_judge = retention_judge_exactly;
+      retention_check = retention_check_exactly;
+      retention_search = retention_search_exactly;
+      retention_layered = retention_layered_exactly;
+      retention_better = retention_better_exactly;
+      retention_load = retention_load_exactly;
+      panel_shows = panel_shows;
+      grounds_show = grounds_show;
       rendered = rendered;
     }

@@ -6,19 +6,19 @@ use mathlib.Core.Bool.{cond}
 use mathlib.Core.List.{List}
 use mathlib.Core.Option.{Option, none, some}
 use lib.ListN.{length}
-use Rattle.theory.specs.Rule.{inForce}
-use Rattle.theory.specs.Check.{isProof}
+use Rattle.theory.specs.Rule.{in_force}
+use Rattle.theory.specs.Check.{is_proof}
 use Rattle.items.specs.declared.refusal.Refusal.{Refusal}
 use Rattle.items.specs.Question as refusal
 use Rattle.reader.specs.Questions.{program_of}
 use Rattle.items.proofs.RefusalNumbers.{number-above}
 use Rattle.items.specs.Item.{has}
-use Rattle.questions.specs.Questions.{row_of, runNo, checkNo, searchNo, run_of}
-use Rattle.run.specs.Outcome.{RunOutcome, runWritten, runOutcome, runNumber}
+use Rattle.questions.specs.Questions.{row_of, run_no, check_no, search_no, run_of}
+use Rattle.run.specs.Outcome.{RunOutcome, run_written, run_outcome, run_number}
 use Rattle.run.proofs.Outcomes.{outcome-refused, outcome-written}
 use Rattle.proofcheck.specs.declared.answer.Checked.TheVariants as checking
 use Rattle.proofcheck.specs.Checked.{checked}
-use Rattle.search.specs.Outcome.{SearchOutcome, found_at, refusedWith, takenSet, searchOutcome, searchNumber}
+use Rattle.search.specs.Outcome.{SearchOutcome, found_at, refused_with, taken_set, search_outcome, search_number}
 
 -- where a refusal gives its own number, number 0 means that no question got no
 pub answered : (no : Option Refusal) (number : ℕ) → ((r : Refusal) → no ≡ some r → number ≡ refusal.number r) → number ≡ 0 → ◌≡◌ {A = Option Refusal} no none
@@ -29,28 +29,28 @@ answered (some r) number own e =
     absurd (omega arith)
 
 module _ (file order facts rules steps : List ℕ) where
-  pub run-written : ◌≡◌ {A = Option Refusal} (runNo file order (length facts) (length rules) (length steps)) none → runOutcome file order facts rules steps ≡ runWritten (program_of file) (run_of file order) facts rules steps
+  pub run-written : ◌≡◌ {A = Option Refusal} (run_no file order (length facts) (length rules) (length steps)) none → run_outcome file order facts rules steps ≡ run_written (program_of file) (run_of file order) facts rules steps
   run-written e = sym (outcome-written file order facts rules steps e)
 
-  pub run-answered : runNumber (runOutcome file order facts rules steps).answer ≡ 0 → ◌≡◌ {A = Option Refusal} (runNo file order (length facts) (length rules) (length steps)) none
+  pub run-answered : run_number (run_outcome file order facts rules steps).answer ≡ 0 → ◌≡◌ {A = Option Refusal} (run_no file order (length facts) (length rules) (length steps)) none
   run-answered =
-      answered (runNo file order (length facts) (length rules) (length steps)) (runNumber (runOutcome file order facts rules steps).answer)
-      (λ r e. sym (ap (λ (o : RunOutcome). runNumber o.answer) (outcome-refused file order facts rules steps r e)))
+      answered (run_no file order (length facts) (length rules) (length steps)) (run_number (run_outcome file order facts rules steps).answer)
+      (λ r e. sym (ap (λ (o : RunOutcome). run_number o.answer) (outcome-refused file order facts rules steps r e)))
 
-pub check-checked : (file set : List ℕ) (fact : ℕ) (row : List ℕ) → ◌≡◌ {A = Option Refusal} (checkNo file set fact row) none → checked file set fact row ≡ cond (isProof (program_of file) (inForce (program_of file)) (has set) (row_of row) fact) checking.Yes checking.No
+pub check_checked : (file set : List ℕ) (fact : ℕ) (row : List ℕ) → ◌≡◌ {A = Option Refusal} (check_no file set fact row) none → checked file set fact row ≡ cond (is_proof (program_of file) (in_force (program_of file)) (has set) (row_of row) fact) checking.Yes checking.No
 unfolding checked
-check-checked file set fact row e = rw (e, checked)
+check_checked file set fact row e = rw (e, checked)
 
 module _ (file facts rules steps order : List ℕ) where
-  pub search-refused : (r : Refusal) → searchNo file (length facts) (length rules) (length steps) (length order) ≡ some r → searchOutcome file facts rules steps order ≡ refusedWith r facts rules steps order
-  unfolding searchOutcome
-  search-refused r e = rw (e, searchOutcome)
+  pub search-refused : (r : Refusal) → search_no file (length facts) (length rules) (length steps) (length order) ≡ some r → search_outcome file facts rules steps order ≡ refused_with r facts rules steps order
+  unfolding search_outcome
+  search-refused r e = rw (e, search_outcome)
 
-  pub search-found : ◌≡◌ {A = Option Refusal} (searchNo file (length facts) (length rules) (length steps) (length order)) none → searchOutcome file facts rules steps order ≡ found_at (program_of file) (takenSet (program_of file)) facts rules steps order
-  unfolding searchOutcome
-  search-found e = rw (e, searchOutcome)
+  pub search-found : ◌≡◌ {A = Option Refusal} (search_no file (length facts) (length rules) (length steps) (length order)) none → search_outcome file facts rules steps order ≡ found_at (program_of file) (taken_set (program_of file)) facts rules steps order
+  unfolding search_outcome
+  search-found e = rw (e, search_outcome)
 
-  pub search-answered : searchNumber (searchOutcome file facts rules steps order).answer ≡ 0 → ◌≡◌ {A = Option Refusal} (searchNo file (length facts) (length rules) (length steps) (length order)) none
+  pub search-answered : search_number (search_outcome file facts rules steps order).answer ≡ 0 → ◌≡◌ {A = Option Refusal} (search_no file (length facts) (length rules) (length steps) (length order)) none
   search-answered =
-      answered (searchNo file (length facts) (length rules) (length steps) (length order)) (searchNumber (searchOutcome file facts rules steps order).answer)
-      (λ r e. ap (λ (o : SearchOutcome). searchNumber o.answer) (search-refused r e))
+      answered (search_no file (length facts) (length rules) (length steps) (length order)) (search_number (search_outcome file facts rules steps order).answer)
+      (λ r e. ap (λ (o : SearchOutcome). search_number o.answer) (search-refused r e))

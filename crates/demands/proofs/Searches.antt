@@ -10,20 +10,20 @@ use mathlib.Core.Option.{Option, none, some}
 use borrow.Author.Tests.{le-leb, leb-true, leb-false}
 use lib.ListN.{length}
 use lib.Dec.{leb}
-use Rattle.theory.specs.Rule.{Program, FactSet, inForce, count}
+use Rattle.theory.specs.Rule.{Program, FactSet, in_force, count}
 use Rattle.theory.specs.Stable.{Stable}
 use Rattle.theory.proofs.Bools.{never}
 use Rattle.items.specs.declared.refusal.Refusal.{Refusal}
 use Rattle.items.specs.declared.refusal.Refusal.TheVariants.{TooManyConstraints, NoStableSet}
-use Rattle.items.specs.Question.{firstNo}
-use Rattle.items.specs.Item.{narrow, nameWidth, stepWidth}
-use Rattle.reader.specs.Questions.{program_of, fileQuestions, fileNo, exceptions, constraintFacts}
+use Rattle.items.specs.Question.{first_no}
+use Rattle.items.specs.Item.{narrow, name_width, step_width}
+use Rattle.reader.specs.Questions.{program_of, file_questions, file_no, exceptions, constraint_facts}
 use Rattle.items.proofs.FirstNo.{first-no, first-yes}
-use Rattle.questions.specs.Questions.{bufferQuestions, buffersNo, guessedQuestion, someStable, stableQuestion, limitQuestions, earlyQuestions, searchQuestions, searchNo}
-use Rattle.questions.specs.Parts.{earlyNo}
-use Rattle.search.specs.Outcome.{SearchOutcome, searchWritten, searchOutcome, searchNumber}
+use Rattle.questions.specs.Questions.{buffer_questions, buffers_no, guessed_question, some_stable, stable_question, limit_questions, early_questions, search_questions, search_no}
+use Rattle.questions.specs.Parts.{early_no}
+use Rattle.search.specs.Outcome.{SearchOutcome, search_written, search_outcome, search_number}
 use Rattle.search.specs.Outcome as searching
-use Rattle.search.proofs.SearchMeaning.{stable-asked}
+use Rattle.search.proofs.SearchMeaning.{stable_asked}
 use Rattle.demands.specs.Results.{LargeEnough, Searchable, Searches, FortyExactly}
 use Rattle.demands.proofs.Outcomes.{search-refused, search-found}
 use Rattle.demands.proofs.SearchIs.{search_is}
@@ -33,78 +33,78 @@ module _ (file facts rules steps order : List ℕ) where
   P = program_of file
 
   abbrev o : SearchOutcome
-  o = searchOutcome file facts rules steps order
+  o = search_outcome file facts rules steps order
 
-  found_number : ◌≡◌ {A = Option Refusal} (searchNo file (length facts) (length rules) (length steps) (length order)) none → searchNumber o.answer ≡ 0
-  unfolding searchWritten
-  found_number e = ap (λ (x : SearchOutcome). searchNumber x.answer) (search-found file facts rules steps order e)
+  found_number : ◌≡◌ {A = Option Refusal} (search_no file (length facts) (length rules) (length steps) (length order)) none → search_number o.answer ≡ 0
+  unfolding search_written
+  found_number e = ap (λ (x : SearchOutcome). search_number x.answer) (search-found file facts rules steps order e)
 
-  refused-number : (r : Refusal) → searchNo file (length facts) (length rules) (length steps) (length order) ≡ some r → searchNumber o.answer ≡ searchNumber (searching.refusedWith r facts rules steps order).answer
-  refused-number r e = ap (λ (x : SearchOutcome). searchNumber x.answer) (search-refused file facts rules steps order r e)
+  refused-number : (r : Refusal) → search_no file (length facts) (length rules) (length steps) (length order) ≡ some r → search_number o.answer ≡ search_number (searching.refused_with r facts rules steps order).answer
+  refused-number r e = ap (λ (x : SearchOutcome). search_number x.answer) (search-refused file facts rules steps order r e)
 
-  module _ (accepted : ◌≡◌ {A = Option Refusal} (fileNo file) none) (large : LargeEnough file facts rules steps order) where
-    buffers-fit : ◌≡◌ {A = Option Refusal} (buffersNo narrow P (length facts) (length rules) (length steps)) none
-    unfolding bufferQuestions
-    buffers-fit =
-        rw (le-leb P.facts (length facts) large.fact-marks, le-leb (count P) (length rules) large.rule-marks, le-leb (stepWidth narrow * P.facts) (length steps) large.step-items)
+  module _ (accepted : ◌≡◌ {A = Option Refusal} (file_no file) none) (large : LargeEnough file facts rules steps order) where
+    buffers_fit : ◌≡◌ {A = Option Refusal} (buffers_no narrow P (length facts) (length rules) (length steps)) none
+    unfolding buffer_questions
+    buffers_fit =
+        rw (le-leb P.facts (length facts) large.fact-marks, le-leb (count P) (length rules) large.rule-marks, le-leb (step_width narrow * P.facts) (length steps) large.step_items)
 
     -- what is left to ask
-    guessed-left : earlyNo file (length facts) (length rules) (length steps) (length order) ≡ firstNo (guessedQuestion P ∷ [])
-    unfolding earlyQuestions limitQuestions
+    guessed-left : early_no file (length facts) (length rules) (length steps) (length order) ≡ first_no (guessed_question P ∷ [])
+    unfolding early_questions limit_questions
     guessed-left =
-        first-yes (fileQuestions file) (bufferQuestions narrow P (length facts) (length rules) (length steps) ++ limitQuestions P (length order)) accepted
-        ∙ (first-yes (bufferQuestions narrow P (length facts) (length rules) (length steps)) (limitQuestions P (length order)) buffers-fit
-        ∙ rw (le-leb (nameWidth * exceptions P) (length order) large.rule-items))
+        first-yes (file_questions file) (buffer_questions narrow P (length facts) (length rules) (length steps) ++ limit_questions P (length order)) accepted
+        ∙ (first-yes (buffer_questions narrow P (length facts) (length rules) (length steps)) (limit_questions P (length order)) buffers_fit
+        ∙ rw (le-leb (name_width * exceptions P) (length order) large.rule-items))
 
-    too_many : leb (constraintFacts P) 16 ≡ false → searchNumber o.answer ≡ 40
-    unfolding searchQuestions
+    too_many : leb (constraint_facts P) 16 ≡ false → search_number o.answer ≡ 40
+    unfolding search_questions
     too_many e =
         refused-number TooManyConstraints
-        (first-no (earlyQuestions file (length facts) (length rules) (length steps) (length order)) (stableQuestion P ∷ []) TooManyConstraints (guessed-left ∙ rw e))
+        (first-no (early_questions file (length facts) (length rules) (length steps) (length order)) (stable_question P ∷ []) TooManyConstraints (guessed-left ∙ rw e))
 
-    module _ (few : constraintFacts P ≤ 16) where
-      stable-left : searchNo file (length facts) (length rules) (length steps) (length order) ≡ firstNo (stableQuestion P ∷ [])
-      unfolding searchQuestions
-      stable-left =
-          first-yes (earlyQuestions file (length facts) (length rules) (length steps) (length order)) (stableQuestion P ∷ [])
-          (guessed-left ∙ rw (le-leb (constraintFacts P) 16 few))
+    module _ (few : constraint_facts P ≤ 16) where
+      stable_left : search_no file (length facts) (length rules) (length steps) (length order) ≡ first_no (stable_question P ∷ [])
+      unfolding search_questions
+      stable_left =
+          first-yes (early_questions file (length facts) (length rules) (length steps) (length order)) (stable_question P ∷ [])
+          (guessed-left ∙ rw (le-leb (constraint_facts P) 16 few))
 
-      yes-found : someStable P ≡ true → searchNumber o.answer ≡ 0
-      yes-found e = found_number (stable-left ∙ rw e)
+      yes_found : some_stable P ≡ true → search_number o.answer ≡ 0
+      yes_found e = found_number (stable_left ∙ rw e)
 
-      no-refused : someStable P ≡ false → searchNumber o.answer ≡ 41
-      no-refused e = refused-number NoStableSet (stable-left ∙ rw e)
+      no-refused : some_stable P ≡ false → search_number o.answer ≡ 41
+      no-refused e = refused-number NoStableSet (stable_left ∙ rw e)
 
       answers : Searches file facts rules steps order o
-      answers = go (someStable P) refl
+      answers = go (some_stable P) refl
         where
-          go : (b : Bool) → someStable P ≡ b → Searches file facts rules steps order o
+          go : (b : Bool) → some_stable P ≡ b → Searches file facts rules steps order o
           go true e =
-              let n : searchNumber o.answer ≡ 0 = yes-found e in
-              let t = (stable-asked file accepted).0 e in
+              let n : search_number o.answer ≡ 0 = yes_found e in
+              let t = (stable_asked file accepted).0 e in
               record {
-                none-exactly = (λ z. absurd (omega arith), λ h. absurd (h t.0 t.1));
-                else-found = λ _ _. n;
+                none_exactly = (λ z. absurd (omega arith), λ h. absurd (h t.0 t.1));
+                else_found = λ _ _. n;
                 found = search_is file facts rules steps order;
-                one-or-other = inl n;
+                one_or_other = inl n;
               }
           go false e =
-              let n : searchNumber o.answer ≡ 41 = no-refused e in
-              let none-stable : (M : FactSet) → Stable P (inForce P) M → ⊥ = λ M m. never ((stable-asked file accepted).1 (M, m)) e in
+              let n : search_number o.answer ≡ 41 = no-refused e in
+              let none_stable : (M : FactSet) → Stable P (in_force P) M → ⊥ = λ M m. never ((stable_asked file accepted).1 (M, m)) e in
               record {
-                none-exactly = (λ _. none-stable, λ _. n);
-                else-found = λ M m. absurd (none-stable M m);
+                none_exactly = (λ _. none_stable, λ _. n);
+                else_found = λ M m. absurd (none_stable M m);
                 found = search_is file facts rules steps order;
-                one-or-other = inr n;
+                one_or_other = inr n;
               }
 
-    pub forty-exactly : FortyExactly file o
-    forty-exactly = go (leb (constraintFacts P) 16) refl
+    pub forty_exactly : FortyExactly file o
+    forty_exactly = go (leb (constraint_facts P) 16) refl
       where
-        go : (b : Bool) → leb (constraintFacts P) 16 ≡ b → FortyExactly file o
+        go : (b : Bool) → leb (constraint_facts P) 16 ≡ b → FortyExactly file o
         go true e =
-            let few : constraintFacts P ≤ 16 = leb-true _ _ e in
-            (λ n. absurd (⊎_elim (λ z. absurd (omega arith)) (λ z. absurd (omega arith)) (answers few).one-or-other), λ m. absurd (omega arith))
+            let few : constraint_facts P ≤ 16 = leb-true _ _ e in
+            (λ n. absurd (⊎_elim (λ z. absurd (omega arith)) (λ z. absurd (omega arith)) (answers few).one_or_other), λ m. absurd (omega arith))
         go false e = (λ _. leb-false _ _ e, λ _. too_many e)
 
   pub searches : Searchable file facts rules steps order → Searches file facts rules steps order o

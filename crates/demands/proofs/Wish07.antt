@@ -7,26 +7,26 @@ use mathlib.Core.Logic.{⊎_elim}
 use mathlib.Core.Option.{Option, none, some}
 use lib.Dec.{eqb}
 use lib.ListN.{take}
-use Rattle.theory.specs.Rule.{howMany, count, plain, exception, plainRules, withheld, inForce, Program}
+use Rattle.theory.specs.Rule.{how_many, count, plain, exception, plain_rules, withheld, in_force, Program}
 use Rattle.theory.specs.Derive.{fired, derive, steps}
-use Rattle.theory.specs.Run.{rejected, spares, eligible, run, setAside, ruleMark}
-use Rattle.theory.specs.Better.{asideCount, secondPreferred, better}
-use Rattle.theory.proofs.Better.{run-asides, cost-total, better-first, better-second, better-one-of, better-fewest, better-left, better-pairs}
+use Rattle.theory.specs.Run.{rejected, spares, eligible, run, set_aside, rule_mark}
+use Rattle.theory.specs.Better.{aside_count, second_preferred, better}
+use Rattle.theory.proofs.Better.{run-asides, cost_total, better-first, better-second, better-one_of, better-fewest, better-left, better-pairs}
 use Rattle.items.specs.declared.refusal.Refusal.{Refusal}
-use Rattle.items.specs.Item.{bodyLength, item_of}
-use Rattle.items.specs.Question.{number, noNumber}
+use Rattle.items.specs.Item.{body_length, item_of}
+use Rattle.items.specs.Question.{number, no_number}
 use Rattle.items.proofs.FirstNo.{first-no, first-yes}
-use Rattle.cursors.specs.Cursor.{front, itemsAt}
-use Rattle.reader.specs.Questions.{program_of, fileQuestions, fileNo, exceptions}
-use Rattle.questions.specs.Questions.{named_in, listQuestions, orderQuestions, orderNo, bothQuestions, betterQuestions, betterNo, run_of}
-use Rattle.run.specs.Outcome.{runWritten, runOutcome, runNumber}
-use Rattle.run.proofs.ReadMarks.{marks-front}
-use Rattle.better.specs.Outcome.{asideOf, choice_of, which, betterOf}
-use Rattle.better.proofs.BetterAsked.{both_right, right-both}
-use Rattle.better.proofs.Chosen.{choice-means, choice-refused, better-handed, none-handed}
+use Rattle.cursors.specs.Cursor.{front, items_at}
+use Rattle.reader.specs.Questions.{program_of, file_questions, file_no, exceptions}
+use Rattle.questions.specs.Questions.{named_in, list_questions, order_questions, order_no, both_questions, better_questions, better_no, run_of}
+use Rattle.run.specs.Outcome.{run_written, run_outcome, run_number}
+use Rattle.run.proofs.ReadMarks.{marks_front}
+use Rattle.better.specs.Outcome.{aside_of, choice_of, which, better_of}
+use Rattle.better.proofs.BetterAsked.{both_right, right_both}
+use Rattle.better.proofs.Chosen.{choice-means, choice-refused, better-handed, none_handed}
 use Rattle.demands.specs.Wish07.{Questioned, BetterIs, ByPairs, Wish07, BetterExample}
 use Rattle.demands.proofs.Outcomes.{answered, run-answered, run-written}
-use Rattle.demands.proofs.Wish06.{wish-06}
+use Rattle.demands.proofs.Wish06.{wish_06}
 
 module _ (file : List ℕ) where
   abbrev P : Program
@@ -34,113 +34,113 @@ module _ (file : List ℕ) where
 
   -- The questions of the operation, by those of the file and of each order.
   module _ (first second : List ℕ) where
-    zero-asked : noNumber (betterNo file first second) ≡ 0 → ◌≡◌ {A = Option Refusal} (betterNo file first second) none
-    zero-asked e = answered (betterNo file first second) _ (λ r q. ap noNumber q) e
+    zero_asked : no_number (better_no file first second) ≡ 0 → ◌≡◌ {A = Option Refusal} (better_no file first second) none
+    zero_asked e = answered (better_no file first second) _ (λ r q. ap no_number q) e
 
-    some-asked : 0 < noNumber (betterNo file first second) → (r : Refusal) × (betterNo file first second ≡ some r)
-    some-asked l = go (betterNo file first second) refl
+    some_asked : 0 < no_number (better_no file first second) → (r : Refusal) × (better_no file first second ≡ some r)
+    some_asked l = go (better_no file first second) refl
       where
-        go : (o : Option Refusal) → betterNo file first second ≡ o → (r : Refusal) × (betterNo file first second ≡ some r)
-        go none e = absurd (omega (arith, ap noNumber e))
+        go : (o : Option Refusal) → better_no file first second ≡ o → (r : Refusal) × (better_no file first second ≡ some r)
+        go none e = absurd (omega (arith, ap no_number e))
         go (some r) e = (r, e)
 
-    both-questioned : ◌≡◌ {A = Option Refusal} (betterNo file first second) none → Questioned file first × Questioned file second
-    both-questioned e =
+    both_questioned : ◌≡◌ {A = Option Refusal} (better_no file first second) none → Questioned file first × Questioned file second
+    both_questioned e =
         let b = both_right file first second e in
-        (record { accepted = b.accepted; order-right = b.first-right }, record { accepted = b.accepted; order-right = b.second-right })
+        (record { accepted = b.accepted; order_right = b.first_right }, record { accepted = b.accepted; order_right = b.second_right })
 
-    asked-both : Questioned file first → Questioned file second → ◌≡◌ {A = Option Refusal} (betterNo file first second) none
-    asked-both p q = right-both file first second (record { accepted = p.accepted; first-right = p.order-right; second-right = q.order-right })
+    asked-both : Questioned file first → Questioned file second → ◌≡◌ {A = Option Refusal} (better_no file first second) none
+    asked-both p q = right_both file first second (record { accepted = p.accepted; first_right = p.order_right; second_right = q.order_right })
 
-    file-number : (r : Refusal) → fileNo file ≡ some r → noNumber (betterNo file first second) ≡ number r
-    unfolding betterQuestions
-    file-number r e = ap noNumber (first-no (fileQuestions file) _ r e)
+    file_number : (r : Refusal) → file_no file ≡ some r → no_number (better_no file first second) ≡ number r
+    unfolding better_questions
+    file_number r e = ap no_number (first-no (file_questions file) _ r e)
 
-    first-number : (r : Refusal) → ◌≡◌ {A = Option Refusal} (fileNo file) none → orderNo (exception P) (count P) first ≡ some r → noNumber (betterNo file first second) ≡ number r
-    unfolding betterQuestions bothQuestions
-    first-number r a e = ap noNumber (first-yes (fileQuestions file) _ a ∙ first-no (orderQuestions (exception P) (count P) first) _ r e)
+    first-number : (r : Refusal) → ◌≡◌ {A = Option Refusal} (file_no file) none → order_no (exception P) (count P) first ≡ some r → no_number (better_no file first second) ≡ number r
+    unfolding better_questions both_questions
+    first-number r a e = ap no_number (first-yes (file_questions file) _ a ∙ first-no (order_questions (exception P) (count P) first) _ r e)
 
-    second-number : Questioned file first → noNumber (betterNo file first second) ≡ noNumber (orderNo (exception P) (count P) second)
-    unfolding betterQuestions bothQuestions
-    second-number p = ap noNumber (first-yes (fileQuestions file) _ p.accepted ∙ first-yes (orderQuestions (exception P) (count P) first) _ p.order-right)
+    second-number : Questioned file first → no_number (better_no file first second) ≡ no_number (order_no (exception P) (count P) second)
+    unfolding better_questions both_questions
+    second-number p = ap no_number (first-yes (file_questions file) _ p.accepted ∙ first-yes (order_questions (exception P) (count P) first) _ p.order_right)
 
-    better-is : ◌≡◌ {A = Option Refusal} (betterNo file first second) none → BetterIs file first second
+    better-is : ◌≡◌ {A = Option Refusal} (better_no file first second) none → BetterIs file first second
     better-is e =
         let h = better-handed file first second e in
         let m = choice-means file first second in
         record {
-          first-fewer = λ l. h ∙ better-first (asideOf file) first second (omega arith);
-          second-fewer = λ l. h ∙ better-second (asideOf file) first second l;
-          equal-first = λ l. h ∙ better-first (asideOf file) first second (omega (arith, l));
-          one_of = rw h (better-one-of (asideOf file) first second);
-          no-worse = rw h (better-fewest (asideOf file) first second);
-          which-first = m.first-chosen e;
-          which-second = m.second-chosen e;
+          first_fewer = λ l. h ∙ better-first (aside_of file) first second (omega arith);
+          second_fewer = λ l. h ∙ better-second (aside_of file) first second l;
+          equal_first = λ l. h ∙ better-first (aside_of file) first second (omega (arith, l));
+          one_of = rw h (better-one_of (aside_of file) first second);
+          no_worse = rw h (better-fewest (aside_of file) first second);
+          which_first = m.first_chosen e;
+          which_second = m.second_chosen e;
         }
 
   -- What is handed back of two orders is one of them, so it is questioned as they are.
-  handed-questioned : (x y : List ℕ) → Questioned file x → Questioned file y → Questioned file (better (asideOf file) x y)
-  handed-questioned x y p q = ⊎_elim (λ e. rw e p) (λ e. rw e q) (better-one-of (asideOf file) x y)
+  handed-questioned : (x y : List ℕ) → Questioned file x → Questioned file y → Questioned file (better (aside_of file) x y)
+  handed-questioned x y p q = ⊎_elim (λ e. rw e p) (λ e. rw e q) (better-one_of (aside_of file) x y)
 
-  by-pairs : (x y z : List ℕ) → Questioned file x → Questioned file y → Questioned file z → ByPairs file x y z
-  by-pairs x y z p q r =
+  by_pairs : (x y z : List ℕ) → Questioned file x → Questioned file y → Questioned file z → ByPairs file x y z
+  by_pairs x y z p q r =
       record {
-        first_two = rw first-bytes (better-left (asideOf file) x y z);
-        last-two = rw (last-bytes, ← better-pairs (asideOf file) x y z) (better-left (asideOf file) x y z);
-        same = first-bytes ∙ (better-pairs (asideOf file) x y z ∙ sym last-bytes);
-        questioned = (rw one-two (handed-questioned x y p q), rw two-three (handed-questioned y z q r));
+        first_two = rw first-bytes (better-left (aside_of file) x y z);
+        last_two = rw (last-bytes, ← better-pairs (aside_of file) x y z) (better-left (aside_of file) x y z);
+        same = first-bytes ∙ (better-pairs (aside_of file) x y z ∙ sym last-bytes);
+        questioned = (rw one_two (handed-questioned x y p q), rw two-three (handed-questioned y z q r));
       }
     where
-      one-two : betterOf file x y ≡ better (asideOf file) x y
-      one-two = better-handed file x y (asked-both x y p q)
+      one_two : better_of file x y ≡ better (aside_of file) x y
+      one_two = better-handed file x y (asked-both x y p q)
 
-      two-three : betterOf file y z ≡ better (asideOf file) y z
+      two-three : better_of file y z ≡ better (aside_of file) y z
       two-three = better-handed file y z (asked-both y z q r)
 
-      first-bytes : betterOf file (betterOf file x y) z ≡ better (asideOf file) (better (asideOf file) x y) z
+      first-bytes : better_of file (better_of file x y) z ≡ better (aside_of file) (better (aside_of file) x y) z
       first-bytes =
-          ap (λ (w : List ℕ). betterOf file w z) one-two
-          ∙ better-handed file (better (asideOf file) x y) z (asked-both _ _ (handed-questioned x y p q) r)
+          ap (λ (w : List ℕ). better_of file w z) one_two
+          ∙ better-handed file (better (aside_of file) x y) z (asked-both _ _ (handed-questioned x y p q) r)
 
-      last-bytes : betterOf file x (betterOf file y z) ≡ better (asideOf file) x (better (asideOf file) y z)
+      last-bytes : better_of file x (better_of file y z) ≡ better (aside_of file) x (better (aside_of file) y z)
       last-bytes =
-          ap (λ (w : List ℕ). betterOf file x w) two-three
-          ∙ better-handed file x (better (asideOf file) y z) (asked-both _ _ p (handed-questioned y z q r))
+          ap (λ (w : List ℕ). better_of file x w) two-three
+          ∙ better-handed file x (better (aside_of file) y z) (asked-both _ _ p (handed-questioned y z q r))
 
-  marks-counted : (order facts rules steps : List ℕ) → runNumber (runOutcome file order facts rules steps).answer ≡ 0 → asideOf file order ≡ howMany (λ m. eqb m 2) (take (count P) (runOutcome file order facts rules steps).rule-marks)
-  unfolding runWritten
-  marks-counted order facts rules steps e =
+  marks_counted : (order facts rules steps : List ℕ) → run_number (run_outcome file order facts rules steps).answer ≡ 0 → aside_of file order ≡ how_many (λ m. eqb m 2) (take (count P) (run_outcome file order facts rules steps).rule-marks)
+  unfolding run_written
+  marks_counted order facts rules steps e =
       rw (run-written file order facts rules steps (run-answered file order facts rules steps e))
-      (sym (run-asides P (inForce P) (named_in order))
-      ∙ ap (howMany (λ m. eqb m 2)) (sym (marks-front (ruleMark P (inForce P) (run_of file order)) (count P) rules)))
+      (sym (run-asides P (in_force P) (named_in order))
+      ∙ ap (how_many (λ m. eqb m 2)) (sym (marks_front (rule_mark P (in_force P) (run_of file order)) (count P) rules)))
 
-  pub wish-07 : Wish07 file
-  wish-07 =
+  pub wish_07 : Wish07 file
+  wish_07 =
       record {
-        result = λ first second e. better-is first second (zero-asked first second e);
-        counted = marks-counted;
-        withheld-not = (wish-06 file).never-aside;
-        total = cost-total (asideOf file);
+        result = λ first second e. better-is first second (zero_asked first second e);
+        counted = marks_counted;
+        withheld_not = (wish_06 file).never_aside;
+        total = cost_total (aside_of file);
         transitive = λ x y z l m. omega arith;
-        by-pairs = by-pairs;
-        file-asked = file-number;
-        first-asked = first-number;
-        second-asked = second-number;
-        refused-empty = λ first second l. let n = some-asked first second l in none-handed file first second n.0 n.1;
-        refused-neither = λ first second l. let n = some-asked first second l in ap which (sym (choice-refused file first second n.0 n.1));
-        zero-exactly = λ first second. ((λ e. both-questioned first second (zero-asked first second e)), λ q. ap noNumber (asked-both first second q.0 q.1));
+        by_pairs = by_pairs;
+        file-asked = file_number;
+        first_asked = first-number;
+        second_asked = second-number;
+        refused_empty = λ first second l. let n = some_asked first second l in none_handed file first second n.0 n.1;
+        refused_neither = λ first second l. let n = some_asked first second l in ap which (sym (choice-refused file first second n.0 n.1));
+        zero_exactly = λ first second. ((λ e. both_questioned first second (zero_asked first second e)), λ q. ap no_number (asked-both first second q.0 q.1));
       }
 
 pub better-example : BetterExample
-unfolding choice_of betterQuestions bothQuestions asideCount secondPreferred exceptions listQuestions orderQuestions fileQuestions itemsAt front bodyLength item_of run eligible rejected spares setAside fired derive steps plainRules plain exception inForce withheld
+unfolding choice_of better_questions both_questions aside_count second_preferred exceptions list_questions order_questions file_questions items_at front body_length item_of run eligible rejected spares set_aside fired derive steps plain_rules plain exception in_force withheld
 better-example =
     record {
-      first-sets = refl;
-      second-sets = refl;
-      takes-second = refl;
+      first_sets = refl;
+      second_sets = refl;
+      takes_second = refl;
       takes_first = refl;
-      hands-back = refl;
+      hands_back = refl;
       equal = refl;
       refuses = refl;
-      hands-nothing = refl;
+      hands_nothing = refl;
     }

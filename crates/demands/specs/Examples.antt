@@ -2,8 +2,8 @@
 use Rattle.std.specs.Prelude.{ℕ, List, [], ◌∷◌}
 
 -- 4 facts; 0<; 1<0,!2; 2<0,!1; 3<2
-abbrev pub A : List ℕ
-A =
+abbrev pub example_a : List ℕ
+example_a =
     0x10 ∷ 4
     ∷ 0x01 ∷ 0
     ∷ 0x01 ∷ 1 ∷ 0x02 ∷ 0 ∷ 0x03 ∷ 2
@@ -12,21 +12,21 @@ A =
     ∷ 0x1F ∷ 0 ∷ 4 ∷ []
 
 -- 1 fact; 0<!0
-abbrev pub B : List ℕ
-B = 0x10 ∷ 1 ∷ 0x01 ∷ 0 ∷ 0x03 ∷ 0 ∷ 0x1F ∷ 0 ∷ 1 ∷ []
+abbrev pub example_b : List ℕ
+example_b = 0x10 ∷ 1 ∷ 0x01 ∷ 0 ∷ 0x03 ∷ 0 ∷ 0x1F ∷ 0 ∷ 1 ∷ []
 
 -- 3 facts; 0<!1; 1<!2
-abbrev pub C : List ℕ
-C = 0x10 ∷ 3 ∷ 0x01 ∷ 0 ∷ 0x03 ∷ 1 ∷ 0x01 ∷ 1 ∷ 0x03 ∷ 2 ∷ 0x1F ∷ 0 ∷ 2 ∷ []
+abbrev pub example_c : List ℕ
+example_c = 0x10 ∷ 3 ∷ 0x01 ∷ 0 ∷ 0x03 ∷ 1 ∷ 0x01 ∷ 1 ∷ 0x03 ∷ 2 ∷ 0x1F ∷ 0 ∷ 2 ∷ []
 
 -- 2 facts; 1<0; 0<!1
-abbrev pub D : List ℕ
-D = 0x10 ∷ 2 ∷ 0x01 ∷ 1 ∷ 0x02 ∷ 0 ∷ 0x01 ∷ 0 ∷ 0x03 ∷ 1 ∷ 0x1F ∷ 0 ∷ 2 ∷ []
+abbrev pub example_d : List ℕ
+example_d = 0x10 ∷ 2 ∷ 0x01 ∷ 1 ∷ 0x02 ∷ 0 ∷ 0x01 ∷ 0 ∷ 0x03 ∷ 1 ∷ 0x1F ∷ 0 ∷ 2 ∷ []
 
 -- nothing
-abbrev pub E : List ℕ
-E = 0x10 ∷ 0 ∷ 0x1F ∷ 0 ∷ 0 ∷ []
+abbrev pub example_e : List ℕ
+example_e = 0x10 ∷ 0 ∷ 0x1F ∷ 0 ∷ 0 ∷ []
 
 -- 1 fact; 0<0
-abbrev pub F : List ℕ
-F = 0x10 ∷ 1 ∷ 0x01 ∷ 0 ∷ 0x02 ∷ 0 ∷ 0x1F ∷ 0 ∷ 1 ∷ []
+abbrev pub example_f : List ℕ
+example_f = 0x10 ∷ 1 ∷ 0x01 ∷ 0 ∷ 0x02 ∷ 0 ∷ 0x1F ∷ 0 ∷ 1 ∷ []

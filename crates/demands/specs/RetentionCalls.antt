@@ -1,27 +1,27 @@
 -- The operations for callers in C and Rust as calls (see Calls): each is one of those, and replies in plain numbers.
 use Rattle.std.specs.Prelude.{ℕ, List, [], ◌∷◌}
-use Rattle.reader.specs.Accept.{acceptOf}
-use Rattle.run.specs.Outcome.{runOutcome}
-use Rattle.keeping.specs.Outcome.{groundsOutcome}
+use Rattle.reader.specs.Accept.{accept_of}
+use Rattle.run.specs.Outcome.{run_outcome}
+use Rattle.keeping.specs.Outcome.{grounds_outcome}
 use Rattle.judge.specs.Judged.{judged}
 use Rattle.proofcheck.specs.Checked.{checked}
-use Rattle.search.specs.Outcome.{searchOutcome}
-use Rattle.layers.specs.Outcome.{layeredOutcome}
+use Rattle.search.specs.Outcome.{search_outcome}
+use Rattle.layers.specs.Outcome.{layered_outcome}
 use Rattle.better.specs.Outcome.{choice_of}
-use Rattle.generator.specs.Outcome.{loadOutcome}
+use Rattle.generator.specs.Outcome.{load_outcome}
 use Rattle.replies.specs.declared.ChoiceReply.{ChoiceReply}
 use Rattle.replies.specs.declared.FileReply.{FileReply}
 use Rattle.replies.specs.declared.Verdict.{Verdict}
-use Rattle.replies.specs.Reply.{fileOf, verdictOfJudged, verdictOfChecked, RunReply, runReply, SearchReply, searchReply, GroundsReply, groundsReply, LayeredReply, layeredReply, LoadReply, loadReply, replyOfChoice}
-use Rattle.demands.specs.Calls.{Reply, Call, acceptCall, runCall, groundsCall, judgeCall, checkCall, searchCall, layeredCall, chooseCall, loadCall}
+use Rattle.replies.specs.Reply.{file_of, verdict_of_judged, verdict_of_checked, RunReply, run_reply, SearchReply, search_reply, GroundsReply, grounds_reply, LayeredReply, layered_reply, LoadReply, load_reply, reply_of_choice}
+use Rattle.demands.specs.Calls.{Reply, Call, accept_call, run_call, grounds_call, judge_call, check_call, search_call, layered_call, choose_call, load_call}
 
 -- A call with another reply.
 abbrev pub replying : Call → Reply → Call
 replying c reply = record { questions = c.questions; own = c.own; lent = c.lent; reply = reply }
 
 -- `retention_accept`: with the bytes of one step beside the counts.
-abbrev pub retentionAcceptCall : List ℕ → Call
-retentionAcceptCall file = replying (acceptCall file) (counted (fileOf (acceptOf file)))
+abbrev pub retention_accept_call : List ℕ → Call
+retention_accept_call file = replying (accept_call file) (counted (file_of (accept_of file)))
   where
     counted : FileReply → Reply
     counted c =
@@ -32,9 +32,9 @@ retentionAcceptCall file = replying (acceptCall file) (counted (fileOf (acceptOf
         }
 
 -- `retention_run`
-abbrev pub retentionRunCall : List ℕ → List ℕ → List ℕ → List ℕ → List ℕ → Call
-retentionRunCall file order facts rules steps =
-    replying (runCall file order facts rules steps) (counted (runReply (runOutcome file order facts rules steps)))
+abbrev pub retention_run_call : List ℕ → List ℕ → List ℕ → List ℕ → List ℕ → Call
+retention_run_call file order facts rules steps =
+    replying (run_call file order facts rules steps) (counted (run_reply (run_outcome file order facts rules steps)))
   where
     counted : RunReply → Reply
     counted o =
@@ -45,9 +45,9 @@ retentionRunCall file order facts rules steps =
         }
 
 -- `retention_grounds`
-abbrev pub retentionGroundsCall : List ℕ → List ℕ → ℕ → List ℕ → List ℕ → List ℕ → Call
-retentionGroundsCall file order fact facts rules steps =
-    replying (groundsCall file order fact facts rules steps) (counted (groundsReply (groundsOutcome file order fact facts rules steps)))
+abbrev pub retention_grounds_call : List ℕ → List ℕ → ℕ → List ℕ → List ℕ → List ℕ → Call
+retention_grounds_call file order fact facts rules steps =
+    replying (grounds_call file order fact facts rules steps) (counted (grounds_reply (grounds_outcome file order fact facts rules steps)))
   where
     counted : GroundsReply → Reply
     counted o =
@@ -58,20 +58,20 @@ retentionGroundsCall file order fact facts rules steps =
         }
 
 -- `retention_judge` and `retention_check`
-abbrev pub verdictReplied : Verdict → Reply
-verdictReplied v = record { number = v.refusal; counts = v.verdict ∷ []; left = [] }
+abbrev pub verdict_replied : Verdict → Reply
+verdict_replied v = record { number = v.refusal; counts = v.verdict ∷ []; left = [] }
 
-abbrev pub retentionJudgeCall : List ℕ → List ℕ → List ℕ → Call
-retentionJudgeCall file list set = replying (judgeCall file list set) (verdictReplied (verdictOfJudged (judged file list set)))
+abbrev pub retention_judge_call : List ℕ → List ℕ → List ℕ → Call
+retention_judge_call file list set = replying (judge_call file list set) (verdict_replied (verdict_of_judged (judged file list set)))
 
-abbrev pub retentionCheckCall : List ℕ → List ℕ → ℕ → List ℕ → Call
-retentionCheckCall file set fact row =
-    replying (checkCall file set fact row) (verdictReplied (verdictOfChecked (checked file set fact row)))
+abbrev pub retention_check_call : List ℕ → List ℕ → ℕ → List ℕ → Call
+retention_check_call file set fact row =
+    replying (check_call file set fact row) (verdict_replied (verdict_of_checked (checked file set fact row)))
 
 -- `retention_search`
-abbrev pub retentionSearchCall : List ℕ → List ℕ → List ℕ → List ℕ → List ℕ → Call
-retentionSearchCall file facts rules steps order =
-    replying (searchCall file facts rules steps order) (counted (searchReply (searchOutcome file facts rules steps order)))
+abbrev pub retention_search_call : List ℕ → List ℕ → List ℕ → List ℕ → List ℕ → Call
+retention_search_call file facts rules steps order =
+    replying (search_call file facts rules steps order) (counted (search_reply (search_outcome file facts rules steps order)))
   where
     counted : SearchReply → Reply
     counted o =
@@ -82,22 +82,22 @@ retentionSearchCall file facts rules steps order =
         }
 
 -- `retention_layered`
-abbrev pub retentionLayeredCall : List ℕ → List ℕ → Call
-retentionLayeredCall file order = replying (layeredCall file order) (counted (layeredReply (layeredOutcome file order)))
+abbrev pub retention_layered_call : List ℕ → List ℕ → Call
+retention_layered_call file order = replying (layered_call file order) (counted (layered_reply (layered_outcome file order)))
   where
     counted : LayeredReply → Reply
     counted o = record { number = o.reply.refusal; counts = o.reply.count ∷ []; left = o.order ∷ [] }
 
 -- `retention_better`
-abbrev pub retentionBetterCall : List ℕ → List ℕ → List ℕ → Call
-retentionBetterCall file first second = replying (chooseCall file first second) (counted (replyOfChoice (choice_of file first second)))
+abbrev pub retention_better_call : List ℕ → List ℕ → List ℕ → Call
+retention_better_call file first second = replying (choose_call file first second) (counted (reply_of_choice (choice_of file first second)))
   where
     counted : ChoiceReply → Reply
     counted c = record { number = c.refusal; counts = c.which ∷ []; left = [] }
 
 -- `retention_load`
-abbrev pub retentionLoadCall : ℕ → ℕ → ℕ → List ℕ → Call
-retentionLoadCall start facts rules out = replying (loadCall start facts rules out) (counted (loadReply (loadOutcome start facts rules out)))
+abbrev pub retention_load_call : ℕ → ℕ → ℕ → List ℕ → Call
+retention_load_call start facts rules out = replying (load_call start facts rules out) (counted (load_reply (load_outcome start facts rules out)))
   where
     counted : LoadReply → Reply
     counted o = record { number = o.reply.refusal; counts = o.reply.count ∷ []; left = o.out ∷ [] }

@@ -1,12 +1,12 @@
 // The walk. Internal.
 ghost use Rattle.std.specs.Prelude.{ℕ, ◌<◌, ◌≤◌, ◌≡◌, List, length, get_or, replicate};
 ghost use Rattle.theory.specs.Rule.{Program, count};
-ghost use Rattle.items.specs.Item.{narrow, maxFacts};
-ghost use Rattle.tables.specs.Layout.{programIn, WellFormed};
-ghost use Rattle.threads.specs.Threads.{threadEnd};
-ghost use Rattle.components.specs.Open.{seenOf, factAt, unmet};
+ghost use Rattle.items.specs.Item.{narrow, max_facts};
+ghost use Rattle.tables.specs.Layout.{program_in, WellFormed};
+ghost use Rattle.threads.specs.Threads.{thread_end};
+ghost use Rattle.components.specs.Open.{seen_of, fact_at, unmet};
 ghost use Rattle.descent.specs.declared.walk.Turn.TheVariants.{Goes};
-ghost use Rattle.descent.specs.Standing.{ruleKey, Stands, Rests, TurnLeaves, WalkLeaves, RanksFound};
+ghost use Rattle.descent.specs.Standing.{rule_key, Stands, Rests, TurnLeaves, WalkLeaves, RanksFound};
 
 use components::close::close_from;
 use components::look::{Look, UNMET, look_at_rule};
@@ -41,9 +41,9 @@ fn leave(
     ranks: &mut [u16; MAX_FACTS],
     s: Standing,
 ) -> Standing
-    requires height_nonzero { (0 < s.height) × (s.height ≤ maxFacts narrow) × (0 < s.roots) × (s.roots ≤ maxFacts narrow) × (s.at < s.height) }
-    requires seen_len { (length seen.old ≡ maxFacts narrow) × (length ranks.old ≡ maxFacts narrow) }
-    ensures { (P : Program) (todo next : List ℕ) → Stands P seen.old stack.now roots.now todo next ranks.old s → get_or todo (factAt stack.now s.at) 0 ≡ threadEnd → TurnLeaves P seen.old todo s next (Goes result) seen.new stack.now roots.now todo ranks.new }
+    requires height_nonzero { (0 < s.height) × (s.height ≤ max_facts narrow) × (0 < s.roots) × (s.roots ≤ max_facts narrow) × (s.at < s.height) }
+    requires seen_len { (length seen.old ≡ max_facts narrow) × (length ranks.old ≡ max_facts narrow) }
+    ensures { (P : Program) (todo next : List ℕ) → Stands P seen.old stack.now roots.now todo next ranks.old s → get_or todo (fact_at stack.now s.at) 0 ≡ thread_end → TurnLeaves P seen.old todo s next (Goes result) seen.new stack.now roots.now todo ranks.new }
 {
     let height = s.height;
     let count = s.roots;
@@ -77,8 +77,8 @@ fn take_turn(
     s: Standing,
 ) -> Turn
     requires well_formed { WellFormed tables.now × (0 < s.height) }
-    requires stands { Stands (programIn tables.now) seen.old stack.old roots.old todo.old next.now ranks.old s }
-    ensures { TurnLeaves (programIn tables.now) seen.old todo.old s next.now result seen.new stack.new roots.new todo.new ranks.new }
+    requires stands { Stands (program_in tables.now) seen.old stack.old roots.old todo.old next.now ranks.old s }
+    ensures { TurnLeaves (program_in tables.now) seen.old todo.old s next.now result seen.new stack.new roots.new todo.new ranks.new }
 {
     let height = s.height;
     let count = s.roots;
@@ -126,9 +126,9 @@ fn walk_from(
     ranks: &mut [u16; MAX_FACTS],
     fact: FactId,
 ) -> bool
-    requires well_formed { WellFormed tables.now × Rests (programIn tables.now) seen.old stack.old roots.old todo.old next.now ranks.old }
-    requires fact_bound { (fact.0 < (programIn tables.now).facts) × (seenOf seen.old fact.0 ≡ unmet) }
-    ensures { WalkLeaves (programIn tables.now) next.now seen.old fact.0 result seen.new stack.new roots.new todo.new ranks.new }
+    requires well_formed { WellFormed tables.now × Rests (program_in tables.now) seen.old stack.old roots.old todo.old next.now ranks.old }
+    requires fact_bound { (fact.0 < (program_in tables.now).facts) × (seen_of seen.old fact.0 ≡ unmet) }
+    ensures { WalkLeaves (program_in tables.now) next.now seen.old fact.0 result seen.new stack.new roots.new todo.new ranks.new }
 {
     open_fact(seen, stack, roots, 0, 0, 0, fact, false);
     let mut s = Standing {
@@ -151,8 +151,8 @@ fn walk_from(
 
 // The key of a rule: its conclusion, or END where it is withheld, so that no walk looks at it. The conclusion is read first: so the loop over the rules takes several at a time.
 fn rule_key(tables: &[u16; TABLE_CELLS], rule: RuleId) -> u16
-    requires { WellFormed tables.now × (rule.0 < count (programIn tables.now)) }
-    ensures { result ≡ ruleKey (programIn tables.now) rule.0 }
+    requires { WellFormed tables.now × (rule.0 < count (program_in tables.now)) }
+    ensures { result ≡ rule_key (program_in tables.now) rule.0 }
 {
     let fact = conclusion(tables, rule);
     if is_withheld(tables, rule) {
@@ -165,7 +165,7 @@ fn rule_key(tables: &[u16; TABLE_CELLS], rule: RuleId) -> u16
 // The key of each rule.
 fn keys_of(tables: &[u16; TABLE_CELLS]) -> [u16; MAX_RULES]
     requires { WellFormed tables.now }
-    ensures { (i : ℕ) → i < count (programIn tables.now) → get_or result i 0 ≡ ruleKey (programIn tables.now) i }
+    ensures { (i : ℕ) → i < count (program_in tables.now) → get_or result i 0 ≡ rule_key (program_in tables.now) i }
 {
     let rules = rules_of(tables);
     let mut keys = [0u16; MAX_RULES];
@@ -179,8 +179,8 @@ fn keys_of(tables: &[u16; TABLE_CELLS]) -> [u16; MAX_RULES]
 
 // Walks from every fact. Gives each its least rank, from 0 on; answers false where it met a cycle: there are no ranks then.
 pub fn walk(tables: &[u16; TABLE_CELLS], ranks: &mut [u16; MAX_FACTS]) -> bool
-    requires { WellFormed tables.now × (◌≡◌ {A = List ℕ} ranks.old (replicate (maxFacts narrow) 0)) }
-    ensures { RanksFound (programIn tables.now) result ranks.new }
+    requires { WellFormed tables.now × (◌≡◌ {A = List ℕ} ranks.old (replicate (max_facts narrow) 0)) }
+    ensures { RanksFound (program_in tables.now) result ranks.new }
 {
     let keys = keys_of(tables);
     let mut todo = [END; MAX_FACTS];

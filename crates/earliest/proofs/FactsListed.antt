@@ -11,37 +11,37 @@ use borrow.Author.Tests.{eqb-true, eqb-false}
 use lib.Dec.{eqb}
 use lib.ListN.{length, get_or, set, take, length-set}
 use lib.Seq.{take-suc-set, get_or-set_same, get_or-set_other}
-use Rattle.items.specs.Item.{narrow, maxFacts, maxGuessed, has}
-use Rattle.theory.specs.Rule.{keep, howMany, range, up_to}
-use Rattle.theory.specs.Lists.{downFrom}
+use Rattle.items.specs.Item.{narrow, max_facts, max_guessed, has}
+use Rattle.theory.specs.Rule.{keep, how_many, range, up_to}
+use Rattle.theory.specs.Lists.{down_from}
 use Rattle.theory.proofs.Bools.{either}
-use Rattle.theory.proofs.Lists.{howMany-append, less_one, range-more}
+use Rattle.theory.proofs.Lists.{how_many-append, less_one, range-more}
 use Rattle.earliest.specs.Root.{Kept}
 
 -- Of the facts below `facts` those from f on are listed.
 pub record Down (marks : List ℕ) (facts : ℕ) (row : List ℕ) (n f : ℕ) : Type 0 where
-  pub places : length row ≡ maxGuessed
+  pub places : length row ≡ max_guessed
   pub below : f ≤ facts
-  pub room : n + howMany (has marks) (downFrom f) ≤ maxGuessed
-  pub listed : take n row ++ keep (has marks) (downFrom f) ≡ keep (has marks) (downFrom facts)
+  pub room : n + how_many (has marks) (down_from f) ≤ max_guessed
+  pub listed : take n row ++ keep (has marks) (down_from f) ≡ keep (has marks) (down_from facts)
 
 -- counted up or down
-pub howMany-down : (p : ℕ → Bool) (n : ℕ) → howMany p (downFrom n) ≡ howMany p (up_to n)
-howMany-down p zero = refl
-howMany-down p (suc n) =
-    go (p n) (howMany-down p n)
-    ∙ sym (ap (howMany p) (range-more 0 n) ∙ howMany-append p (range 0 n) ((0 + n) ∷ []) ∙ ap (λ (x : ℕ). howMany p (range 0 n) + howMany p (x ∷ [])) (zero-add n))
+pub how_many-down : (p : ℕ → Bool) (n : ℕ) → how_many p (down_from n) ≡ how_many p (up_to n)
+how_many-down p zero = refl
+how_many-down p (suc n) =
+    go (p n) (how_many-down p n)
+    ∙ sym (ap (how_many p) (range-more 0 n) ∙ how_many-append p (range 0 n) ((0 + n) ∷ []) ∙ ap (λ (x : ℕ). how_many p (range 0 n) + how_many p (x ∷ [])) (zero-add n))
   where
-    go : (b : Bool) → howMany p (downFrom n) ≡ howMany p (up_to n) → cond b (suc (howMany p (downFrom n))) (howMany p (downFrom n)) ≡ howMany p (up_to n) + cond b 1 0
+    go : (b : Bool) → how_many p (down_from n) ≡ how_many p (up_to n) → cond b (suc (how_many p (down_from n))) (how_many p (down_from n)) ≡ how_many p (up_to n) + cond b 1 0
     go true e = omega (arith, e)
     go false e = omega (arith, e)
 
 module _ (marks : List ℕ) (facts : ℕ) (row : List ℕ) where
-  pub none-listed : howMany (has marks) (up_to facts) ≤ maxGuessed → length row ≡ maxGuessed → Down marks facts row 0 facts
-  none-listed few l =
-      record { places = l; below = omega arith; room = omega (arith, few, howMany-down (has marks) facts); listed = refl }
+  pub none_listed : how_many (has marks) (up_to facts) ≤ max_guessed → length row ≡ max_guessed → Down marks facts row 0 facts
+  none_listed few l =
+      record { places = l; below = omega arith; room = omega (arith, few, how_many-down (has marks) facts); listed = refl }
 
-  pub all_listed : (n : ℕ) → Down marks facts row n 0 → (n ≤ maxGuessed) × (take n row ≡ keep (has marks) (downFrom facts))
+  pub all_listed : (n : ℕ) → Down marks facts row n 0 → (n ≤ max_guessed) × (take n row ≡ keep (has marks) (down_from facts))
   all_listed n w = (omega (arith, w.room), sym (append-nil (take n row)) ∙ w.listed)
 
   pub no_more : (n f : ℕ) → Down marks facts row n f → f ≤ 0 → Down marks facts row n 0
@@ -50,23 +50,23 @@ module _ (marks : List ℕ) (facts : ℕ) (row : List ℕ) where
 
   module _ (n f : ℕ) (more : 0 < f) (w : Down marks facts row n f) where
     -- the highest that is left
-    first-left : downFrom f ≡ (f - 1) ∷ downFrom (f - 1)
+    first-left : down_from f ≡ (f - 1) ∷ down_from (f - 1)
     first-left = go f more
       where
-        go : (f : ℕ) → 0 < f → downFrom f ≡ (f - 1) ∷ downFrom (f - 1)
+        go : (f : ℕ) → 0 < f → down_from f ≡ (f - 1) ∷ down_from (f - 1)
         go zero l = absurd (omega arith)
         go (suc g) l = rw (less_one g) refl
 
     abbrev Left : Bool → Type 0
     Left b =
-        (n + cond b (suc (howMany (has marks) (downFrom (f - 1)))) (howMany (has marks) (downFrom (f - 1))) ≤ maxGuessed)
-        × (take n row ++ cond b ((f - 1) ∷ keep (has marks) (downFrom (f - 1))) (keep (has marks) (downFrom (f - 1))) ≡ keep (has marks) (downFrom facts))
+        (n + cond b (suc (how_many (has marks) (down_from (f - 1)))) (how_many (has marks) (down_from (f - 1))) ≤ max_guessed)
+        × (take n row ++ cond b ((f - 1) ∷ keep (has marks) (down_from (f - 1))) (keep (has marks) (down_from (f - 1))) ≡ keep (has marks) (down_from facts))
 
     left : (b : Bool) → has marks (f - 1) ≡ b → Left b
     left b e =
         subst Left e (
-          subst (λ (l : List ℕ). n + howMany (has marks) l ≤ maxGuessed) first-left w.room,
-          subst (λ (l : List ℕ). take n row ++ keep (has marks) l ≡ keep (has marks) (downFrom facts)) first-left w.listed,
+          subst (λ (l : List ℕ). n + how_many (has marks) l ≤ max_guessed) first-left w.room,
+          subst (λ (l : List ℕ). take n row ++ keep (has marks) l ≡ keep (has marks) (down_from facts)) first-left w.listed,
         )
 
     pub passed : has marks (f - 1) ≡ false → Down marks facts row n (f - 1)
@@ -74,17 +74,17 @@ module _ (marks : List ℕ) (facts : ℕ) (row : List ℕ) where
         record { places = w.places; below = omega (arith, w.below); room = (left false e).0; listed = (left false e).1 }
 
     module _ (e : has marks (f - 1) ≡ true) where
-      pub in-row : n < maxGuessed
+      pub in-row : n < max_guessed
       in-row = omega (arith, (left true e).0)
 
-      front : take (n + 1) (set row n (f - 1)) ++ keep (has marks) (downFrom (f - 1)) ≡ take n row ++ ((f - 1) ∷ keep (has marks) (downFrom (f - 1)))
+      front : take (n + 1) (set row n (f - 1)) ++ keep (has marks) (down_from (f - 1)) ≡ take n row ++ ((f - 1) ∷ keep (has marks) (down_from (f - 1)))
       front =
-          ap (λ (m : ℕ). take m (set row n (f - 1)) ++ keep (has marks) (downFrom (f - 1))) (add-one n)
-          ∙ ap (λ (l : List ℕ). l ++ keep (has marks) (downFrom (f - 1))) (take-suc-set row n (f - 1) (omega (arith, in-row, w.places)))
-          ∙ append_assoc (take n row) ((f - 1) ∷ []) (keep (has marks) (downFrom (f - 1)))
+          ap (λ (m : ℕ). take m (set row n (f - 1)) ++ keep (has marks) (down_from (f - 1))) (add-one n)
+          ∙ ap (λ (l : List ℕ). l ++ keep (has marks) (down_from (f - 1))) (take-suc-set row n (f - 1) (omega (arith, in-row, w.places)))
+          ∙ append_assoc (take n row) ((f - 1) ∷ []) (keep (has marks) (down_from (f - 1)))
 
-      pub one-listed : Down marks facts (set row n (f - 1)) (n + 1) (f - 1)
-      one-listed =
+      pub one_listed : Down marks facts (set row n (f - 1)) (n + 1) (f - 1)
+      one_listed =
           record {
             places = length-set row n (f - 1) ∙ w.places;
             below = omega (arith, w.below);
@@ -94,17 +94,17 @@ module _ (marks : List ℕ) (facts : ℕ) (row : List ℕ) where
 
 -- The facts below f are kept.
 pub record Keeping (marks found : List ℕ) (f : ℕ) : Type 0 where
-  pub places : length found ≡ maxFacts narrow
+  pub places : length found ≡ max_facts narrow
   pub kept : (g : ℕ) → g < f → has found g ≡ has marks g
 
 module _ (marks found : List ℕ) where
-  pub none_kept : length found ≡ maxFacts narrow → Keeping marks found 0
+  pub none_kept : length found ≡ max_facts narrow → Keeping marks found 0
   none_kept l = record { places = l; kept = λ g h. absurd (omega arith) }
 
-  pub all-kept : (f : ℕ) → maxFacts narrow ≤ f → Keeping marks found f → Kept marks found
+  pub all-kept : (f : ℕ) → max_facts narrow ≤ f → Keeping marks found f → Kept marks found
   all-kept f h w = record { places = w.places; facts = λ g l. w.kept g (omega arith) }
 
-  pub one_kept : (f : ℕ) → f < maxFacts narrow → Keeping marks found f → Keeping marks (set found f (get_or marks f 0)) (f + 1)
+  pub one_kept : (f : ℕ) → f < max_facts narrow → Keeping marks found f → Keeping marks (set found f (get_or marks f 0)) (f + 1)
   unfolding has
   one_kept f h w = record { places = length-set found f (get_or marks f 0) ∙ w.places; kept = at_place }
     where

@@ -9,62 +9,62 @@ use mathlib.Core.Option.{Option, none, some}
 use borrow.Author.Tests.{ltb-true, ltb-false}
 use lib.Dec.{ltb}
 use lib.ListN.{length, replicate}
-use Rattle.theory.specs.Rule.{mem, NoRepeat, keep, Program, FactSet, inForce, nothing, constraintFact, count}
+use Rattle.theory.specs.Rule.{mem, NoRepeat, keep, Program, FactSet, in_force, nothing, constraint_fact, count}
 use Rattle.theory.specs.Conditions.{Bounded}
-use Rattle.theory.specs.Lists.{downFrom}
+use Rattle.theory.specs.Lists.{down_from}
 use Rattle.theory.specs.Search.{guessed, fits, hunt, search}
-use Rattle.theory.specs.Guesses.{guessAt}
+use Rattle.theory.specs.Guesses.{guess_at}
 use Rattle.theory.proofs.Bools.{either, never, and_left, and-true, false_of, or-none}
-use Rattle.theory.proofs.Lists.{mem-keep, mem-downFrom}
-use Rattle.theory.proofs.Stable.{leastOf-least, least-within}
-use Rattle.items.specs.Item.{narrow, maxFacts, maxRules, maxGuessed, has}
+use Rattle.theory.proofs.Lists.{mem-keep, mem-down_from}
+use Rattle.theory.proofs.Stable.{least_of-least, least_within}
+use Rattle.items.specs.Item.{narrow, max_facts, max_rules, max_guessed, has}
 use Rattle.marking.proofs.MarksPainted.{unmarked, past_end}
 use Rattle.index.specs.Literal.{outside, literals}
-use Rattle.index.specs.Cells.{onIn}
+use Rattle.index.specs.Cells.{on_in}
 use Rattle.index.specs.Index.{LeftOut}
 use Rattle.propagation.specs.State.{HeldToo}
-use Rattle.guessing.specs.Guessing.{sureIn, derivedBy, Derived}
-use Rattle.guessing.specs.First.{firstFit}
+use Rattle.guessing.specs.Guessing.{sure_in, derived_by, Derived}
+use Rattle.guessing.specs.First.{first_fit}
 use Rattle.blocks.specs.Find.{Found}
 use Rattle.earliest.specs.Root.{AtRoot, Shown, Kept}
 
-down-once : (p : ℕ → Bool) (n : ℕ) → NoRepeat (keep p (downFrom n))
-down-once p zero = tt
-down-once p (suc n) = go (p n) (down-once p n)
+down_once : (p : ℕ → Bool) (n : ℕ) → NoRepeat (keep p (down_from n))
+down_once p zero = tt
+down_once p (suc n) = go (p n) (down_once p n)
   where
-    later : mem n (keep p (downFrom n)) ≡ false
+    later : mem n (keep p (down_from n)) ≡ false
     later =
-        false_of (mem n (keep p (downFrom n)))
-        (λ m. let t : n < n = mem-downFrom n n (and_left (mem n (downFrom n)) (p n) (rw (mem-keep p (downFrom n) n) at m)) in absurd (omega arith))
+        false_of (mem n (keep p (down_from n)))
+        (λ m. let t : n < n = mem-down_from n n (and_left (mem n (down_from n)) (p n) (rw (mem-keep p (down_from n) n) at m)) in absurd (omega arith))
 
-    go : (b : Bool) → NoRepeat (keep p (downFrom n)) → NoRepeat (cond b (n ∷ keep p (downFrom n)) (keep p (downFrom n)))
+    go : (b : Bool) → NoRepeat (keep p (down_from n)) → NoRepeat (cond b (n ∷ keep p (down_from n)) (keep p (down_from n)))
     go true r = (later, r)
     go false r = r
 
-guessed-once : (P : Program) → NoRepeat (guessed P (inForce P))
+guessed-once : (P : Program) → NoRepeat (guessed P (in_force P))
 unfolding guessed
-guessed-once P = down-once (constraintFact P (inForce P)) P.facts
+guessed-once P = down_once (constraint_fact P (in_force P)) P.facts
 
 -- What is sure beside the row: nothing.
-module _ (P : Program) {row : List ℕ} (every : row ≡ guessed P (inForce P)) (base : List ℕ) where
-  none-sure : (k : ℕ) → sureIn P row base k ≡ false
-  none-sure k = ap (λ (ks : List ℕ). mem k (guessed P (inForce P)) && not (mem k ks) && not (has base (outside k))) every ∙ apart (mem k (guessed P (inForce P))) (has base (outside k))
+module _ (P : Program) {row : List ℕ} (every : row ≡ guessed P (in_force P)) (base : List ℕ) where
+  none_sure : (k : ℕ) → sure_in P row base k ≡ false
+  none_sure k = ap (λ (ks : List ℕ). mem k (guessed P (in_force P)) && not (mem k ks) && not (has base (outside k))) every ∙ apart (mem k (guessed P (in_force P))) (has base (outside k))
     where
       apart : (a b : Bool) → a && not a && not b ≡ false
       apart true b = refl
       apart false b = refl
 
-  pub root-base : length row ≤ maxGuessed → ((k : ℕ) → has base (outside k) ≡ false) → AtRoot P row base
-  root-base few none-held =
+  pub root_base : length row ≤ max_guessed → ((k : ℕ) → has base (outside k) ≡ false) → AtRoot P row base
+  root_base few none_held =
       record {
         every = every;
-        none-held = none-held;
-        row-base = record {
+        none_held = none_held;
+        row_base = record {
           few = few;
-          undecided = λ k m. none-held k;
-          to-guess = record {
+          undecided = λ k m. none_held k;
+          to_guess = record {
             once = subst NoRepeat (sym every) (guessed-once P);
-            free = λ k m. none-sure k;
+            free = λ k m. none_sure k;
             asked = λ k m. ap (mem k) (sym every) ∙ m;
             sure = λ x k m o. never m (ap (mem k) (sym every) ∙ o);
           };
@@ -72,32 +72,32 @@ module _ (P : Program) {row : List ℕ} (every : row ≡ guessed P (inForce P)) 
       }
 
   -- The first guess that fits is the one that the search takes.
-  first-is : firstFit P row base ≡ hunt (fits P (inForce P)) (guessed P (inForce P)) nothing
+  first-is : first_fit P row base ≡ hunt (fits P (in_force P)) (guessed P (in_force P)) nothing
   first-is =
-      ap (λ (ks : List ℕ). hunt (fits P (inForce P)) ks (sureIn P row base)) every
-      ∙ ap (hunt (fits P (inForce P)) (guessed P (inForce P))) (fun_ext none-sure)
+      ap (λ (ks : List ℕ). hunt (fits P (in_force P)) ks (sure_in P row base)) every
+      ∙ ap (hunt (fits P (in_force P)) (guessed P (in_force P))) (fun_ext none_sure)
 
-  none-shown : (found : List ℕ) → ◌≡◌ {A = Option FactSet} (firstFit P row base) none → Shown (search P (inForce P)) false found
+  none_shown : (found : List ℕ) → ◌≡◌ {A = Option FactSet} (first_fit P row base) none → Shown (search P (in_force P)) false found
   unfolding search
-  none-shown found e = let q : ◌≡◌ {A = Option FactSet} (hunt (fits P (inForce P)) (guessed P (inForce P)) nothing) none = sym first-is ∙ e in rw (q, search) refl
+  none_shown found e = let q : ◌≡◌ {A = Option FactSet} (hunt (fits P (in_force P)) (guessed P (in_force P)) nothing) none = sym first-is ∙ e in rw (q, search) refl
 
-  one-shown : (found : List ℕ) (g : ℕ) → firstFit P row base ≡ some (guessAt row (sureIn P row base) g) → has found ≡ derivedBy P row base g → Shown (search P (inForce P)) true found
+  one_shown : (found : List ℕ) (g : ℕ) → first_fit P row base ≡ some (guess_at row (sure_in P row base) g) → has found ≡ derived_by P row base g → Shown (search P (in_force P)) true found
   unfolding search
-  one-shown found g e h = let q : hunt (fits P (inForce P)) (guessed P (inForce P)) nothing ≡ some (guessAt row (sureIn P row base) g) = sym first-is ∙ e in rw (q, search) (refl, h)
+  one_shown found g e h = let q : hunt (fits P (in_force P)) (guessed P (in_force P)) nothing ≡ some (guess_at row (sure_in P row base) g) = sym first-is ∙ e in rw (q, search) (refl, h)
 
 -- Bytes for the facts alone show a whole set.
-bytes-show : {P : Program} → Bounded P → P.facts ≤ maxFacts narrow → (row base found : List ℕ) (g : ℕ) → length found ≡ maxFacts narrow → Derived P row base g found → has found ≡ derivedBy P row base g
-bytes-show {P} b few row base found g size d = fun_ext (λ f. ⊎_elim (λ t. d f (ltb-true f (maxFacts narrow) t)) (past f) (either (ltb f (maxFacts narrow))))
+bytes_show : {P : Program} → Bounded P → P.facts ≤ max_facts narrow → (row base found : List ℕ) (g : ℕ) → length found ≡ max_facts narrow → Derived P row base g found → has found ≡ derived_by P row base g
+bytes_show {P} b few row base found g size d = fun_ext (λ f. ⊎_elim (λ t. d f (ltb-true f (max_facts narrow) t)) (past f) (either (ltb f (max_facts narrow))))
   where
-    past : (f : ℕ) → ltb f (maxFacts narrow) ≡ false → has found f ≡ derivedBy P row base g f
+    past : (f : ℕ) → ltb f (max_facts narrow) ≡ false → has found f ≡ derived_by P row base g f
     past f t =
-        let l : maxFacts narrow ≤ f = ltb-false f (maxFacts narrow) t in
+        let l : max_facts narrow ≤ f = ltb-false f (max_facts narrow) t in
         past_end found f (omega (arith, size))
-        ∙ sym (least-within P (inForce P) (guessAt row (sureIn P row base) g) (derivedBy P row base g) b (leastOf-least P (inForce P) (guessAt row (sureIn P row base) g)) f (omega (arith, few)))
+        ∙ sym (least_within P (in_force P) (guess_at row (sure_in P row base) g) (derived_by P row base g) b (least_of-least P (in_force P) (guess_at row (sure_in P row base) g)) f (omega (arith, few)))
 
 -- every rule in force is in the index
-pub all_in : (P : Program) (R : List ℕ) → LeftOut P (replicate maxRules 0) R → (i : ℕ) → i < count P → onIn R i ≡ inForce P i
-all_in P R o i l = o i l ∙ ap (λ (b : Bool). inForce P i && not b) (ap (λ (g : ℕ → Bool). g i) (unmarked maxRules)) ∙ and-true (inForce P i)
+pub all_in : (P : Program) (R : List ℕ) → LeftOut P (replicate max_rules 0) R → (i : ℕ) → i < count P → on_in R i ≡ in_force P i
+all_in P R o i l = o i l ∙ ap (λ (b : Bool). in_force P i && not b) (ap (λ (g : ℕ → Bool). g i) (unmarked max_rules)) ∙ and-true (in_force P i)
 
 -- nothing is held out
 pub none_out : (before base : List ℕ) → before ≡ replicate literals 0 → HeldToo before [] base → (k : ℕ) → has base (outside k) ≡ false
@@ -105,16 +105,16 @@ none_out before base e h k =
     h k ∙ or-none (has before (outside k)) ∙ ap (λ (l : List ℕ). has l (outside k)) e ∙ ap (λ (g : ℕ → Bool). g (outside k)) (unmarked literals)
 
 -- What the guesses find is what the search takes.
-module _ {P : Program} (b : Bounded P) (few : P.facts ≤ maxFacts narrow) {row base : List ℕ} (r : AtRoot P row base) where
-  pub nothing-shown : (found : List ℕ) → ◌≡◌ {A = Option FactSet} (firstFit P row base) none → Shown (search P (inForce P)) false found
-  nothing-shown found e = none-shown P r.every base found e
+module _ {P : Program} (b : Bounded P) (few : P.facts ≤ max_facts narrow) {row base : List ℕ} (r : AtRoot P row base) where
+  pub nothing-shown : (found : List ℕ) → ◌≡◌ {A = Option FactSet} (first_fit P row base) none → Shown (search P (in_force P)) false found
+  nothing-shown found e = none_shown P r.every base found e
 
-  pub fits-shown : (marks found : List ℕ) → ((g : ℕ) × (firstFit P row base ≡ some (guessAt row (sureIn P row base) g)) × Derived P row base g marks) → Kept marks found → Shown (search P (inForce P)) true found
+  pub fits-shown : (marks found : List ℕ) → ((g : ℕ) × (first_fit P row base ≡ some (guess_at row (sure_in P row base) g)) × Derived P row base g marks) → Kept marks found → Shown (search P (in_force P)) true found
   fits-shown marks found w k =
-      one-shown P r.every base found w.0 w.1 (bytes-show b few row base found w.0 k.places (λ f l. k.facts f l ∙ w.2 f l))
+      one_shown P r.every base found w.0 w.1 (bytes_show b few row base found w.0 k.places (λ f l. k.facts f l ∙ w.2 f l))
 
-  pub found-shown : (t : Bool) (found : List ℕ) → Found P row base t found → Shown (search P (inForce P)) t found
-  found-shown true found f =
-      let w : (g : ℕ) × (firstFit P row base ≡ some (guessAt row (sureIn P row base) g)) × Derived P row base g found = f.one-fits refl in
-      one-shown P r.every base found w.0 w.1 (bytes-show b few row base found w.0 f.places w.2)
-  found-shown false found f = nothing-shown found (f.none-fits refl)
+  pub found_shown : (t : Bool) (found : List ℕ) → Found P row base t found → Shown (search P (in_force P)) t found
+  found_shown true found f =
+      let w : (g : ℕ) × (first_fit P row base ≡ some (guess_at row (sure_in P row base) g)) × Derived P row base g found = f.one_fits refl in
+      one_shown P r.every base found w.0 w.1 (bytes_show b few row base found w.0 f.places w.2)
+  found_shown false found f = nothing-shown found (f.none_fits refl)

@@ -1,9 +1,9 @@
 // The search for the earliest stable set, from the tables. Internal.
 ghost use Rattle.std.specs.Prelude.{ℕ, ◌≤◌, ◌≡◌, List, length, replicate};
-ghost use Rattle.theory.specs.Rule.{inForce};
+ghost use Rattle.theory.specs.Rule.{in_force};
 ghost use Rattle.theory.specs.Search.{guessed, search};
-ghost use Rattle.items.specs.Item.{narrow, maxFacts, maxGuessed};
-ghost use Rattle.tables.specs.Layout.{programIn, WellFormed};
+ghost use Rattle.items.specs.Item.{narrow, max_facts, max_guessed};
+ghost use Rattle.tables.specs.Layout.{program_in, WellFormed};
 ghost use Rattle.index.specs.Literal.{literals};
 ghost use Rattle.guessing.specs.First.{Sought};
 ghost use Rattle.earliest.specs.Root.{AtRoot, Shown, Kept};
@@ -17,7 +17,7 @@ use tables::layout::TABLE_CELLS;
 
 // Hands the facts marked over to the caller.
 fn keep_facts(marks: &[u8; LITERALS], found: &mut [u8; MAX_FACTS])
-    requires { length found.old ≡ maxFacts narrow }
+    requires { length found.old ≡ max_facts narrow }
     ensures { Kept marks.now found.new }
 {
     let mut f: usize = 0;
@@ -34,10 +34,10 @@ fn guess_first(
     base: &mut [u8; LITERALS],
     marks: &mut [u8; LITERALS],
 ) -> First
-    requires well_formed { WellFormed tables.now × (row.now ≡ guessed (programIn tables.now) (inForce (programIn tables.now))) × (length row.now ≤ maxGuessed) }
+    requires well_formed { WellFormed tables.now × (row.now ≡ guessed (program_in tables.now) (in_force (program_in tables.now))) × (length row.now ≤ max_guessed) }
     requires fact { ◌≡◌ {A = List ℕ} base.old (replicate literals 0) }
-    ensures at_root { AtRoot (programIn tables.now) row.now base.new }
-    ensures sought { Sought (programIn tables.now) row.now base.new result marks.new }
+    ensures at_root { AtRoot (program_in tables.now) row.now base.new }
+    ensures sought { Sought (program_in tables.now) row.now base.new result marks.new }
 {
     let off = [0u8; MAX_RULES];
     let mut index = [0u64; INDEX_WORDS];
@@ -49,8 +49,8 @@ fn guess_first(
 
 // Whether a program has a stable set, and the earliest one. The row has its constraint facts from the highest-numbered down.
 pub fn earliest(tables: &[u16; TABLE_CELLS], row: &[u16], found: &mut [u8; MAX_FACTS]) -> bool
-    requires { WellFormed tables.now × (row.now ≡ guessed (programIn tables.now) (inForce (programIn tables.now))) × (length row.now ≤ maxGuessed) × (length found.old ≡ maxFacts narrow) }
-    ensures { Shown (search (programIn tables.now) (inForce (programIn tables.now))) result found.new }
+    requires { WellFormed tables.now × (row.now ≡ guessed (program_in tables.now) (in_force (program_in tables.now))) × (length row.now ≤ max_guessed) × (length found.old ≡ max_facts narrow) }
+    ensures { Shown (search (program_in tables.now) (in_force (program_in tables.now))) result found.new }
 {
     let mut base = [0u8; LITERALS];
     let mut marks = [0u8; LITERALS];

@@ -2,7 +2,7 @@
 use Rattle.std.proofs.Common.{◌≡◌, ℕ, ◌+◌, ◌-◌, ◌*◌, ◌/◌, ◌%◌, ◌<◌, ◌≤◌, sym, ap, ◌∙◌, mul-le-mul_right, mod-lt, mul_assoc, mul_comm, add-mul, mul-le-mul, mul-le-mul_left, le-div_iff_mul-le, mul-one, mul-add, div-le_self, div-mul-le_self, arith}
 use native.Mathlib.Nat.{div-add-mod, mod-eq-sub-div-mul}
 use Rattle.generator.specs.Draws.{states, divisor, taken, draw}
-use Rattle.generator.specs.Outcome.{mostFacts}
+use Rattle.generator.specs.Outcome.{most_facts}
 use Rattle.generator.specs.declared.draw.Modulus.{Modulus}
 use Rattle.generator.specs.Drawing.{Divides}
 
@@ -15,7 +15,7 @@ product x n q r w s t ex es =
     let d : q * s ≡ q * (n * w) + q * t = ap (λ (y : ℕ). q * y) (sym es) ∙ mul-add q (n * w) t in
     omega arith
 
-module _ (x n : ℕ) (small : x < divisor) (some : 0 < n) (few : n ≤ mostFacts) where
+module _ (x n : ℕ) (small : x < divisor) (some : 0 < n) (few : n ≤ most_facts) where
   -- the factor is above x
   wide : divisor ≤ states / n
   wide = (le-div_iff_mul-le some).1 (omega arith)
@@ -42,16 +42,16 @@ module _ (state : ℕ) (by : Modulus) (fits : state < states) (d : Divides by) w
   small : x < divisor
   small = omega arith
 
-  pub product-fits : x * by.inverse < states * states
-  product-fits =
+  pub product_fits : x * by.inverse < states * states
+  product_fits =
       let few-times : x * by.inverse ≤ divisor * (states + 1) = mul-le-mul {n₁ = x} {m₁ = by.inverse} {n₂ = divisor} {m₂ = states + 1} (omega (arith, small)) (omega (arith, d.inverse, div-le_self states n)) in
       omega arith
 
   pub quotient_is : x * by.inverse / states ≡ x / n
   quotient_is = rw d.inverse (quotient x n small d.some d.few)
 
-  pub quotient-small : x * by.inverse / states ≤ x
-  quotient-small = omega (arith, quotient_is, div-le_self x n)
+  pub quotient_small : x * by.inverse / states ≤ x
+  quotient_small = omega (arith, quotient_is, div-le_self x n)
 
   pub back_below : x * by.inverse / states * n ≤ x
   back_below = rw quotient_is (div-mul-le_self x n)
@@ -60,9 +60,9 @@ module _ (state : ℕ) (by : Modulus) (fits : state < states) (d : Divides by) w
   unfolding taken
   takes = rw quotient_is (sym (mod-eq-sub-div-mul x n))
 
-  pub takes-below : x - x * by.inverse / states * n < n
+  pub takes_below : x - x * by.inverse / states * n < n
   unfolding taken
-  takes-below = rw takes (mod-lt x d.some)
+  takes_below = rw takes (mod-lt x d.some)
 
 -- What a draw takes is a fact.
 pub draw-below : (start n : ℕ) → 0 < n → (k : ℕ) → draw start n k < n

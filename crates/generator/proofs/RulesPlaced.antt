@@ -4,32 +4,32 @@ use Rattle.theory.specs.Rule.{up_to}
 use Rattle.theory.proofs.Lists.{length-range, range-more}
 use Rattle.items.specs.declared.item.Item.{Item}
 use Rattle.items.specs.declared.item.Item.TheVariants.{Facts}
-use Rattle.items.specs.Item.{narrow, opensKind}
+use Rattle.items.specs.Item.{narrow, opens_kind}
 use Rattle.items.specs.Write.{bytes_of, placed, over}
-use Rattle.items.proofs.ItemBytes.{bytes-append}
+use Rattle.items.proofs.ItemBytes.{bytes_append}
 use Rattle.items.proofs.PlacedBytes.{placed-more, placed-length, over-more}
-use Rattle.generator.specs.Draws.{increment, states, stateAfter, taken}
-use Rattle.generator.specs.Load.{conclusionOf, first_of, second_of, ruleItems, items_of}
-use Rattle.generator.specs.Outcome.{loadLength}
+use Rattle.generator.specs.Draws.{increment, states, state_after, taken}
+use Rattle.generator.specs.Load.{conclusion_of, first_of, second_of, rule_items, items_of}
+use Rattle.generator.specs.Outcome.{load_length}
 use Rattle.generator.specs.Drawing.{RuleWritten, RulesWritten}
 use Rattle.generator.proofs.LoadRead.{two, rule-length, rules-length}
 
 -- The kinds of a rule's two items, by turns.
-abbrev pub firstKinds : List ℕ
-firstKinds = 3 ∷ 2 ∷ 2 ∷ []
+abbrev pub first_kinds : List ℕ
+first_kinds = 3 ∷ 2 ∷ 2 ∷ []
 
-abbrev pub secondKinds : List ℕ
-secondKinds = 3 ∷ 2 ∷ 3 ∷ []
+abbrev pub second_kinds : List ℕ
+second_kinds = 3 ∷ 2 ∷ 3 ∷ []
 
-turn-bytes : (t f g : ℕ) → t < 3 → bytes_of narrow (two (eqb t 0) (eqb t 1) f g) ≡ (get_or firstKinds t 0 ∷ f ∷ []) ++ (get_or secondKinds t 0 ∷ g ∷ [])
-turn-bytes zero f g h = refl
-turn-bytes (suc zero) f g h = refl
-turn-bytes (suc (suc zero)) f g h = refl
-turn-bytes (suc (suc (suc t))) f g h = absurd (omega arith)
+turn_bytes : (t f g : ℕ) → t < 3 → bytes_of narrow (two (eqb t 0) (eqb t 1) f g) ≡ (get_or first_kinds t 0 ∷ f ∷ []) ++ (get_or second_kinds t 0 ∷ g ∷ [])
+turn_bytes zero f g h = refl
+turn_bytes (suc zero) f g h = refl
+turn_bytes (suc (suc zero)) f g h = refl
+turn_bytes (suc (suc (suc t))) f g h = absurd (omega arith)
 
 -- The state behind one draw more.
-next-state : (start k state : ℕ) → state ≡ stateAfter start k → (state + increment) % states ≡ stateAfter start (suc k)
-unfolding stateAfter
+next-state : (start k state : ℕ) → state ≡ state_after start k → (state + increment) % states ≡ state_after start (suc k)
+unfolding state_after
 next-state start k state e = rw e refl
 
 -- What is placed part after part, two bytes each.
@@ -43,13 +43,13 @@ placed-three a b c d e f at s h =
 
 module _ (start n : ℕ) where
   -- The bytes of rule i, by the table of kinds.
-  rule-bytes : (i : ℕ) → bytes_of narrow (ruleItems start n i) ≡ (opensKind narrow ∷ conclusionOf start n i ∷ []) ++ ((get_or firstKinds (i % 3) 0 ∷ first_of start n i ∷ []) ++ (get_or secondKinds (i % 3) 0 ∷ second_of start n i ∷ []))
-  unfolding ruleItems
-  rule-bytes i = ap (λ (bytes : List ℕ). opensKind narrow ∷ conclusionOf start n i ∷ bytes) (turn-bytes (i % 3) (first_of start n i) (second_of start n i) (omega arith))
+  rule-bytes : (i : ℕ) → bytes_of narrow (rule_items start n i) ≡ (opens_kind narrow ∷ conclusion_of start n i ∷ []) ++ ((get_or first_kinds (i % 3) 0 ∷ first_of start n i ∷ []) ++ (get_or second_kinds (i % 3) 0 ∷ second_of start n i ∷ []))
+  unfolding rule_items
+  rule-bytes i = ap (λ (bytes : List ℕ). opens_kind narrow ∷ conclusion_of start n i ∷ bytes) (turn_bytes (i % 3) (first_of start n i) (second_of start n i) (omega arith))
 
   -- What is written when i rules are.
   pub record Drawn (before : List ℕ) (state turn at i : ℕ) (out : List ℕ) : Type 0 where
-    pub state-is : state ≡ stateAfter start (3 * i)
+    pub state_is : state ≡ state_after start (3 * i)
     pub turn_is : turn ≡ i % 3
     pub place : at ≡ 2 + 6 * i
     pub kept : length out ≡ length before
@@ -61,23 +61,23 @@ module _ (start n : ℕ) where
   -- One rule more is one more at the end.
   items-append : (is js : List ℕ) → items_of start n (is ++ js) ≡ items_of start n is ++ items_of start n js
   items-append [] js = refl
-  items-append (i ∷ is) js = ap (λ (l : List Item). ruleItems start n i ++ l) (items-append is js) ∙ sym (append_assoc (ruleItems start n i) (items_of start n is) (items_of start n js))
+  items-append (i ∷ is) js = ap (λ (l : List Item). rule_items start n i ++ l) (items-append is js) ∙ sym (append_assoc (rule_items start n i) (items_of start n is) (items_of start n js))
 
-  items_more : (i : ℕ) → items_of start n (up_to (i + 1)) ≡ items_of start n (up_to i) ++ ruleItems start n i
+  items_more : (i : ℕ) → items_of start n (up_to (i + 1)) ≡ items_of start n (up_to i) ++ rule_items start n i
   items_more i =
       ap (λ (k : ℕ). items_of start n (up_to k)) (add-one i)
       ∙ ap (items_of start n) (range-more 0 i)
       ∙ items-append (up_to i) ((0 + i) ∷ [])
-      ∙ ap (λ (l : List Item). items_of start n (up_to i) ++ l) (append-nil (ruleItems start n (0 + i)) ∙ ap (ruleItems start n) (zero-add i))
+      ∙ ap (λ (l : List Item). items_of start n (up_to i) ++ l) (append-nil (rule_items start n (0 + i)) ∙ ap (rule_items start n) (zero-add i))
 
-  front-more : (i : ℕ) → bytes_of narrow (Facts n ∷ items_of start n (up_to i)) ++ bytes_of narrow (ruleItems start n i) ≡ bytes_of narrow (Facts n ∷ items_of start n (up_to (i + 1)))
+  front-more : (i : ℕ) → bytes_of narrow (Facts n ∷ items_of start n (up_to i)) ++ bytes_of narrow (rule_items start n i) ≡ bytes_of narrow (Facts n ∷ items_of start n (up_to (i + 1)))
   front-more i =
       ap (λ (bytes : List ℕ). 0x10 ∷ n ∷ bytes)
-      (sym (bytes-append narrow (items_of start n (up_to i)) (ruleItems start n i)) ∙ ap (bytes_of narrow) (sym (items_more i)))
+      (sym (bytes_append narrow (items_of start n (up_to i)) (rule_items start n i)) ∙ ap (bytes_of narrow) (sym (items_more i)))
 
-  pub none-drawn : (out : List ℕ) → Drawn out start 0 2 0 out
-  unfolding stateAfter
-  none-drawn out = record { state-is = refl; turn_is = refl; place = refl; kept = refl; written = λ room e. e }
+  pub none_drawn : (out : List ℕ) → Drawn out start 0 2 0 out
+  unfolding state_after
+  none_drawn out = record { state_is = refl; turn_is = refl; place = refl; kept = refl; written = λ room e. e }
 
   module _ {before : List ℕ} {state turn at i : ℕ} {out : List ℕ} (d : Drawn before state turn at i out) where
     -- The turns begin anew behind the last.
@@ -88,22 +88,22 @@ module _ (start n : ℕ) where
     pub all-drawn : (m : ℕ) → i ≡ m → RulesWritten start n m before out
     all-drawn m e = subst (λ (k : ℕ). RulesWritten start n k before out) e d.written
 
-  module _ {before : List ℕ} {state turn at i : ℕ} {out : List ℕ} (d : Drawn before state turn at i out) (m : ℕ) (h : i < m) (l : loadLength m ≤ length before) where
+  module _ {before : List ℕ} {state turn at i : ℕ} {out : List ℕ} (d : Drawn before state turn at i out) (m : ℕ) (h : i < m) (l : load_length m ≤ length before) where
     pub rule_fits : at + 6 ≤ length out
     rule_fits = omega (arith, d.place, d.kept)
 
     pub rule-drawn : (r turn' : ℕ) (out' : List ℕ) → RuleWritten n state turn at out r out' → turn' ≡ (i + 1) % 3 → Drawn before r turn' (at + 6) (i + 1) out'
     rule-drawn r turn' out' w t =
-        let wrote = w start i d.state-is d.turn_is in
+        let wrote = w start i d.state_is d.turn_is in
         record {
-          state-is = wrote.1 ∙ ap (λ (k : ℕ). stateAfter start (3 * k)) (sym (add-one i));
+          state_is = wrote.1 ∙ ap (λ (k : ℕ). state_after start (3 * k)) (sym (add-one i));
           turn_is = t;
           place = omega (arith, d.place);
-          kept = ap length wrote.0 ∙ placed-length (bytes_of narrow (ruleItems start n i)) out at (omega (arith, rule-length start n i, rule_fits)) ∙ d.kept;
+          kept = ap length wrote.0 ∙ placed-length (bytes_of narrow (rule_items start n i)) out at (omega (arith, rule-length start n i, rule_fits)) ∙ d.kept;
           written = λ room e.
               wrote.0
-              ∙ ap₂ (λ (k : ℕ) (s : List ℕ). placed (bytes_of narrow (ruleItems start n i)) k s) (d.place ∙ sym (front_length i)) (d.written room e)
-              ∙ over-more (bytes_of narrow (Facts n ∷ items_of start n (up_to i))) (bytes_of narrow (ruleItems start n i)) room
+              ∙ ap₂ (λ (k : ℕ) (s : List ℕ). placed (bytes_of narrow (rule_items start n i)) k s) (d.place ∙ sym (front_length i)) (d.written room e)
+              ∙ over-more (bytes_of narrow (Facts n ∷ items_of start n (up_to i))) (bytes_of narrow (rule_items start n i)) room
               ∙ ap (λ (bytes : List ℕ). over bytes room) (front-more i);
         }
 
@@ -114,13 +114,13 @@ module _ (n state turn at s₁ s₂ s₃ f₁ f₂ f₃ : ℕ) (out out₁ out�
       → f₁ ≡ taken n s₁ → f₂ ≡ taken n s₂ → f₃ ≡ taken n s₃
       → at + 6 ≤ length out
       → out₁ ≡ placed (0x01 ∷ f₁ ∷ []) at out
-      → out₂ ≡ placed (get_or firstKinds turn 0 ∷ f₂ ∷ []) (at + 2) out₁
-      → out₃ ≡ placed (get_or secondKinds turn 0 ∷ f₃ ∷ []) (at + 4) out₂
+      → out₂ ≡ placed (get_or first_kinds turn 0 ∷ f₂ ∷ []) (at + 2) out₁
+      → out₃ ≡ placed (get_or second_kinds turn 0 ∷ f₃ ∷ []) (at + 4) out₂
       → RuleWritten n state turn at out s₃ out₃
   three-written d₁ d₂ d₃ t₁ t₂ t₃ fits w₁ w₂ w₃ start i e t =
-      let b₁ : s₁ ≡ stateAfter start (suc (3 * i)) = d₁ ∙ next-state start (3 * i) state e in
-      let b₂ : s₂ ≡ stateAfter start (suc (3 * i + 1)) = d₂ ∙ next-state start (3 * i + 1) s₁ (b₁ ∙ ap (stateAfter start) (omega arith)) in
-      let b₃ : s₃ ≡ stateAfter start (suc (3 * i + 2)) = d₃ ∙ next-state start (3 * i + 2) s₂ (b₂ ∙ ap (stateAfter start) (omega arith)) in (
+      let b₁ : s₁ ≡ state_after start (suc (3 * i)) = d₁ ∙ next-state start (3 * i) state e in
+      let b₂ : s₂ ≡ state_after start (suc (3 * i + 1)) = d₂ ∙ next-state start (3 * i + 1) s₁ (b₁ ∙ ap (state_after start) (omega arith)) in
+      let b₃ : s₃ ≡ state_after start (suc (3 * i + 2)) = d₃ ∙ next-state start (3 * i + 2) s₂ (b₂ ∙ ap (state_after start) (omega arith)) in (
         rw (w₃, w₂, w₁, placed-three _ _ _ _ _ _ at out fits, t₁, t₂, t₃, b₁, b₂, b₃, t, rule-bytes start n i) refl,
-        b₃ ∙ ap (stateAfter start) (omega arith),
+        b₃ ∙ ap (state_after start) (omega arith),
       )

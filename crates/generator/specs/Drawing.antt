@@ -5,21 +5,21 @@ use Rattle.items.specs.declared.item.Item.TheVariants.{Facts}
 use Rattle.items.specs.Item.{narrow}
 use Rattle.items.specs.Write.{bytes_of, placed, over}
 use Rattle.generator.specs.declared.draw.Modulus.{Modulus}
-use Rattle.generator.specs.Draws.{states, stateAfter}
-use Rattle.generator.specs.Load.{ruleItems, items_of}
-use Rattle.generator.specs.Outcome.{mostFacts}
+use Rattle.generator.specs.Draws.{states, state_after}
+use Rattle.generator.specs.Load.{rule_items, items_of}
+use Rattle.generator.specs.Outcome.{most_facts}
 
 -- A modulus that was made: 1 to the most facts, with the factor that stands for a division by them.
 pub record Divides (by : Modulus) : Type 0 where
   pub some : 0 < by.facts
-  pub few : by.facts ≤ mostFacts
+  pub few : by.facts ≤ most_facts
   pub inverse : by.inverse ≡ states / by.facts + 1
 
 -- Where the state is the one behind the draws of the rules before rule i, whose turn it is, its items stand at a place, and r is the state behind its draws.
 abbrev pub RuleWritten : ℕ → ℕ → ℕ → ℕ → List ℕ → ℕ → List ℕ → Type 0
 RuleWritten n state turn at out r out' =
-    (start i : ℕ) → state ≡ stateAfter start (3 * i) → turn ≡ i % 3
-    → (out' ≡ placed (bytes_of narrow (ruleItems start n i)) at out) × (r ≡ stateAfter start (3 * suc i))
+    (start i : ℕ) → state ≡ state_after start (3 * i) → turn ≡ i % 3
+    → (out' ≡ placed (bytes_of narrow (rule_items start n i)) at out) × (r ≡ state_after start (3 * suc i))
 
 -- Where the count of facts stands at the front of a buffer, the first m rules stand behind it.
 abbrev pub RulesWritten : ℕ → ℕ → ℕ → List ℕ → List ℕ → Type 0

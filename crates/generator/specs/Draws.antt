@@ -12,9 +12,9 @@ abbrev pub divisor : ℕ
 divisor = 65536
 
 -- "Each draw adds 2,654,435,769 to the state, wrapping at 32 bits": the state behind the first k draws from a start.
-unfoldable pub stateAfter : ℕ → ℕ → ℕ
-stateAfter start zero = start
-stateAfter start (suc k) = (stateAfter start k + increment) % states
+unfoldable pub state_after : ℕ → ℕ → ℕ
+state_after start zero = start
+state_after start (suc k) = (state_after start k + increment) % states
 
 -- ".. and takes state / 65,536, whole part, modulo n".
 unfoldable pub taken : ℕ → ℕ → ℕ
@@ -22,4 +22,4 @@ taken n state = state / divisor % n
 
 -- What draw k takes.
 abbrev pub draw : ℕ → ℕ → ℕ → ℕ
-draw start n k = taken n (stateAfter start (suc k))
+draw start n k = taken n (state_after start (suc k))

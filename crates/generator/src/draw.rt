@@ -1,7 +1,7 @@
 // The draws. Internal.
 ghost use Rattle.std.specs.Prelude.{◌≡◌, ◌+◌, ◌%◌, ◌<◌, ◌≤◌};
 ghost use Rattle.generator.specs.Draws.{increment, states, taken};
-ghost use Rattle.generator.specs.Outcome.{mostFacts};
+ghost use Rattle.generator.specs.Outcome.{most_facts};
 ghost use Rattle.generator.specs.Drawing.{Divides};
 
 // What each draw adds to the state.
@@ -21,7 +21,7 @@ pub struct Modulus {
 }
 
 pub fn modulus_of(facts: u32) -> Modulus
-    requires { (0 < facts) × (facts ≤ mostFacts) }
+    requires { (0 < facts) × (facts ≤ most_facts) }
     ensures { (result.facts ≡ facts) × Divides result }
 {
     Modulus {

@@ -1,6 +1,6 @@
 // A test load that anyone can repeat: a rule file drawn from a start.
 ghost use Rattle.std.specs.Prelude.{◌≡◌, length, ◌≢◌};
-ghost use Rattle.generator.specs.Outcome.{LoadOutcome, loadNo, loadOutcome, LoadMeans, loadNumber};
+ghost use Rattle.generator.specs.Outcome.{LoadOutcome, load_no, load_outcome, LoadMeans, load_number};
 
 pub mod answer;
 mod draw;
@@ -23,8 +23,8 @@ pub const LOAD_ROOM: usize = ITEM_WIDTH + RULE_LENGTH * MAX_RULES + LAST_WIDTH;
 
 // Writes the file of so many rules over so many facts that is drawn from the start over the front of the buffer, and answers its length, or the first no.
 pub fn load(start: u32, facts: u32, rules: u32, out: &mut [u8]) -> Loaded
-    ensures fact { ◌≡◌ {A = LoadOutcome} (record { answer = result; out = out.new }) (loadOutcome start facts rules out.old) }
-    ensures load_means { LoadMeans start facts rules (loadNo facts rules (length out.old)) (record { answer = result; out = out.new }) }
+    ensures fact { ◌≡◌ {A = LoadOutcome} (record { answer = result; out = out.new }) (load_outcome start facts rules out.old) }
+    ensures load_means { LoadMeans start facts rules (load_no facts rules (length out.old)) (record { answer = result; out = out.new }) }
 {
     if facts == 0 {
         return Loaded::Refused(Refusal::FactsOutOfRange);
@@ -50,8 +50,8 @@ pub fn load(start: u32, facts: u32, rules: u32, out: &mut [u8]) -> Loaded
 
 // The same in the room that the program `load` has. Any load fits there, so it is never refused with 55.
 pub fn load_in_room(start: u32, facts: u32, rules: u32, room: &mut [u8; LOAD_ROOM]) -> Loaded
-    ensures fact { ◌≡◌ {A = LoadOutcome} (record { answer = result; out = room.new }) (loadOutcome start facts rules room.old) }
-    ensures result_nonzero { loadNumber result ≢ 55 }
+    ensures fact { ◌≡◌ {A = LoadOutcome} (record { answer = result; out = room.new }) (load_outcome start facts rules room.old) }
+    ensures result_nonzero { load_number result ≢ 55 }
 {
     load(start, facts, rules, room)
 }

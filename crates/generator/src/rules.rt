@@ -1,7 +1,7 @@
 // The rules of a load, written one after another. Internal.
 ghost use Rattle.std.specs.Prelude.{◌+◌, ◌*◌, ◌<◌, ◌≤◌, length};
-ghost use Rattle.items.specs.Item.{narrow, itemWidth, maxRules};
-ghost use Rattle.generator.specs.Outcome.{loadLength};
+ghost use Rattle.items.specs.Item.{narrow, item_width, max_rules};
+ghost use Rattle.generator.specs.Outcome.{load_length};
 ghost use Rattle.generator.specs.Drawing.{Divides, RuleWritten, RulesWritten};
 
 use crate::draw::{Modulus, fact_of, step};
@@ -21,7 +21,7 @@ const SECOND_KINDS: [u8; TURNS] = [CONSTRAINT_KIND, PREMISE_KIND, CONSTRAINT_KIN
 
 // Draws a rule from a state and writes it at a place. Answers the state behind its draws.
 fn write_rule(out: &mut [u8], at: usize, state: u32, turn: usize, by: Modulus) -> u32
-    requires { Divides by × (turn < 3) × (at + 3 * itemWidth narrow ≤ length out.old) }
+    requires { Divides by × (turn < 3) × (at + 3 * item_width narrow ≤ length out.old) }
     ensures { RuleWritten by.facts state turn at out.old result out.new }
 {
     let first = step(state);
@@ -40,7 +40,7 @@ fn write_rule(out: &mut [u8], at: usize, state: u32, turn: usize, by: Modulus) -
 
 // Draws so many rules from a start and writes them behind the count of facts.
 pub fn write_rules(out: &mut [u8], start: u32, rules: usize, by: Modulus)
-    requires { Divides by × (rules ≤ maxRules) × (loadLength rules ≤ length out.old) }
+    requires { Divides by × (rules ≤ max_rules) × (load_length rules ≤ length out.old) }
     ensures { RulesWritten start by.facts rules out.old out.new }
 {
     let mut state = start;

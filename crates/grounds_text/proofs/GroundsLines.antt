@@ -9,27 +9,27 @@ use Rattle.items.specs.declared.refusal.Refusal.{Refusal}
 use Rattle.items.specs.declared.refusal.Refusal.TheVariants.{NotDerived}
 use Rattle.items.specs.Question.{number}
 use Rattle.items.proofs.FirstNo.{first-no, first-yes}
-use Rattle.reader.specs.Questions.{program_of, fileQuestions, fileNo}
-use Rattle.tables.specs.Layout.{programIn}
-use Rattle.questions.specs.Questions.{derivedQuestion}
+use Rattle.reader.specs.Questions.{program_of, file_questions, file_no}
+use Rattle.tables.specs.Layout.{program_in}
+use Rattle.questions.specs.Questions.{derived_question}
 use Rattle.questions.proofs.OperationAsked.{Passed}
 use Rattle.panel_lines.specs.Text.{line}
-use Rattle.grounds_text.specs.Text.{ascendingRun, keptLines, textQuestions, groundsText}
-use Rattle.grounds_text.specs.Tabled.{programText}
+use Rattle.grounds_text.specs.Text.{ascending_run, kept_lines, text_questions, grounds_text}
+use Rattle.grounds_text.specs.Tabled.{program_text}
 
-pub refused-text : (s : List ℕ) (fact : ℕ) (r : Refusal) → fileNo s ≡ some r → groundsText s fact ≡ line 0x45 (number r)
-unfolding groundsText textQuestions
-refused-text s fact r e = rw (first-no (fileQuestions s) (derivedQuestion (ascendingRun (program_of s)) fact ∷ []) r e, groundsText)
+pub refused-text : (s : List ℕ) (fact : ℕ) (r : Refusal) → file_no s ≡ some r → grounds_text s fact ≡ line 0x45 (number r)
+unfolding grounds_text text_questions
+refused-text s fact r e = rw (first-no (file_questions s) (derived_question (ascending_run (program_of s)) fact ∷ []) r e, grounds_text)
 
-accepted-text : (s : List ℕ) (fact : ℕ) → ◌≡◌ {A = Option Refusal} (fileNo s) none → groundsText s fact ≡ programText (program_of s) fact
-unfolding groundsText textQuestions programText
-accepted-text s fact e = rw (first-yes (fileQuestions s) (derivedQuestion (ascendingRun (program_of s)) fact ∷ []) e, groundsText) (go ((ascendingRun (program_of s)).derived fact))
+accepted_text : (s : List ℕ) (fact : ℕ) → ◌≡◌ {A = Option Refusal} (file_no s) none → grounds_text s fact ≡ program_text (program_of s) fact
+unfolding grounds_text text_questions program_text
+accepted_text s fact e = rw (first-yes (file_questions s) (derived_question (ascending_run (program_of s)) fact ∷ []) e, grounds_text) (go ((ascending_run (program_of s)).derived fact))
   where
-    go : (b : Bool) → ◌≡◌ {A = List ℕ} (elim (cond b none (some NotDerived)) [ none ↦ keptLines (program_of s) fact | some r ↦ line 0x45 (number r) ]) (cond b (keptLines (program_of s) fact) (line 0x45 (number NotDerived)))
+    go : (b : Bool) → ◌≡◌ {A = List ℕ} (elim (cond b none (some NotDerived)) [ none ↦ kept_lines (program_of s) fact | some r ↦ line 0x45 (number r) ]) (cond b (kept_lines (program_of s) fact) (line 0x45 (number NotDerived)))
     go true = refl
     go false = refl
 
 -- The text by the tables of an accepted file.
-pub tabled-text : {s T : List ℕ} → Passed s T → (fact : ℕ) → programText (programIn T) fact ≡ groundsText s fact
-tabled-text {s} p fact =
-    ap (λ (P : Program). programText P fact) p.tabled.program ∙ sym (accepted-text s fact p.accepted)
+pub tabled_text : {s T : List ℕ} → Passed s T → (fact : ℕ) → program_text (program_in T) fact ≡ grounds_text s fact
+tabled_text {s} p fact =
+    ap (λ (P : Program). program_text P fact) p.tabled.program ∙ sym (accepted_text s fact p.accepted)

@@ -4,19 +4,19 @@ use native.Mathlib.Omega.{arith}
 use mathlib.Core.Bool.{Bool, true, false, cond}
 use mathlib.Core.List.{List, [], ◌∷◌}
 use lib.ListN.{length, length-append}
-use Rattle.theory.specs.Rule.{Step, Program, inForce}
-use Rattle.theory.specs.Keeping.{StepSet, select, keptSteps, groundsOf}
+use Rattle.theory.specs.Rule.{Step, Program, in_force}
+use Rattle.theory.specs.Keeping.{StepSet, select, kept_steps, grounds_of}
 use Rattle.items.specs.declared.refusal.Refusal.TheVariants.{NotDerived}
-use Rattle.items.specs.Item.{narrow, maxFacts}
+use Rattle.items.specs.Item.{narrow, max_facts}
 use Rattle.items.specs.Question.{number}
-use Rattle.tables.specs.Layout.{programIn, WellFormed}
+use Rattle.tables.specs.Layout.{program_in, WellFormed}
 use Rattle.tables.proofs.ProgramHeld.{facts_below, rules-below}
 use Rattle.run.proofs.FewSteps.{run-paced}
 use Rattle.questions.specs.Questions.{each}
-use Rattle.panel_lines.specs.Text.{ascending, line, stepLine}
-use Rattle.panel_text.proofs.Lengths.{line-length, trace-length}
-use Rattle.grounds_text.specs.Text.{ascendingRun, keptLines, linesRoom}
-use Rattle.grounds_text.specs.Tabled.{programText}
+use Rattle.panel_lines.specs.Text.{ascending, line, step_line}
+use Rattle.panel_text.proofs.Lengths.{line-length, trace_length}
+use Rattle.grounds_text.specs.Text.{ascending_run, kept_lines, lines_room}
+use Rattle.grounds_text.specs.Tabled.{program_text}
 
 -- What is selected is no more than the row.
 selected : (K : StepSet) (row : List Step) → length (select K row) ≤ length row
@@ -27,9 +27,9 @@ selected K (s ∷ row) = go (K 0) (selected (λ k. K (suc k)) row)
     go true r = omega arith
     go false r = omega arith
 
-selected-bytes : (g : Step → List ℕ) (K : StepSet) (row : List Step) → length (each g (select K row)) ≤ length (each g row)
-selected-bytes g K [] = omega arith
-selected-bytes g K (s ∷ row) = go (K 0) (selected-bytes g (λ k. K (suc k)) row)
+selected_bytes : (g : Step → List ℕ) (K : StepSet) (row : List Step) → length (each g (select K row)) ≤ length (each g row)
+selected_bytes g K [] = omega arith
+selected_bytes g K (s ∷ row) = go (K 0) (selected_bytes g (λ k. K (suc k)) row)
   where
     rest : List Step
     rest = select (λ k. K (suc k)) row
@@ -40,22 +40,22 @@ selected-bytes g K (s ∷ row) = go (K 0) (selected-bytes g (λ k. K (suc k)) ro
 
 module _ {T : List ℕ} (w : WellFormed T) (fact : ℕ) where
   abbrev P : Program
-  P = programIn T
+  P = program_in T
 
-  pub few-kept : length (groundsOf P fact (ascendingRun P).trace) < maxFacts narrow
-  unfolding groundsOf
-  few-kept =
-      omega (arith, facts_below w, selected (keptSteps P fact (ascendingRun P).trace) (ascendingRun P).trace, (run-paced P w.in_bounds (inForce P) (ascending P)).room)
+  pub few_kept : length (grounds_of P fact (ascending_run P).trace) < max_facts narrow
+  unfolding grounds_of
+  few_kept =
+      omega (arith, facts_below w, selected (kept_steps P fact (ascending_run P).trace) (ascending_run P).trace, (run-paced P w.in_bounds (in_force P) (ascending P)).room)
 
-  lines_fit : length (keptLines P fact) ≤ linesRoom narrow
-  unfolding groundsOf
+  lines_fit : length (kept_lines P fact) ≤ lines_room narrow
+  unfolding grounds_of
   lines_fit =
-      omega (arith, facts_below w, selected-bytes stepLine (keptSteps P fact (ascendingRun P).trace) (ascendingRun P).trace, trace-length P w.in_bounds (facts_below w) (rules-below w) (ascending P))
+      omega (arith, facts_below w, selected_bytes step_line (kept_steps P fact (ascending_run P).trace) (ascending_run P).trace, trace_length P w.in_bounds (facts_below w) (rules-below w) (ascending P))
 
-  pub text-fits : length (programText P fact) ≤ linesRoom narrow
-  unfolding programText
-  text-fits = go ((ascendingRun P).derived fact)
+  pub text_fits : length (program_text P fact) ≤ lines_room narrow
+  unfolding program_text
+  text_fits = go ((ascending_run P).derived fact)
     where
-      go : (d : Bool) → length (cond d (keptLines P fact) (line 0x45 (number NotDerived))) ≤ linesRoom narrow
+      go : (d : Bool) → length (cond d (kept_lines P fact) (line 0x45 (number NotDerived))) ≤ lines_room narrow
       go true = lines_fit
       go false = omega (arith, line-length 0x45 (number NotDerived) (omega arith))

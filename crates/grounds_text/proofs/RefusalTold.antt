@@ -7,40 +7,40 @@ use mathlib.Core.Logic.{◌↔◌}
 use mathlib.Core.Option.{Option, none, some, map}
 use lib.ListN.{get_or}
 use Rattle.theory.specs.Rule.{Step}
-use Rattle.theory.specs.Keeping.{groundsOf}
+use Rattle.theory.specs.Keeping.{grounds_of}
 use Rattle.items.specs.declared.refusal.Refusal.{Refusal}
 use Rattle.items.specs.Question as refusal
 use Rattle.reader.specs.Questions.{program_of}
 use Rattle.questions.specs.Questions.{each}
-use Rattle.panel_lines.specs.Text.{field, line, stepLine}
+use Rattle.panel_lines.specs.Text.{field, line, step_line}
 use Rattle.panel_text.proofs.RefusalText.{line-tells, line-begins}
-use Rattle.grounds_text.specs.Text.{ascendingRun, keptLines, textNo, groundsText}
+use Rattle.grounds_text.specs.Text.{ascending_run, kept_lines, text_no, grounds_text}
 
 -- A line of a letter is none of steps, which begin with D, and not empty.
-not-a-refusal : (row : List Step) (n : ℕ) → each stepLine row ≡ line 0x45 n → ⊥
-unfolding stepLine field
-not-a-refusal [] n e =
+not-a_refusal : (row : List Step) (n : ℕ) → each step_line row ≡ line 0x45 n → ⊥
+unfolding step_line field
+not-a_refusal [] n e =
     let same : ◌≡◌ {A = ℕ} 0 0x45 = ap (λ (l : List ℕ). get_or l 0 0) e ∙ line-begins 0x45 n in
     omega arith
-not-a-refusal (s ∷ row) n e =
+not-a_refusal (s ∷ row) n e =
     let same : ◌≡◌ {A = ℕ} 0x44 0x45 = ap (λ (l : List ℕ). get_or l 0 0) e ∙ line-begins 0x45 n in
     omega arith
 
 -- The text by the first no.
-told_text : (file : List ℕ) (fact : ℕ) (r : Refusal) → textNo file fact ≡ some r → groundsText file fact ≡ line 0x45 (refusal.number r)
-unfolding groundsText
-told_text file fact r e = rw (e, groundsText)
+told_text : (file : List ℕ) (fact : ℕ) (r : Refusal) → text_no file fact ≡ some r → grounds_text file fact ≡ line 0x45 (refusal.number r)
+unfolding grounds_text
+told_text file fact r e = rw (e, grounds_text)
 
-kept-text : (file : List ℕ) (fact : ℕ) → ◌≡◌ {A = Option Refusal} (textNo file fact) none → groundsText file fact ≡ keptLines (program_of file) fact
-unfolding groundsText
-kept-text file fact e = rw (e, groundsText)
+kept-text : (file : List ℕ) (fact : ℕ) → ◌≡◌ {A = Option Refusal} (text_no file fact) none → grounds_text file fact ≡ kept_lines (program_of file) fact
+unfolding grounds_text
+kept-text file fact e = rw (e, grounds_text)
 
-pub grounds-refusal : (file : List ℕ) (fact n : ℕ) → (groundsText file fact ≡ line 0x45 n) ↔ (map refusal.number (textNo file fact) ≡ some n)
-grounds-refusal file fact n = go (textNo file fact) refl
+pub grounds_refusal : (file : List ℕ) (fact n : ℕ) → (grounds_text file fact ≡ line 0x45 n) ↔ (map refusal.number (text_no file fact) ≡ some n)
+grounds_refusal file fact n = go (text_no file fact) refl
   where
-    go : (o : Option Refusal) → textNo file fact ≡ o → (groundsText file fact ≡ line 0x45 n) ↔ (map refusal.number o ≡ some n)
+    go : (o : Option Refusal) → text_no file fact ≡ o → (grounds_text file fact ≡ line 0x45 n) ↔ (map refusal.number o ≡ some n)
     go none q = (
-      λ e. absurd (not-a-refusal (groundsOf (program_of file) fact (ascendingRun (program_of file)).trace) n (sym (kept-text file fact q) ∙ e)),
+      λ e. absurd (not-a_refusal (grounds_of (program_of file) fact (ascending_run (program_of file)).trace) n (sym (kept-text file fact q) ∙ e)),
       λ e. absurd (let z : ◌≡◌ {A = ℕ} 0 1 = cc in omega arith),
     )
     go (some r) q = (

@@ -4,7 +4,7 @@ use Rattle.theory.specs.Rule.{Program}
 use Rattle.items.specs.declared.refusal.Refusal.TheVariants.{NotDerived}
 use Rattle.items.specs.Question.{number}
 use Rattle.panel_lines.specs.Text.{line}
-use Rattle.grounds_text.specs.Text.{ascendingRun, keptLines}
+use Rattle.grounds_text.specs.Text.{ascending_run, kept_lines}
 
-unfoldable pub programText : Program → ℕ → List ℕ
-programText P fact = cond ((ascendingRun P).derived fact) (keptLines P fact) (line 0x45 (number NotDerived))
+unfoldable pub program_text : Program → ℕ → List ℕ
+program_text P fact = cond ((ascending_run P).derived fact) (kept_lines P fact) (line 0x45 (number NotDerived))

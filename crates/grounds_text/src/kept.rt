@@ -1,10 +1,10 @@
 // The text for a fact, into a buffer that is large enough. Internal.
 ghost use Rattle.std.specs.Prelude.{◌≤◌, length};
 ghost use Rattle.items.specs.Item.{narrow};
-ghost use Rattle.tables.specs.Layout.{programIn, WellFormed};
+ghost use Rattle.tables.specs.Layout.{program_in, WellFormed};
 ghost use Rattle.questions.specs.Put.{Put};
-ghost use Rattle.grounds_text.specs.Text.{groundsText, linesRoom};
-ghost use Rattle.grounds_text.specs.Tabled.{programText};
+ghost use Rattle.grounds_text.specs.Text.{grounds_text, lines_room};
+ghost use Rattle.grounds_text.specs.Tabled.{program_text};
 
 use items::item::{MAX_FACTS, MAX_RULES};
 use items::lengths::{NAME_WIDTH, STEP_WIDTH};
@@ -23,8 +23,8 @@ pub const LINES_ROOM: usize = MAX_FACTS * MOST_STEP;
 // was not derived.
 fn put_kept(tables: &[u16; TABLE_CELLS], fact: u32, out: &mut [u8]) -> usize
     requires well_formed { WellFormed tables.now }
-    requires narrow_in_bounds { linesRoom narrow ≤ length out.old }
-    ensures { Put (programText (programIn tables.now) fact) 0 out.old result out.new }
+    requires narrow_in_bounds { lines_room narrow ≤ length out.old }
+    ensures { Put (program_text (program_in tables.now) fact) 0 out.old result out.new }
 {
     let mut order = [0u8; MAX_RULES * NAME_WIDTH];
     let named = put_order(tables, &mut order);
@@ -49,9 +49,9 @@ fn put_kept(tables: &[u16; TABLE_CELLS], fact: u32, out: &mut [u8]) -> usize
 
 // The text for a fact by a file. Answers its length.
 pub fn put_text(file: &[u8], fact: u32, out: &mut [u8]) -> usize
-    requires { linesRoom narrow ≤ length out.old }
-    ensures put { Put (groundsText file.now fact) 0 out.old result out.new }
-    ensures upper_bound { result ≤ linesRoom narrow }
+    requires { lines_room narrow ≤ length out.old }
+    ensures put { Put (grounds_text file.now fact) 0 out.old result out.new }
+    ensures upper_bound { result ≤ lines_room narrow }
 {
     let mut tables = [0u16; TABLE_CELLS];
     match reader::scan::scan(file, &mut tables) {

@@ -12,16 +12,16 @@ use lib.Bits.{bit_and, bit_xor}
 use lib.Dec.{eqb, ltb}
 use lib.ListN.{length, get_or}
 use lib.Pow.{pow_mono}
-use Rattle.theory.proofs.Lists.{element-below}
-use Rattle.theory.specs.Rule.{all, Program, Sub, inForce}
+use Rattle.theory.proofs.Lists.{element_below}
+use Rattle.theory.specs.Rule.{all, Program, Sub, in_force}
 use Rattle.theory.specs.Search.{fits}
-use Rattle.theory.specs.Guesses.{bit, unlike, factAt, guessAt}
+use Rattle.theory.specs.Guesses.{bit, unlike, fact_at, guess_at}
 use Rattle.theory.proofs.Bools.{either, never}
 use Rattle.theory.proofs.NumberBits.{bit-and, bit-xor, bit-zero}
-use Rattle.theory.proofs.Stable.{least-anti}
-use Rattle.theory.proofs.Guesses.{guess-mono, fits-apart}
-use Rattle.items.specs.Item.{narrow, maxFacts, maxGuessed, has}
-use Rattle.guessing.specs.Guessing.{sureIn, RowBase, derivedBy, fitsAt, Derived}
+use Rattle.theory.proofs.Stable.{least_anti}
+use Rattle.theory.proofs.Guesses.{guess_mono, fits-apart}
+use Rattle.items.specs.Item.{narrow, max_facts, max_guessed, has}
+use Rattle.guessing.specs.Guessing.{sure_in, RowBase, derived_by, fits_at, Derived}
 use Rattle.guessing.specs.Bounds.{Gathered, Responds, Between, EndsRefuted}
 use Rattle.guessing.proofs.PathBits.{same_bits}
 
@@ -31,16 +31,16 @@ pub record Gathering (row marks : List ℕ) (number n : ℕ) : Type 0 where
   pub small : number < 2 ^ n
   pub bits : (i : ℕ) → i < n → bit number (n - suc i) ≡ has marks (get_or row i 0)
 
-pub none-gathered : (row marks : List ℕ) → Gathering row marks 0 0
-none-gathered row marks = record { inside = omega arith; small = omega arith; bits = λ i l. absurd (omega arith) }
+pub none_gathered : (row marks : List ℕ) → Gathering row marks 0 0
+none_gathered row marks = record { inside = omega arith; small = omega arith; bits = λ i l. absurd (omega arith) }
 
 -- one bit more, as the lowest
 one_lower : (r d j : ℕ) → d < 2 → bit (2 * r + d) (suc j) ≡ bit r j
 one_lower r d j l = let e : (2 * r + d) / 2 ≡ r = omega arith in ap (λ (n : ℕ). bit n j) e
 
 module _ {row marks : List ℕ} {number n : ℕ} (w : Gathering row marks number n) where
-  gather-bit : n < length row → (d : ℕ) → d < 2 → eqb ((2 * number + d) % 2) 1 ≡ has marks (get_or row n 0) → Gathering row marks (2 * number + d) (n + 1)
-  gather-bit l d h e =
+  gather_bit : n < length row → (d : ℕ) → d < 2 → eqb ((2 * number + d) % 2) 1 ≡ has marks (get_or row n 0) → Gathering row marks (2 * number + d) (n + 1)
+  gather_bit l d h e =
       record {
         inside = omega arith;
         small = let s : number < 2 ^ n = w.small in let p : 2 ^ suc n ≡ 2 ^ n * 2 = pow-suc 2 n in let q : n + 1 ≡ suc n = omega arith in subst (λ (m : ℕ). 2 * number + d < 2 ^ m) (sym q) (omega arith);
@@ -52,14 +52,14 @@ module _ {row marks : List ℕ} {number n : ℕ} (w : Gathering row marks number
 
   pub marked-gathered : n < length row → get_or marks (get_or row n 0) 0 ≡ 1 → Gathering row marks (2 * number + 1) (n + 1)
   unfolding has
-  marked-gathered l e = let o : (2 * number + 1) % 2 ≡ 1 = omega arith in gather-bit l 1 (omega arith) (ap (λ (m : ℕ). eqb m 1) (o ∙ sym e))
+  marked-gathered l e = let o : (2 * number + 1) % 2 ≡ 1 = omega arith in gather_bit l 1 (omega arith) (ap (λ (m : ℕ). eqb m 1) (o ∙ sym e))
 
-  pub others-gathered : n < length row → (get_or marks (get_or row n 0) 0 ≡ 1 → ⊥) → Gathering row marks (2 * number) (n + 1)
+  pub others_gathered : n < length row → (get_or marks (get_or row n 0) 0 ≡ 1 → ⊥) → Gathering row marks (2 * number) (n + 1)
   unfolding has
-  others-gathered l ne =
+  others_gathered l ne =
       let o : (2 * number + 0) % 2 ≡ 0 = omega arith in
       let z : 2 * number + 0 ≡ 2 * number = omega arith in
-      subst (λ (m : ℕ). Gathering row marks m (n + 1)) z (gather-bit l 0 (omega arith) (ap (λ (m : ℕ). eqb m 1) o ∙ sym (ne_eqb _ 1 ne)))
+      subst (λ (m : ℕ). Gathering row marks m (n + 1)) z (gather_bit l 0 (omega arith) (ap (λ (m : ℕ). eqb m 1) o ∙ sym (ne_eqb _ 1 ne)))
 
   pub all-gathered : length row ≤ n → Gathered row marks number
   all-gathered l =
@@ -70,78 +70,78 @@ module _ {row marks : List ℕ} {number n : ℕ} (w : Gathering row marks number
       }
 
   -- the number fits a word
-  pub gathered-small : n < length row → length row ≤ maxGuessed → number < 32768
-  gathered-small l few = let m : 2 ^ n ≤ 2 ^ 15 = pow_mono {i = n} {j = 15} (omega arith) in omega (arith, w.small)
+  pub gathered_small : n < length row → length row ≤ max_guessed → number < 32768
+  gathered_small l few = let m : 2 ^ n ≤ 2 ^ 15 = pow_mono {i = n} {j = 15} (omega arith) in omega (arith, w.small)
 
 -- What is gathered of the marks of a guess is what it derives.
-pub gathered-responds : {P : Program} {row base marks : List ℕ} {g number : ℕ} → all (λ k. ltb k (maxFacts narrow)) row ≡ true → Derived P row base g marks → Gathered row marks number → Responds P row base g number
-gathered-responds {row = row} small d w =
-    record { small = w.small; bits = λ j l. w.bits j l ∙ d (factAt row j) (element-below (maxFacts narrow) row (length row - suc j) small (omega arith)) }
+pub gathered_responds : {P : Program} {row base marks : List ℕ} {g number : ℕ} → all (λ k. ltb k (max_facts narrow)) row ≡ true → Derived P row base g marks → Gathered row marks number → Responds P row base g number
+gathered_responds {row = row} small d w =
+    record { small = w.small; bits = λ j l. w.bits j l ∙ d (fact_at row j) (element_below (max_facts narrow) row (length row - suc j) small (omega arith)) }
 
 -- So the marks of the guess of no fact do.
-pub none-responds : {P : Program} {row base marks : List ℕ} {g number : ℕ} → all (λ k. ltb k (maxFacts narrow)) row ≡ true → g ≤ 0 → Derived P row base g marks → Gathered row marks number → Responds P row base 0 number
-none-responds {P} {row} {base} {marks} small z d w = gathered-responds small (subst (λ (n : ℕ). Derived P row base n marks) (omega arith) d) w
+pub none_responds : {P : Program} {row base marks : List ℕ} {g number : ℕ} → all (λ k. ltb k (max_facts narrow)) row ≡ true → g ≤ 0 → Derived P row base g marks → Gathered row marks number → Responds P row base 0 number
+none_responds {P} {row} {base} {marks} small z d w = gathered_responds small (subst (λ (n : ℕ). Derived P row base n marks) (omega arith) d) w
 
 -- Bounds.
 module _ {P : Program} {row base : List ℕ} (r : RowBase P row base) where
   -- a guess that fits derives the facts of the row that are in it, and no others
-  fits-bit : (x j : ℕ) → fitsAt P row base x ≡ true → j < length row → derivedBy P row base x (factAt row j) ≡ bit x j
-  fits-bit x j f l = go (derivedBy P row base x (factAt row j)) refl (bit x j) refl
+  fits-bit : (x j : ℕ) → fits_at P row base x ≡ true → j < length row → derived_by P row base x (fact_at row j) ≡ bit x j
+  fits-bit x j f l = go (derived_by P row base x (fact_at row j)) refl (bit x j) refl
     where
-      go : (a : Bool) → derivedBy P row base x (factAt row j) ≡ a → (b : Bool) → bit x j ≡ b → a ≡ b
+      go : (a : Bool) → derived_by P row base x (fact_at row j) ≡ a → (b : Bool) → bit x j ≡ b → a ≡ b
       go true p true q = refl
-      go true p false q = never f (fits-apart P (inForce P) row (sureIn P row base) r.to-guess x j l (p ∙ sym (ap not q)))
-      go false p true q = never f (fits-apart P (inForce P) row (sureIn P row base) r.to-guess x j l (p ∙ sym (ap not q)))
+      go true p false q = never f (fits-apart P (in_force P) row (sure_in P row base) r.to_guess x j l (p ∙ sym (ap not q)))
+      go false p true q = never f (fits-apart P (in_force P) row (sure_in P row base) r.to_guess x j l (p ∙ sym (ap not q)))
       go false p false q = refl
 
   -- what contains a guess derives no more
-  falls : (s x : ℕ) → ((j : ℕ) → j < length row → bit s j ≡ true → bit x j ≡ true) → Sub (derivedBy P row base x) (derivedBy P row base s)
-  falls s x h = least-anti P (inForce P) (guessAt row (sureIn P row base) s) (guessAt row (sureIn P row base) x) (guess-mono row (sureIn P row base) (sureIn P row base) s x (λ f t. t) h)
+  falls : (s x : ℕ) → ((j : ℕ) → j < length row → bit s j ≡ true → bit x j ≡ true) → Sub (derived_by P row base x) (derived_by P row base s)
+  falls s x h = least_anti P (in_force P) (guess_at row (sure_in P row base) s) (guess_at row (sure_in P row base) x) (guess_mono row (sure_in P row base) (sure_in P row base) s x (λ f t. t) h)
 
   pub first-between : (most : ℕ) → Responds P row base 0 most → Between P row base 0 most
   first-between most a =
       record {
         bits = record {
-          has-low = λ x j f l t. never t (bit-zero j);
-          in-high = λ x j f l t. a.bits j l ∙ falls 0 x (λ i m u. never u (bit-zero i)) (factAt row j) (fits-bit x j f l ∙ t);
+          has_low = λ x j f l t. never t (bit-zero j);
+          in_high = λ x j f l t. a.bits j l ∙ falls 0 x (λ i m u. never u (bit-zero i)) (fact_at row j) (fits-bit x j f l ∙ t);
         };
       }
 
   -- A guess that fits is what a number with its bits derives.
-  fits-itself : (x s r : ℕ) → fitsAt P row base x ≡ true → ((j : ℕ) → j < length row → bit x j ≡ bit s j) → Responds P row base s r → (j : ℕ) → j < length row → bit r j ≡ bit s j
-  fits-itself x s r f agree a j l = a.bits j l ∙ go (derivedBy P row base s (factAt row j)) refl (derivedBy P row base x (factAt row j)) refl ∙ fits-bit x j f l ∙ agree j l
+  fits-itself : (x s r : ℕ) → fits_at P row base x ≡ true → ((j : ℕ) → j < length row → bit x j ≡ bit s j) → Responds P row base s r → (j : ℕ) → j < length row → bit r j ≡ bit s j
+  fits-itself x s r f agree a j l = a.bits j l ∙ go (derived_by P row base s (fact_at row j)) refl (derived_by P row base x (fact_at row j)) refl ∙ fits-bit x j f l ∙ agree j l
     where
-      go : (p : Bool) → derivedBy P row base s (factAt row j) ≡ p → (q : Bool) → derivedBy P row base x (factAt row j) ≡ q → p ≡ q
+      go : (p : Bool) → derived_by P row base s (fact_at row j) ≡ p → (q : Bool) → derived_by P row base x (fact_at row j) ≡ q → p ≡ q
       go true d true e = refl
       go false d false e = refl
-      go true d false e = never (falls x s (λ i m u. sym (agree i m) ∙ u) (factAt row j) d) e
-      go false d true e = never (falls s x (λ i m u. agree i m ∙ u) (factAt row j) e) d
+      go true d false e = never (falls x s (λ i m u. sym (agree i m) ∙ u) (fact_at row j) d) e
+      go false d true e = never (falls s x (λ i m u. agree i m ∙ u) (fact_at row j) e) d
 
   module _ {low high : ℕ} (b : Between P row base low high) where
-    pub low-raised : (next : ℕ) → Responds P row base high next → Between P row base next high
-    low-raised next a =
+    pub low_raised : (next : ℕ) → Responds P row base high next → Between P row base next high
+    low_raised next a =
         record {
           bits = record {
-            has-low = λ x j f l t. sym (fits-bit x j f l) ∙ falls x high (λ i m u. b.bits.in-high x i f m u) (factAt row j) (sym (a.bits j l) ∙ t);
-            in-high = b.bits.in-high;
+            has_low = λ x j f l t. sym (fits-bit x j f l) ∙ falls x high (λ i m u. b.bits.in_high x i f m u) (fact_at row j) (sym (a.bits j l) ∙ t);
+            in_high = b.bits.in_high;
           };
         }
 
-    pub high-lowered : (next : ℕ) → Responds P row base low next → Between P row base low next
-    high-lowered next a =
+    pub high_lowered : (next : ℕ) → Responds P row base low next → Between P row base low next
+    high_lowered next a =
         record {
           bits = record {
-            has-low = b.bits.has-low;
-            in-high = λ x j f l t. a.bits j l ∙ falls low x (λ i m u. b.bits.has-low x i f m u) (factAt row j) (fits-bit x j f l ∙ t);
+            has_low = b.bits.has_low;
+            in_high = λ x j f l t. a.bits j l ∙ falls low x (λ i m u. b.bits.has_low x i f m u) (fact_at row j) (fits-bit x j f l ∙ t);
           };
         }
 
     -- Where each of the bounds derives the other and they differ, a guess that had the bits of one would not derive itself.
-    pub ends-refuted : Responds P row base low high → Responds P row base high low → (low ≡ high → ⊥) → EndsRefuted (fitsAt P row base) low high
-    ends-refuted up down differ =
+    pub ends_refuted : Responds P row base low high → Responds P row base high low → (low ≡ high → ⊥) → EndsRefuted (fits_at P row base) low high
+    ends_refuted up down differ =
         record {
-          low-fails = λ x s e. ⊎_elim (λ f. absurd (differ (sym (same_bits (length row) high low up.small down.small (fits-itself x low high f (is-low x e f) up))))) (λ n. n) (either (fitsAt P row base x));
-          high-fails = λ x s e. ⊎_elim (λ f. absurd (differ (same_bits (length row) low high down.small up.small (fits-itself x high low f (is-high x e f) down)))) (λ n. n) (either (fitsAt P row base x));
+          low_fails = λ x s e. ⊎_elim (λ f. absurd (differ (sym (same_bits (length row) high low up.small down.small (fits-itself x low high f (is_low x e f) up))))) (λ n. n) (either (fits_at P row base x));
+          high_fails = λ x s e. ⊎_elim (λ f. absurd (differ (same_bits (length row) low high down.small up.small (fits-itself x high low f (is_high x e f) down)))) (λ n. n) (either (fits_at P row base x));
         }
       where
         at_low : (x l h : Bool) → x && unlike l h ≡ false → (l ≡ true → x ≡ true) → (x ≡ true → h ≡ true) → x ≡ l
@@ -161,12 +161,12 @@ module _ {P : Program} {row base : List ℕ} (r : RowBase P row base) where
         masked : (x j : ℕ) → bit (bit_and x (bit_xor low high)) j ≡ bit x j && unlike (bit low j) (bit high j)
         masked x j = bit-and j x (bit_xor low high) ∙ ap (λ (p : Bool). bit x j && p) (bit-xor j low high)
 
-        is-low : (x : ℕ) → bit_and x (bit_xor low high) ≡ 0 → fitsAt P row base x ≡ true → (j : ℕ) → j < length row → bit x j ≡ bit low j
-        is-low x e f j l = at_low (bit x j) (bit low j) (bit high j) (sym (masked x j) ∙ ap (λ (n : ℕ). bit n j) e ∙ bit-zero j) (b.bits.has-low x j f l) (b.bits.in-high x j f l)
+        is_low : (x : ℕ) → bit_and x (bit_xor low high) ≡ 0 → fits_at P row base x ≡ true → (j : ℕ) → j < length row → bit x j ≡ bit low j
+        is_low x e f j l = at_low (bit x j) (bit low j) (bit high j) (sym (masked x j) ∙ ap (λ (n : ℕ). bit n j) e ∙ bit-zero j) (b.bits.has_low x j f l) (b.bits.in_high x j f l)
 
-        is-high : (x : ℕ) → bit_and x (bit_xor low high) ≡ bit_xor low high → fitsAt P row base x ≡ true → (j : ℕ) → j < length row → bit x j ≡ bit high j
-        is-high x e f j l = at_high (bit x j) (bit low j) (bit high j) (sym (masked x j) ∙ ap (λ (n : ℕ). bit n j) e ∙ bit-xor j low high) (b.bits.has-low x j f l) (b.bits.in-high x j f l)
+        is_high : (x : ℕ) → bit_and x (bit_xor low high) ≡ bit_xor low high → fits_at P row base x ≡ true → (j : ℕ) → j < length row → bit x j ≡ bit high j
+        is_high x e f j l = at_high (bit x j) (bit low j) (bit high j) (sym (masked x j) ∙ ap (λ (n : ℕ). bit n j) e ∙ bit-xor j low high) (b.bits.has_low x j f l) (b.bits.in_high x j f l)
 
-    pub ends-apart : (least most : ℕ) → Responds P row base low most → Responds P row base high least → least ≡ low → most ≡ high → not (eqb low high) ≡ true → EndsRefuted (fitsAt P row base) low high
-    ends-apart least most up down is top t =
-        ends-refuted (subst (λ (n : ℕ). Responds P row base low n) top up) (subst (λ (n : ℕ). Responds P row base high n) is down) (λ e. never t (ap not (eq-eqb low high e)))
+    pub ends_apart : (least most : ℕ) → Responds P row base low most → Responds P row base high least → least ≡ low → most ≡ high → not (eqb low high) ≡ true → EndsRefuted (fits_at P row base) low high
+    ends_apart least most up down is top t =
+        ends_refuted (subst (λ (n : ℕ). Responds P row base low n) top up) (subst (λ (n : ℕ). Responds P row base high n) is down) (λ e. never t (ap not (eq-eqb low high e)))

@@ -10,84 +10,84 @@ use mathlib.Core.Logic.{by_cases}
 use lib.Dec.{ltb}
 use lib.ListN.{length, set, length-set}
 use lib.Pow.{pow_mono, shl_exact}
-use Rattle.theory.proofs.Lists.{element-below}
-use Rattle.theory.specs.Rule.{all, Program, inForce}
+use Rattle.theory.proofs.Lists.{element_below}
+use Rattle.theory.specs.Rule.{all, Program, in_force}
 use Rattle.theory.specs.Search.{fits}
-use Rattle.theory.specs.Guesses.{factAt}
+use Rattle.theory.specs.Guesses.{fact_at}
 use Rattle.theory.proofs.Guesses.{hunt-first, hunt-none, fits-where, fits-apart}
-use Rattle.items.specs.Item.{narrow, maxFacts, maxGuessed}
-use Rattle.nogoods.specs.Nogoods.{guesses, mostKept, Passed, Refutes, Stored}
-use Rattle.guessing.specs.Guessing.{Base, sureIn, fitsAt, Derived, Conflict}
+use Rattle.items.specs.Item.{narrow, max_facts, max_guessed}
+use Rattle.nogoods.specs.Nogoods.{guesses, most_kept, Passed, Refutes, Stored}
+use Rattle.guessing.specs.Guessing.{Base, sure_in, fits_at, Derived, Conflict}
 use Rattle.guessing.specs.Compared.{Compares}
 use Rattle.guessing.specs.First.{Tells, Sought}
 use Rattle.guessing.specs.Descended.{Descended}
 use Rattle.guessing.specs.declared.compared.Compared as compared
 use Rattle.guessing.specs.declared.compared.Compared.TheVariants.{Same, Apart}
 use Rattle.guessing.specs.declared.first.First.TheVariants.{Fits, Nothing, Open}
-use Rattle.guessing.proofs.BoundsStored.{one-stored}
+use Rattle.guessing.proofs.BoundsStored.{one_stored}
 
 -- Before one guess is tried.
 pub record Trying (pass : ℕ → Bool) (masks values : List ℕ) (kept guess : ℕ) : Type 0 where
-  pub room : kept ≤ mostKept
+  pub room : kept ≤ most_kept
   pub below : guess ≤ guesses
-  pub mask-places : length masks ≡ mostKept
-  pub value-places : length values ≡ mostKept
+  pub mask_places : length masks ≡ most_kept
+  pub value_places : length values ≡ most_kept
   pub stored : Stored pass masks values kept
   pub passed : Passed pass 0 guess
 
 -- how many guesses the code takes
-pub end_of : (n : ℕ) → n ≤ maxGuessed → (1 * 2 ^ n) % 4294967296 ≡ 2 ^ n
+pub end_of : (n : ℕ) → n ≤ max_guessed → (1 * 2 ^ n) % 4294967296 ≡ 2 ^ n
 end_of n l = shl_exact {a = 1} 1 n 32 (omega arith) (omega arith) ∙ one-mul (2 ^ n)
 
-pub end_below : (n : ℕ) → n ≤ maxGuessed → 2 ^ n ≤ guesses
+pub end_below : (n : ℕ) → n ≤ max_guessed → 2 ^ n ≤ guesses
 end_below n l = pow_mono {i = n} {j = 16} l
 
 module _ (pass : ℕ → Bool) where
   -- some nogoods are stored, and no guess before the one to begin with fits
-  pub begins : (masks values : List ℕ) (kept guess : ℕ) → kept ≤ mostKept → length masks ≡ mostKept → length values ≡ mostKept → Stored pass masks values kept → guess ≤ guesses → Passed pass 0 guess → Trying pass masks values kept guess
-  begins masks values kept guess l m v s g p = record { room = l; below = g; mask-places = m; value-places = v; stored = s; passed = p }
+  pub begins : (masks values : List ℕ) (kept guess : ℕ) → kept ≤ most_kept → length masks ≡ most_kept → length values ≡ most_kept → Stored pass masks values kept → guess ≤ guesses → Passed pass 0 guess → Trying pass masks values kept guess
+  begins masks values kept guess l m v s g p = record { room = l; below = g; mask_places = m; value_places = v; stored = s; passed = p }
 
   module _ {masks values : List ℕ} {kept guess : ℕ} (w : Trying pass masks values kept guess) where
     pub go_on : (r : ℕ) → r ≤ guesses → Passed pass guess r → Trying pass masks values kept r
-    go_on r l p = record { room = w.room; below = l; mask-places = w.mask-places; value-places = w.value-places; stored = w.stored; passed = all-passed }
+    go_on r l p = record { room = w.room; below = l; mask_places = w.mask_places; value_places = w.value_places; stored = w.stored; passed = all-passed }
       where
         all-passed : Passed pass 0 r
         all-passed x a m = by_cases (dec_lt x guess) (λ q. w.passed x a q) (λ n. p x (omega arith) m)
 
-    pub one_more : kept < mostKept → guess < guesses → pass guess ≡ false → (m v : ℕ) → Refutes pass m v → Trying pass (set masks kept m) (set values kept v) (kept + 1) (guess + 1)
+    pub one_more : kept < most_kept → guess < guesses → pass guess ≡ false → (m v : ℕ) → Refutes pass m v → Trying pass (set masks kept m) (set values kept v) (kept + 1) (guess + 1)
     one_more free l e m v refutes =
         record {
           room = omega arith;
           below = omega arith;
-          mask-places = length-set masks kept m ∙ w.mask-places;
-          value-places = length-set values kept v ∙ w.value-places;
-          stored = one-stored pass masks values kept m v (omega arith) (omega arith) w.stored refutes;
+          mask_places = length-set masks kept m ∙ w.mask_places;
+          value_places = length-set values kept v ∙ w.value_places;
+          stored = one_stored pass masks values kept m v (omega arith) (omega arith) w.stored refutes;
           passed = λ x a q. by_cases (ℕ_discrete x guess) (λ is. subst (λ (n : ℕ). pass n ≡ false) (sym is) e) (λ n. w.passed x a (omega arith));
         }
 
 -- A guess whose marks are there already.
-pub already-marked : {P : Program} {row base marks : List ℕ} {guess : ℕ} → guess < 2 ^ length row → Derived P row base guess marks → Descended P row base guess guess marks
-already-marked l d = record { onward = omega arith; inside = l; passed = λ x a m. absurd (omega arith); derived = d }
+pub already_marked : {P : Program} {row base marks : List ℕ} {guess : ℕ} → guess < 2 ^ length row → Derived P row base guess marks → Descended P row base guess guess marks
+already_marked l d = record { onward = omega arith; inside = l; passed = λ x a m. absurd (omega arith); derived = d }
 
 module _ {P : Program} {R row base missing : List ℕ} (b : Base P R row base missing) where
   -- What the comparison with what a guess derives tells of the guess.
-  pub tells : all (λ k. ltb k (maxFacts narrow)) row ≡ true → (g : ℕ) (marks : List ℕ) → Derived P row base g marks → (r : compared.Compared) → Compares row g marks r → Tells P row base g r
+  pub tells : all (λ k. ltb k (max_facts narrow)) row ≡ true → (g : ℕ) (marks : List ℕ) → Derived P row base g marks → (r : compared.Compared) → Compares row g marks r → Tells P row base g r
   tells small g marks derived r c =
       record {
-        same = λ e. fits-where P (inForce P) row (sureIn P row base) b.row-base.to-guess g (λ j l. sym (derived (factAt row j) (below j l)) ∙ c.same e j l);
-        apart = λ j e. let l : j < length row = (c.apart j e).0 in (l, sym (derived (factAt row j) (below j l)) ∙ (c.apart j e).1);
+        same = λ e. fits-where P (in_force P) row (sure_in P row base) b.row_base.to_guess g (λ j l. sym (derived (fact_at row j) (below j l)) ∙ c.same e j l);
+        apart = λ j e. let l : j < length row = (c.apart j e).0 in (l, sym (derived (fact_at row j) (below j l)) ∙ (c.apart j e).1);
       }
     where
-      below : (j : ℕ) → j < length row → factAt row j < maxFacts narrow
-      below j l = element-below (maxFacts narrow) row (length row - suc j) small (omega arith)
+      below : (j : ℕ) → j < length row → fact_at row j < max_facts narrow
+      below j l = element_below (max_facts narrow) row (length row - suc j) small (omega arith)
 
-  module _ {masks values : List ℕ} {kept g : ℕ} (w : Trying (fitsAt P row base) masks values kept g) where
+  module _ {masks values : List ℕ} {kept g : ℕ} (w : Trying (fits_at P row base) masks values kept g) where
     -- No guess is left.
     pub ends : (marks : List ℕ) → (1 * 2 ^ length row) % 4294967296 ≤ g → Sought P row base Nothing marks
     ends marks l =
         record {
           found = λ e. absurd (let z : ◌≡◌ {A = ℕ} 0 1 = cc in omega arith);
-          none-fits = λ _. hunt-none (fits P (inForce P)) row (sureIn P row base) (λ x m. w.passed x (omega arith) (omega (arith, end_of (length row) b.row-base.few)));
+          none_fits = λ _. hunt-none (fits P (in_force P)) row (sure_in P row base) (λ x m. w.passed x (omega arith) (omega (arith, end_of (length row) b.row_base.few)));
           left = λ n e. absurd (let z : ◌≡◌ {A = ℕ} 0 1 = cc in omega arith);
         }
 
@@ -95,8 +95,8 @@ module _ {P : Program} {R row base missing : List ℕ} (b : Base P R row base mi
     pub fits-first : (marks : List ℕ) (r : compared.Compared) → Tells P row base g r → r ≡ Same → Derived P row base g marks → Sought P row base Fits marks
     fits-first marks r t same d =
         record {
-          found = λ _. (g, hunt-first (fits P (inForce P)) row (sureIn P row base) g (t.same same) (λ x m. w.passed x (omega arith) m), d);
-          none-fits = λ e. absurd (let z : ◌≡◌ {A = ℕ} 0 1 = cc in omega arith);
+          found = λ _. (g, hunt-first (fits P (in_force P)) row (sure_in P row base) g (t.same same) (λ x m. w.passed x (omega arith) m), d);
+          none_fits = λ e. absurd (let z : ◌≡◌ {A = ℕ} 0 1 = cc in omega arith);
           left = λ n e. absurd (let z : ◌≡◌ {A = ℕ} 0 1 = cc in omega arith);
         }
 
@@ -105,19 +105,19 @@ module _ {P : Program} {R row base missing : List ℕ} (b : Base P R row base mi
     leaves marks =
         record {
           found = λ e. absurd (let z : ◌≡◌ {A = ℕ} 0 1 = cc in omega arith);
-          none-fits = λ e. absurd (let z : ◌≡◌ {A = ℕ} 0 1 = cc in omega arith);
-          left = λ n e. let is : g ≡ n = cc in subst (λ (m : ℕ). (m ≤ guesses) × Passed (fitsAt P row base) 0 m) is (w.below, w.passed);
+          none_fits = λ e. absurd (let z : ◌≡◌ {A = ℕ} 0 1 = cc in omega arith);
+          left = λ n e. let is : g ≡ n = cc in subst (λ (m : ℕ). (m ≤ guesses) × Passed (fits_at P row base) 0 m) is (w.below, w.passed);
         }
 
   -- A place at which a guess is apart is a conflict, ..
   pub conflict : {g j : ℕ} → g < (1 * 2 ^ length row) % 4294967296 → (r : compared.Compared) → Tells P row base g r → r ≡ Apart j → Conflict P row base g j
   conflict {g} {j} l r t e =
       record {
-        small = omega (arith, end_of (length row) b.row-base.few, end_below (length row) b.row-base.few);
+        small = omega (arith, end_of (length row) b.row_base.few, end_below (length row) b.row_base.few);
         inside = (t.apart j e).0;
         apart = (t.apart j e).1;
       }
 
   -- .. so that the guess does not fit.
-  pub fits_not : {g j : ℕ} → Conflict P row base g j → fitsAt P row base g ≡ false
-  fits_not {g} {j} c = fits-apart P (inForce P) row (sureIn P row base) b.row-base.to-guess g j c.inside c.apart
+  pub fits_not : {g j : ℕ} → Conflict P row base g j → fits_at P row base g ≡ false
+  fits_not {g} {j} c = fits-apart P (in_force P) row (sure_in P row base) b.row_base.to_guess g j c.inside c.apart

@@ -1,11 +1,11 @@
 // What every guess that fits has, and what it can have at most. Internal.
 ghost use Rattle.std.specs.Prelude.{ℕ, ◌<◌, ◌≤◌, ◌≡◌, Bool, true, ltb, length};
 ghost use Rattle.theory.specs.Rule.{all};
-ghost use Rattle.items.specs.Item.{narrow, maxFacts, maxGuessed};
-ghost use Rattle.tables.specs.Layout.{programIn};
+ghost use Rattle.items.specs.Item.{narrow, max_facts, max_guessed};
+ghost use Rattle.tables.specs.Layout.{program_in};
 ghost use Rattle.propagation.specs.State.{Ready};
-ghost use Rattle.nogoods.specs.Nogoods.{mostKept, Stored};
-ghost use Rattle.guessing.specs.Guessing.{Base, fitsAt};
+ghost use Rattle.nogoods.specs.Nogoods.{most_kept, Stored};
+ghost use Rattle.guessing.specs.Guessing.{Base, fits_at};
 ghost use Rattle.guessing.specs.Bounds.{Gathered, Responds, Between, BitsBetween, EndsRefuted};
 
 use crate::propagate::derive_guess;
@@ -28,7 +28,7 @@ pub struct Bounds {
 
 // The facts of the row that are marked, as a number.
 pub fn gather(row: &[u16], marks: &[u8; LITERALS]) -> u32
-    requires { (length row.now ≤ maxGuessed) × (all (λ k. ltb k (maxFacts narrow)) row.now ≡ true) }
+    requires { (length row.now ≤ max_guessed) × (all (λ k. ltb k (max_facts narrow)) row.now ≡ true) }
     ensures { Gathered row.now marks.now result }
 {
     let mut number: u32 = 0;
@@ -55,8 +55,8 @@ pub fn respond(
     guess: u32,
 ) -> u32
     requires ready { Ready tables.now index.now }
-    requires base { Base (programIn tables.now) index.now row.now base.now missing.now }
-    ensures { Responds (programIn tables.now) row.now base.now guess result }
+    requires base { Base (program_in tables.now) index.now row.now base.now missing.now }
+    ensures { Responds (program_in tables.now) row.now base.now guess result }
 {
     let mut marks = [0u8; LITERALS];
     derive_guess(tables, index, row, base, missing, guess, &mut marks);
@@ -74,10 +74,10 @@ pub fn narrow_bounds(
     most: u32,
 ) -> Bounds
     requires ready { Ready tables.now index.now }
-    requires base { Base (programIn tables.now) index.now row.now base.now missing.now }
-    requires responds { Responds (programIn tables.now) row.now base.now 0 most }
-    ensures between { Between (programIn tables.now) row.now base.now result.low result.high }
-    ensures ends_refuted { result.apart ≡ true → EndsRefuted (fitsAt (programIn tables.now) row.now base.now) result.low result.high }
+    requires base { Base (program_in tables.now) index.now row.now base.now missing.now }
+    requires responds { Responds (program_in tables.now) row.now base.now 0 most }
+    ensures between { Between (program_in tables.now) row.now base.now result.low result.high }
+    ensures ends_refuted { result.apart ≡ true → EndsRefuted (fits_at (program_in tables.now) row.now base.now) result.low result.high }
 {
     let mut low: u32 = 0;
     let mut high = most;
@@ -118,8 +118,8 @@ fn store_places(
     masks: &mut [u32; MOST_KEPT],
     values: &mut [u32; MOST_KEPT],
 ) -> usize
-    requires { (places ≤ maxGuessed) × (length masks.old ≡ mostKept) × (length values.old ≡ mostKept) }
-    ensures upper_bound { (result ≤ maxGuessed) × (length masks.new ≡ mostKept) × (length values.new ≡ mostKept) }
+    requires { (places ≤ max_guessed) × (length masks.old ≡ most_kept) × (length values.old ≡ most_kept) }
+    ensures upper_bound { (result ≤ max_guessed) × (length masks.new ≡ most_kept) × (length values.new ≡ most_kept) }
     ensures by_index { (pass : ℕ → Bool) → BitsBetween pass places low high → Stored pass masks.new values.new result }
 {
     let mut kept: usize = 0;
@@ -152,8 +152,8 @@ pub fn store_bounds(
     masks: &mut [u32; MOST_KEPT],
     values: &mut [u32; MOST_KEPT],
 ) -> usize
-    requires { (places ≤ maxGuessed) × (length masks.old ≡ mostKept) × (length values.old ≡ mostKept) }
-    ensures upper_bound { (result ≤ mostKept) × (length masks.new ≡ mostKept) × (length values.new ≡ mostKept) }
+    requires { (places ≤ max_guessed) × (length masks.old ≡ most_kept) × (length values.old ≡ most_kept) }
+    ensures upper_bound { (result ≤ most_kept) × (length masks.new ≡ most_kept) × (length values.new ≡ most_kept) }
     ensures by_index { (pass : ℕ → Bool) → BitsBetween pass places bounds.low bounds.high → (bounds.apart ≡ true → EndsRefuted pass bounds.low bounds.high) → Stored pass masks.new values.new result }
 {
     let low = bounds.low;

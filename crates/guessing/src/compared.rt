@@ -1,7 +1,7 @@
 // A guess beside what it derives. Internal.
 ghost use Rattle.std.specs.Prelude.{◌≤◌, ◌≡◌, true, ltb, length};
 ghost use Rattle.theory.specs.Rule.{all};
-ghost use Rattle.items.specs.Item.{narrow, maxFacts, maxGuessed};
+ghost use Rattle.items.specs.Item.{narrow, max_facts, max_guessed};
 ghost use Rattle.guessing.specs.Compared.{Compares};
 
 use index::cells::LITERALS;
@@ -16,7 +16,7 @@ pub enum Compared {
 
 // Compares a guess with the facts that are marked.
 pub fn compare(row: &[u16], guess: u32, marks: &[u8; LITERALS]) -> Compared
-    requires { (length row.now ≤ maxGuessed) × (all (λ k. ltb k (maxFacts narrow)) row.now ≡ true) }
+    requires { (length row.now ≤ max_guessed) × (all (λ k. ltb k (max_facts narrow)) row.now ≡ true) }
     ensures { Compares row.now guess marks.now result }
 {
     let mut place = row.len();

@@ -1,6 +1,6 @@
 // The first guess from one on that nothing on the way to it refutes. Internal.
 ghost use Rattle.std.specs.Prelude.{◌<◌, ◌^◌, length};
-ghost use Rattle.tables.specs.Layout.{programIn};
+ghost use Rattle.tables.specs.Layout.{program_in};
 ghost use Rattle.propagation.specs.State.{Ready};
 ghost use Rattle.guessing.specs.Guessing.{Base};
 ghost use Rattle.guessing.specs.Descended.{Descended};
@@ -22,9 +22,9 @@ pub fn descend(
     marks: &mut [u8; LITERALS],
 ) -> u32
     requires ready { Ready tables.now index.now }
-    requires base { Base (programIn tables.now) index.now row.now base.now missing.now }
+    requires base { Base (program_in tables.now) index.now row.now base.now missing.now }
     requires from_bound { from < 2 ^ length row.now }
-    ensures { Descended (programIn tables.now) row.now base.now from result marks.new }
+    ensures { Descended (program_in tables.now) row.now base.now from result marks.new }
 {
     let mut left = *missing;
     *marks = *base;

@@ -1,8 +1,8 @@
 // The first guess that fits, as far as the nogoods that are kept decide it. Internal.
 ghost use Rattle.std.specs.Prelude.{◌≡◌, true};
-ghost use Rattle.tables.specs.Layout.{programIn};
+ghost use Rattle.tables.specs.Layout.{program_in};
 ghost use Rattle.propagation.specs.State.{Ready};
-ghost use Rattle.guessing.specs.Guessing.{Base, fitsAt};
+ghost use Rattle.guessing.specs.Guessing.{Base, fits_at};
 ghost use Rattle.guessing.specs.Bounds.{Between, EndsRefuted};
 ghost use Rattle.guessing.specs.First.{Sought};
 ghost use Rattle.guessing.specs.Descended.{Descended};
@@ -37,11 +37,11 @@ fn search_between(
     marks: &mut [u8; LITERALS],
 ) -> First
     requires ready { Ready tables.now index.now }
-    requires base { Base (programIn tables.now) index.now row.now base.now missing.now }
-    requires between { Between (programIn tables.now) row.now base.now bounds.low bounds.high }
-    requires ends_refuted { bounds.apart ≡ true → EndsRefuted (fitsAt (programIn tables.now) row.now base.now) bounds.low bounds.high }
-    requires descended { Descended (programIn tables.now) row.now base.now 0 from marks.old }
-    ensures { Sought (programIn tables.now) row.now base.now result marks.new }
+    requires base { Base (program_in tables.now) index.now row.now base.now missing.now }
+    requires between { Between (program_in tables.now) row.now base.now bounds.low bounds.high }
+    requires ends_refuted { bounds.apart ≡ true → EndsRefuted (fits_at (program_in tables.now) row.now base.now) bounds.low bounds.high }
+    requires descended { Descended (program_in tables.now) row.now base.now 0 from marks.old }
+    ensures { Sought (program_in tables.now) row.now base.now result marks.new }
 {
     let mut masks = [0u32; MOST_KEPT];
     let mut values = [0u32; MOST_KEPT];
@@ -95,8 +95,8 @@ pub fn first_guess(
     marks: &mut [u8; LITERALS],
 ) -> First
     requires ready { Ready tables.now index.now }
-    requires base { Base (programIn tables.now) index.now row.now base.now missing.now }
-    ensures { Sought (programIn tables.now) row.now base.now result marks.new }
+    requires base { Base (program_in tables.now) index.now row.now base.now missing.now }
+    ensures { Sought (program_in tables.now) row.now base.now result marks.new }
 {
     let first = descend(tables, index, row, base, missing, 0, marks);
     if let Compared::Same = compare(row, first, marks) {

@@ -1,9 +1,9 @@
 // What a conflict refutes. Internal.
 ghost use Rattle.std.specs.Prelude.{◌<◌, length};
-ghost use Rattle.tables.specs.Layout.{programIn};
+ghost use Rattle.tables.specs.Layout.{program_in};
 ghost use Rattle.propagation.specs.State.{Ready};
 ghost use Rattle.nogoods.specs.Nogoods.{Refutes};
-ghost use Rattle.guessing.specs.Guessing.{Base, fitsAt, Conflict};
+ghost use Rattle.guessing.specs.Guessing.{Base, fits_at, Conflict};
 ghost use Rattle.guessing.specs.Bounds.{Between};
 
 use crate::bounds::{Bounds, respond};
@@ -28,9 +28,9 @@ fn turn_over(
     place: usize,
 ) -> u32
     requires ready { Ready tables.now index.now }
-    requires base { Base (programIn tables.now) index.now row.now base.now missing.now }
-    requires conflict { Conflict (programIn tables.now) row.now base.now guess conflict × (place < length row.now) }
-    ensures { Conflict (programIn tables.now) row.now base.now result conflict }
+    requires base { Base (program_in tables.now) index.now row.now base.now missing.now }
+    requires conflict { Conflict (program_in tables.now) row.now base.now guess conflict × (place < length row.now) }
+    ensures { Conflict (program_in tables.now) row.now base.now result conflict }
 {
     if place == conflict {
         return guess;
@@ -59,9 +59,9 @@ fn widen(
     free: u32,
 ) -> u32
     requires ready { Ready tables.now index.now }
-    requires base { Base (programIn tables.now) index.now row.now base.now missing.now }
-    requires conflict { Conflict (programIn tables.now) row.now base.now guess conflict }
-    ensures { Conflict (programIn tables.now) row.now base.now result conflict }
+    requires base { Base (program_in tables.now) index.now row.now base.now missing.now }
+    requires conflict { Conflict (program_in tables.now) row.now base.now guess conflict }
+    ensures { Conflict (program_in tables.now) row.now base.now result conflict }
 {
     let mut wide = guess;
     let mut place: usize = 0;
@@ -98,11 +98,11 @@ pub fn learn(
     bounds: Bounds,
 ) -> Lesson
     requires ready { Ready tables.now index.now }
-    requires base { Base (programIn tables.now) index.now row.now base.now missing.now }
-    requires conflict { Conflict (programIn tables.now) row.now base.now guess conflict }
-    requires between { Between (programIn tables.now) row.now base.now bounds.low bounds.high }
-    ensures refutes { Refutes (fitsAt (programIn tables.now) row.now base.now) result.mask result.value }
-    ensures between_2 { Between (programIn tables.now) row.now base.now result.low result.high }
+    requires base { Base (program_in tables.now) index.now row.now base.now missing.now }
+    requires conflict { Conflict (program_in tables.now) row.now base.now guess conflict }
+    requires between { Between (program_in tables.now) row.now base.now bounds.low bounds.high }
+    ensures refutes { Refutes (fits_at (program_in tables.now) row.now base.now) result.mask result.value }
+    ensures between_2 { Between (program_in tables.now) row.now base.now result.low result.high }
 {
     let low = bounds.low;
     let high = bounds.high;

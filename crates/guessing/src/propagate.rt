@@ -1,8 +1,8 @@
 // What a guess derives. Internal.
 ghost use Rattle.std.specs.Prelude.{◌≤◌, ◌≡◌, length, take};
-ghost use Rattle.theory.specs.Guesses.{leftOut};
-ghost use Rattle.items.specs.Item.{maxGuessed};
-ghost use Rattle.tables.specs.Layout.{programIn};
+ghost use Rattle.theory.specs.Guesses.{left_out};
+ghost use Rattle.items.specs.Item.{max_guessed};
+ghost use Rattle.tables.specs.Layout.{program_in};
 ghost use Rattle.propagation.specs.State.{Ready};
 ghost use Rattle.guessing.specs.Guessing.{Base, Derived};
 
@@ -14,8 +14,8 @@ use tables::layout::TABLE_CELLS;
 
 // Lists the facts of the row that a guess leaves out. Answers how many there are.
 fn list_out(row: &[u16], guess: u32, outs: &mut [u16; MAX_GUESSED]) -> usize
-    requires { (length row.now ≤ maxGuessed) × (length outs.old ≡ maxGuessed) }
-    ensures { (result ≤ maxGuessed) × (take result outs.new ≡ leftOut row.now guess) }
+    requires { (length row.now ≤ max_guessed) × (length outs.old ≡ max_guessed) }
+    ensures { (result ≤ max_guessed) × (take result outs.new ≡ left_out row.now guess) }
 {
     let mut n: usize = 0;
     let mut place = row.len();
@@ -41,8 +41,8 @@ pub fn derive_guess(
     marks: &mut [u8; LITERALS],
 )
     requires ready { Ready tables.now index.now }
-    requires base { Base (programIn tables.now) index.now row.now base.now missing.now }
-    ensures { Derived (programIn tables.now) row.now base.now guess marks.new }
+    requires base { Base (program_in tables.now) index.now row.now base.now missing.now }
+    ensures { Derived (program_in tables.now) row.now base.now guess marks.new }
 {
     let mut outs = [0u16; MAX_GUESSED];
     let n = list_out(row, guess, &mut outs);

@@ -1,12 +1,12 @@
 // The index is filled, rule by rule. Internal.
 ghost use Rattle.std.specs.Prelude.{ℕ, ◌+◌, ◌<◌, ◌≤◌, ◌≡◌, Bool, false, not, List, ◌++◌, map};
-ghost use Rattle.theory.specs.Rule.{count, rule as ruleOf};
+ghost use Rattle.theory.specs.Rule.{count, rule as rule_of};
 ghost use Rattle.bits.specs.Matrix.{SameFrom};
-ghost use Rattle.tables.specs.Layout.{maxOwn, programIn, WellFormed};
+ghost use Rattle.tables.specs.Layout.{max_own, program_in, WellFormed};
 ghost use Rattle.premises.specs.Filling.{Entered};
 ghost use Rattle.index.specs.Literal.{literals, outside};
-ghost use Rattle.index.specs.Cells.{marksFrom};
-ghost use Rattle.index.specs.Index.{Indexed, inForceBut, LeftOut, Sized, Blank};
+ghost use Rattle.index.specs.Cells.{marks_from};
+ghost use Rattle.index.specs.Index.{Indexed, in_force_but, LeftOut, Sized, Blank};
 
 use crate::cells::{INDEX_WORDS, MARKS};
 use bits::matrix::mark_in;
@@ -22,10 +22,10 @@ fn index_constraints(
     rule: RuleId,
     index: &mut [u64; INDEX_WORDS],
 ) -> usize
-    requires { WellFormed tables.now × (rule.0 < count (programIn tables.now)) }
-    ensures upper_bound { result ≤ maxOwn }
-    ensures by_index { (q : ℕ → ℕ → Bool) (xs : List ℕ) (before : ℕ) → ((l : ℕ) → q l rule.0 ≡ false) → Entered literals literals q rule.0 xs index.old before → Entered literals literals q rule.0 (xs ++ map outside (ruleOf (programIn tables.now) rule.0).constraints) index.new (before + result) }
-    ensures same_from { SameFrom marksFrom index.old index.new }
+    requires { WellFormed tables.now × (rule.0 < count (program_in tables.now)) }
+    ensures upper_bound { result ≤ max_own }
+    ensures by_index { (q : ℕ → ℕ → Bool) (xs : List ℕ) (before : ℕ) → ((l : ℕ) → q l rule.0 ≡ false) → Entered literals literals q rule.0 xs index.old before → Entered literals literals q rule.0 (xs ++ map outside (rule_of (program_in tables.now) rule.0).constraints) index.new (before + result) }
+    ensures same_from { SameFrom marks_from index.old index.new }
 {
     let place = rule.0 as usize;
     let own = constraint_span(tables, rule);
@@ -44,8 +44,8 @@ fn index_constraints(
 
 // Is a rule off, or not in force?
 fn is_left_out(tables: &[u16; TABLE_CELLS], off: &[u8; MAX_RULES], rule: RuleId) -> bool
-    requires { WellFormed tables.now × (rule.0 < count (programIn tables.now)) }
-    ensures { result ≡ not (inForceBut (programIn tables.now) off.now rule.0) }
+    requires { WellFormed tables.now × (rule.0 < count (program_in tables.now)) }
+    ensures { result ≡ not (in_force_but (program_in tables.now) off.now rule.0) }
 {
     let number = rule.0 as usize;
     if off[number] == 1 {
@@ -62,9 +62,9 @@ pub fn index_rules(
     missing: &mut [u16; MAX_RULES],
 )
     requires { WellFormed tables.now × Blank index.old missing.old }
-    ensures indexed { Indexed (programIn tables.now) index.new }
-    ensures left_out { LeftOut (programIn tables.now) off.now index.new }
-    ensures sized { Sized (programIn tables.now) index.new missing.new }
+    ensures indexed { Indexed (program_in tables.now) index.new }
+    ensures left_out_lem { LeftOut (program_in tables.now) off.now index.new }
+    ensures sized { Sized (program_in tables.now) index.new missing.new }
 {
     let rules = rules_of(tables);
     let mut i: usize = 0;

@@ -9,8 +9,8 @@ use Rattle.input.specs.declared.Input.TheVariants.{Bytes}
 use Rattle.input.specs.Input.{Inside}
 
 module _ (room : List ℕ) (r : Input) (h : Inside room r) (n : ℕ) (e : r ≡ Bytes n) where
-  pub read-inside : n ≤ length room
-  read-inside = rw e at h
+  pub read_inside : n ≤ length room
+  read_inside = rw e at h
 
-  pub read-front : n ≡ length (take n room)
-  read-front = sym (length-take-le n room read-inside)
+  pub read_front : n ≡ length (take n room)
+  read_front = sym (length-take-le n room read_inside)

@@ -9,42 +9,42 @@ use native.Mathlib.Numerals.{add-one}
 use lib.ListN.{length, get_or, take, drop, length-drop}
 use lib.Seq.{drop-cons, drop-drop}
 use lib.Dec.{eqb}
-use Rattle.items.specs.Item.{narrow, factsKind, opensKind, premiseKind, constraintKind, rulesKind, namesKind, stepKind, unreadKind, noSuchKind, bodyLength, bigEndian, stepFact, stepRule}
+use Rattle.items.specs.Item.{narrow, facts_kind, opens_kind, premise_kind, constraint_kind, rules_kind, names_kind, step_kind, unread_kind, no_such_kind, body_length, big_endian, step_fact, step_rule}
 
 -- k is none of the kinds but perhaps a step's
 pub record NoOther (k : ℕ) : Type 0 where
-  pub facts : k ≡ factsKind narrow → ⊥
-  pub opens : k ≡ opensKind narrow → ⊥
-  pub premise : k ≡ premiseKind narrow → ⊥
-  pub constraint : k ≡ constraintKind narrow → ⊥
-  pub rules : k ≡ rulesKind → ⊥
-  pub names : k ≡ namesKind → ⊥
-  pub unread : k ≡ unreadKind narrow → ⊥
+  pub facts : k ≡ facts_kind narrow → ⊥
+  pub opens : k ≡ opens_kind narrow → ⊥
+  pub premise : k ≡ premise_kind narrow → ⊥
+  pub constraint : k ≡ constraint_kind narrow → ⊥
+  pub rules : k ≡ rules_kind → ⊥
+  pub names : k ≡ names_kind → ⊥
+  pub unread : k ≡ unread_kind narrow → ⊥
 
-pub unknown : (k : ℕ) → NoOther k → (k ≡ stepKind narrow → ⊥) → bodyLength narrow k ≡ noSuchKind
-unfolding bodyLength
+pub unknown : (k : ℕ) → NoOther k → (k ≡ step_kind narrow → ⊥) → body_length narrow k ≡ no_such_kind
+unfolding body_length
 unknown k h s =
     rw
-    (ne_eqb k (factsKind narrow) h.facts, ne_eqb k (opensKind narrow) h.opens, ne_eqb k (premiseKind narrow) h.premise, ne_eqb k (constraintKind narrow) h.constraint, ne_eqb k (unreadKind narrow) h.unread, ne_eqb k rulesKind h.rules, ne_eqb k namesKind h.names, ne_eqb k (stepKind narrow) s)
+    (ne_eqb k (facts_kind narrow) h.facts, ne_eqb k (opens_kind narrow) h.opens, ne_eqb k (premise_kind narrow) h.premise, ne_eqb k (constraint_kind narrow) h.constraint, ne_eqb k (unread_kind narrow) h.unread, ne_eqb k rules_kind h.rules, ne_eqb k names_kind h.names, ne_eqb k (step_kind narrow) s)
 
-pub a-step : (k : ℕ) → NoOther k → bodyLength narrow k < noSuchKind → k ≡ stepKind narrow
-a-step k h small = go (eqb k (stepKind narrow)) refl
+pub a_step : (k : ℕ) → NoOther k → body_length narrow k < no_such_kind → k ≡ step_kind narrow
+a_step k h small = go (eqb k (step_kind narrow)) refl
   where
-    go : (b : Bool) → eqb k (stepKind narrow) ≡ b → k ≡ stepKind narrow
-    go true e = eqb-true k (stepKind narrow) e
-    go false e = absurd (omega (arith, unknown k h (eqb-false k (stepKind narrow) e)))
+    go : (b : Bool) → eqb k (step_kind narrow) ≡ b → k ≡ step_kind narrow
+    go true e = eqb-true k (step_kind narrow) e
+    go false e = absurd (omega (arith, unknown k h (eqb-false k (step_kind narrow) e)))
 
 -- Fact numbers and rule numbers, at a place.
-pub fact-field-at : (s : List ℕ) (at : ℕ) → at + 1 ≤ length s → get_or s at 0 ≡ bigEndian (take 1 (drop at s))
-fact-field-at s at h = rw (drop-cons s at 0 (omega arith)) (omega arith)
+pub fact-field_at : (s : List ℕ) (at : ℕ) → at + 1 ≤ length s → get_or s at 0 ≡ big_endian (take 1 (drop at s))
+fact-field_at s at h = rw (drop-cons s at 0 (omega arith)) (omega arith)
 
-pub rule-field-at : (s : List ℕ) (at : ℕ) → at + 2 ≤ length s → get_or s at 0 * 256 + get_or s (at + 1) 0 ≡ bigEndian (take 2 (drop at s))
-rule-field-at s at h = rw (drop-cons s at 0 (omega arith), drop-cons s (suc at) 0 (omega arith), add-one at) (omega arith)
+pub rule-field_at : (s : List ℕ) (at : ℕ) → at + 2 ≤ length s → get_or s at 0 * 256 + get_or s (at + 1) 0 ≡ big_endian (take 2 (drop at s))
+rule-field_at s at h = rw (drop-cons s at 0 (omega arith), drop-cons s (suc at) 0 (omega arith), add-one at) (omega arith)
 
 -- The parts of a step's body.
 pub record StepBody (l : List ℕ) : Type 0 where
-  pub fact : stepFact (take 3 l) ≡ bigEndian (take 1 l)
-  pub rule : stepRule (take 3 l) ≡ bigEndian (take 2 (drop 1 l))
+  pub fact : step_fact (take 3 l) ≡ big_endian (take 1 l)
+  pub rule : step_rule (take 3 l) ≡ big_endian (take 2 (drop 1 l))
 
 pub step-body : (l : List ℕ) → 3 ≤ length l → StepBody l
 step-body [] h = absurd (omega arith)
@@ -52,8 +52,8 @@ step-body (a ∷ []) h = absurd (omega arith)
 step-body (a ∷ b ∷ []) h = absurd (omega arith)
 step-body (a ∷ b ∷ c ∷ l) h = record { fact = refl; rule = refl }
 
-pub step-at : (s : List ℕ) (at : ℕ) → at + 3 ≤ length s → (stepFact (take 3 (drop at s)) ≡ bigEndian (take 1 (drop at s))) × (stepRule (take 3 (drop at s)) ≡ bigEndian (take 2 (drop (at + 1) s)))
+pub step-at : (s : List ℕ) (at : ℕ) → at + 3 ≤ length s → (step_fact (take 3 (drop at s)) ≡ big_endian (take 1 (drop at s))) × (step_rule (take 3 (drop at s)) ≡ big_endian (take 2 (drop (at + 1) s)))
 step-at s at h = go (step-body (drop at s) (simp length-drop (omega arith)))
   where
-    go : StepBody (drop at s) → (stepFact (take 3 (drop at s)) ≡ bigEndian (take 1 (drop at s))) × (stepRule (take 3 (drop at s)) ≡ bigEndian (take 2 (drop (at + 1) s)))
-    go b = (b.fact, b.rule ∙ ap (λ (l : List ℕ). bigEndian (take 2 l)) (drop-drop 1 at s))
+    go : StepBody (drop at s) → (step_fact (take 3 (drop at s)) ≡ big_endian (take 1 (drop at s))) × (step_rule (take 3 (drop at s)) ≡ big_endian (take 2 (drop (at + 1) s)))
+    go b = (b.fact, b.rule ∙ ap (λ (l : List ℕ). big_endian (take 2 l)) (drop-drop 1 at s))

@@ -14,7 +14,7 @@ use denote.Enum.Declared.{tag_of}
 use Rattle.items.specs.declared.item.Item.{Item}
 use Rattle.items.specs.declared.item.Item.TheVariants.{Facts, Opens, Premise, Constraint, Rules, Names, Step, Unread}
 use Rattle.items.specs.contracts.item.Item.{the_type}
-use Rattle.items.specs.Item.{class_of, whereSaid}
+use Rattle.items.specs.Item.{class_of, where_said}
 
 -- The tag of an item is one of these.
 abbrev pub Tagged : List ℕ → Item → Type 0
@@ -68,6 +68,6 @@ alone {x = x} (silent q) e others a = absurd (never (sym e ∙ q))
     never e = let z : ◌≡◌ {A = ℕ} 0 1 = cc in omega arith
 
 -- An item says it or not.
-pub either-said : {A B : Type 0} (P : B → Type 0) (said : Option A) (f : A → B) (b : B) → ((x : A) → said ≡ some x → P (f x)) → (said ≡ none → P b) → P (whereSaid said f b)
-either-said P (some x) f b yes-so not_so = yes-so x refl
-either-said P none f b yes-so not_so = not_so refl
+pub either_said : {A B : Type 0} (P : B → Type 0) (said : Option A) (f : A → B) (b : B) → ((x : A) → said ≡ some x → P (f x)) → (said ≡ none → P b) → P (where_said said f b)
+either_said P (some x) f b yes-so not_so = yes-so x refl
+either_said P none f b yes-so not_so = not_so refl

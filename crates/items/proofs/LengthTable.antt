@@ -6,7 +6,7 @@ use mathlib.Core.List.{List, [], ◌∷◌}
 use native.Mathlib.Omega.{arith}
 use lib.ListN.{get_or}
 use lib.Dec.{eqb}
-use Rattle.items.specs.Item.{narrow, factsKind, opensKind, premiseKind, constraintKind, rulesKind, namesKind, stepKind, unreadKind, noSuchKind, bodyLength}
+use Rattle.items.specs.Item.{narrow, facts_kind, opens_kind, premise_kind, constraint_kind, rules_kind, names_kind, step_kind, unread_kind, no_such_kind, body_length}
 
 -- A kind is a byte.
 abbrev pub kinds : ℕ
@@ -15,26 +15,26 @@ kinds = 256
 -- The body lengths of n kinds, from k on.
 abbrev pub lengths_from : ℕ → ℕ → List ℕ
 lengths_from k zero = []
-lengths_from k (suc n) = bodyLength narrow k ∷ lengths_from (suc k) n
+lengths_from k (suc n) = body_length narrow k ∷ lengths_from (suc k) n
 
-from-kind : (k n i : ℕ) → i < n → get_or (lengths_from k n) i 0 ≡ bodyLength narrow (k + i)
+from-kind : (k n i : ℕ) → i < n → get_or (lengths_from k n) i 0 ≡ body_length narrow (k + i)
 from-kind k zero i h = absurd (omega arith)
-from-kind k (suc n) zero h = ap (bodyLength narrow) (omega arith)
-from-kind k (suc n) (suc i) h = from-kind (suc k) n i (omega arith) ∙ ap (bodyLength narrow) (omega arith)
+from-kind k (suc n) zero h = ap (body_length narrow) (omega arith)
+from-kind k (suc n) (suc i) h = from-kind (suc k) n i (omega arith) ∙ ap (body_length narrow) (omega arith)
 
 -- The entry of each kind is its body length, and no number above the mark.
-pub entry_of : (k : ℕ) → k < kinds → get_or (lengths_from 0 kinds) k 0 ≡ bodyLength narrow k
-entry_of k h = from-kind 0 kinds k h ∙ ap (bodyLength narrow) (omega arith)
+pub entry_of : (k : ℕ) → k < kinds → get_or (lengths_from 0 kinds) k 0 ≡ body_length narrow k
+entry_of k h = from-kind 0 kinds k h ∙ ap (body_length narrow) (omega arith)
 
-at-most-the-mark : (k : ℕ) → bodyLength narrow k ≤ noSuchKind
-unfolding bodyLength
-at-most-the-mark k = go (eqb k (factsKind narrow) || (eqb k (opensKind narrow) || (eqb k (premiseKind narrow) || (eqb k (constraintKind narrow) || eqb k (unreadKind narrow))))) (eqb k rulesKind || eqb k namesKind) (eqb k (stepKind narrow))
+at-most_the_mark : (k : ℕ) → body_length narrow k ≤ no_such_kind
+unfolding body_length
+at-most_the_mark k = go (eqb k (facts_kind narrow) || (eqb k (opens_kind narrow) || (eqb k (premise_kind narrow) || (eqb k (constraint_kind narrow) || eqb k (unread_kind narrow))))) (eqb k rules_kind || eqb k names_kind) (eqb k (step_kind narrow))
   where
-    go : (a b d : Bool) → cond a 1 (cond b 2 (cond d 3 noSuchKind)) ≤ noSuchKind
+    go : (a b d : Bool) → cond a 1 (cond b 2 (cond d 3 no_such_kind)) ≤ no_such_kind
     go true b d = omega arith
     go false true d = omega arith
     go false false true = omega arith
     go false false false = omega arith
 
-pub small-entry : (k : ℕ) → k < kinds → get_or (lengths_from 0 kinds) k 0 ≤ noSuchKind
-small-entry k h = rw (entry_of k h) (at-most-the-mark k)
+pub small_entry : (k : ℕ) → k < kinds → get_or (lengths_from 0 kinds) k 0 ≤ no_such_kind
+small_entry k h = rw (entry_of k h) (at-most_the_mark k)

@@ -18,20 +18,20 @@ pub placed_one : (x at : ℕ) (s : List ℕ) → at < length s → placed (x ∷
 placed_one x at s h = ap (λ (n : ℕ). take at s ++ (x ∷ drop n s)) (add-one at) ∙ sym (set_split s at x h)
 
 module _ (a s : List ℕ) (at : ℕ) (fits : at + length a ≤ length s) where
-  head-length : length (take at s ++ a) ≡ at + length a
-  head-length = length-append (take at s) a ∙ ap (λ (n : ℕ). n + length a) (length-take-le at s (omega arith))
+  head_length : length (take at s ++ a) ≡ at + length a
+  head_length = length-append (take at s) a ∙ ap (λ (n : ℕ). n + length a) (length-take-le at s (omega arith))
 
   joined : placed a at s ≡ (take at s ++ a) ++ drop (at + length a) s
   joined = sym (append_assoc (take at s) a (drop (at + length a) s))
 
   -- what stands up to the end of what is placed
   pub placed-front : take (at + length a) (placed a at s) ≡ take at s ++ a
-  placed-front = ap (take (at + length a)) joined ∙ take_at (take at s ++ a) (drop (at + length a) s) (at + length a) head-length
+  placed-front = ap (take (at + length a)) joined ∙ take_at (take at s ++ a) (drop (at + length a) s) (at + length a) head_length
 
   pub placed-length : length (placed a at s) ≡ length s
   placed-length =
       ap length joined ∙ length-append (take at s ++ a) (drop (at + length a) s)
-      ∙ rest (length (take at s ++ a)) (length (drop (at + length a) s)) head-length (length-drop (at + length a) s)
+      ∙ rest (length (take at s ++ a)) (length (drop (at + length a) s)) head_length (length-drop (at + length a) s)
     where
       rest : (x y : ℕ) → x ≡ at + length a → y ≡ length s - (at + length a) → x + y ≡ length s
       rest x y p q = omega arith
@@ -43,7 +43,7 @@ module _ (a s : List ℕ) (at : ℕ) (fits : at + length a ≤ length s) where
       tail : drop (at + length a + length b) ((take at s ++ a) ++ drop (at + length a) s) ≡ drop (at + length (a ++ b)) s
       tail =
           sym (drop-drop (length b) (at + length a) ((take at s ++ a) ++ drop (at + length a) s))
-          ∙ ap (drop (length b)) (drop_at (take at s ++ a) (drop (at + length a) s) (at + length a) head-length)
+          ∙ ap (drop (length b)) (drop_at (take at s ++ a) (drop (at + length a) s) (at + length a) head_length)
           ∙ drop-drop (length b) (at + length a) s
           ∙ ap (λ (n : ℕ). drop n s) (far (length (a ++ b)) (length-append a b))
         where
@@ -52,7 +52,7 @@ module _ (a s : List ℕ) (at : ℕ) (fits : at + length a ≤ length s) where
 
       split : placed b (at + length a) ((take at s ++ a) ++ drop (at + length a) s) ≡ placed (a ++ b) at s
       split =
-          rw (take_at (take at s ++ a) (drop (at + length a) s) (at + length a) head-length, tail)
+          rw (take_at (take at s ++ a) (drop (at + length a) s) (at + length a) head_length, tail)
           (append_assoc (take at s) a (b ++ drop (at + length (a ++ b)) s)
           ∙ ap (λ (l : List ℕ). take at s ++ l) (sym (append_assoc a b (drop (at + length (a ++ b)) s))))
 

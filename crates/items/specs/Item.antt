@@ -8,136 +8,136 @@ use Rattle.items.specs.declared.item.Item.{Item}
 use Rattle.items.specs.declared.item.Item.TheVariants.{Facts, Opens, Premise, Constraint, Rules, Names, Step, Unread}
 
 -- Facts and rules are counted separately, each from 0: a fact number and a rule number are different types.
-abbrev pub factId : ℕ → FactId
-factId n = record { 0 = n }
+abbrev pub fact_id : ℕ → FactId
+fact_id n = record { 0 = n }
 
-abbrev pub ruleId : ℕ → RuleId
-ruleId n = record { 0 = n }
+abbrev pub rule_id : ℕ → RuleId
+rule_id n = record { 0 = n }
 
 -- How wide the fact numbers of a file are: narrow is one byte.
 pub data Width : Type 0 where
   narrow : Width
 
 -- The bytes of a fact number or a count of facts, and of a rule number or a count of rules.
-abbrev pub factBytes : Width → ℕ
-factBytes narrow = 1
+abbrev pub fact_bytes : Width → ℕ
+fact_bytes narrow = 1
 
-abbrev pub ruleBytes : ℕ
-ruleBytes = 2
+abbrev pub rule_bytes : ℕ
+rule_bytes = 2
 
 -- Every fact number is below this.
-abbrev pub maxFacts : Width → ℕ
-maxFacts w = 256 ^ factBytes w
+abbrev pub max_facts : Width → ℕ
+max_facts w = 256 ^ fact_bytes w
 
 -- The byte of an item that gives its kind.
-abbrev pub kindBytes : ℕ
-kindBytes = 1
+abbrev pub kind_bytes : ℕ
+kind_bytes = 1
 
 -- The widths of the items of a file that name a fact (its first item too), of its last, of an order's items and of a step.
-abbrev pub itemWidth : Width → ℕ
-itemWidth w = kindBytes + factBytes w
+abbrev pub item_width : Width → ℕ
+item_width w = kind_bytes + fact_bytes w
 
-abbrev pub lastWidth : ℕ
-lastWidth = kindBytes + ruleBytes
+abbrev pub last_width : ℕ
+last_width = kind_bytes + rule_bytes
 
-abbrev pub nameWidth : ℕ
-nameWidth = kindBytes + ruleBytes
+abbrev pub name_width : ℕ
+name_width = kind_bytes + rule_bytes
 
-abbrev pub stepWidth : Width → ℕ
-stepWidth w = kindBytes + (factBytes w + ruleBytes)
+abbrev pub step_width : Width → ℕ
+step_width w = kind_bytes + (fact_bytes w + rule_bytes)
 
 -- The most rules of a file (questions 8 and 9), and its most bytes (question 1).
-abbrev pub maxRules : ℕ
-maxRules = 512
+abbrev pub max_rules : ℕ
+max_rules = 512
 
-abbrev pub maxBytes : ℕ
-maxBytes = 32767
+abbrev pub max_bytes : ℕ
+max_bytes = 32767
 
 -- The most premise and constraint items of one rule, repeats counted (question 51).
-abbrev pub maxRuleItems : ℕ
-maxRuleItems = 24
+abbrev pub max_rule_items : ℕ
+max_rule_items = 24
 
 -- The most constraint facts that the search takes (question 40).
-abbrev pub maxGuessed : ℕ
-maxGuessed = 16
+abbrev pub max_guessed : ℕ
+max_guessed = 16
 
 -- The kinds; each that names a fact, or counts facts, by the width. Of a file: its count of facts, an unread fact (document 02, wish 6), a rule opened, a
 -- premise, a constraint, its count of rules.
-abbrev pub factsKind : Width → ℕ
-factsKind narrow = 0x10
+abbrev pub facts_kind : Width → ℕ
+facts_kind narrow = 0x10
 
-abbrev pub unreadKind : Width → ℕ
-unreadKind narrow = 0x07
+abbrev pub unread_kind : Width → ℕ
+unread_kind narrow = 0x07
 
-abbrev pub opensKind : Width → ℕ
-opensKind narrow = 0x01
+abbrev pub opens_kind : Width → ℕ
+opens_kind narrow = 0x01
 
-abbrev pub premiseKind : Width → ℕ
-premiseKind narrow = 0x02
+abbrev pub premise_kind : Width → ℕ
+premise_kind narrow = 0x02
 
-abbrev pub constraintKind : Width → ℕ
-constraintKind narrow = 0x03
+abbrev pub constraint_kind : Width → ℕ
+constraint_kind narrow = 0x03
 
-abbrev pub rulesKind : ℕ
-rulesKind = 0x1F
+abbrev pub rules_kind : ℕ
+rules_kind = 0x1F
 
 -- Beside a file: a rule's name in an order or a list, and a step of a proof.
-abbrev pub namesKind : ℕ
-namesKind = 0x05
+abbrev pub names_kind : ℕ
+names_kind = 0x05
 
-abbrev pub stepKind : Width → ℕ
-stepKind narrow = 0x06
+abbrev pub step_kind : Width → ℕ
+step_kind narrow = 0x06
 
 -- A mark in the place of a length, where there is no such kind.
-abbrev pub noSuchKind : ℕ
-noSuchKind = 255
+abbrev pub no_such_kind : ℕ
+no_such_kind = 255
 
 -- The length of the body that follows a kind: the one place that fixes it.
-unfoldable pub bodyLength : Width → ℕ → ℕ
-bodyLength w k =
-    cond (eqb k (factsKind w) || (eqb k (opensKind w) || (eqb k (premiseKind w) || (eqb k (constraintKind w) || eqb k (unreadKind w))))) (factBytes w)
-    (cond (eqb k rulesKind || eqb k namesKind) ruleBytes
-    (cond (eqb k (stepKind w)) (factBytes w + ruleBytes)
-    noSuchKind))
+unfoldable pub body_length : Width → ℕ → ℕ
+body_length w k =
+    cond (eqb k (facts_kind w) || (eqb k (opens_kind w) || (eqb k (premise_kind w) || (eqb k (constraint_kind w) || eqb k (unread_kind w))))) (fact_bytes w)
+    (cond (eqb k rules_kind || eqb k names_kind) rule_bytes
+    (cond (eqb k (step_kind w)) (fact_bytes w + rule_bytes)
+    no_such_kind))
 
 -- The bytes of an item: its kind, then the body.
 abbrev pub width_of : Width → ℕ → ℕ
-width_of w k = suc (bodyLength w k)
+width_of w k = suc (body_length w k)
 
 -- A number of several bytes, high byte first.
-abbrev pub bigEndian : List ℕ → ℕ
-bigEndian [] = 0
-bigEndian (b ∷ bs) = b * 256 ^ length bs + bigEndian bs
+abbrev pub big_endian : List ℕ → ℕ
+big_endian [] = 0
+big_endian (b ∷ bs) = b * 256 ^ length bs + big_endian bs
 
 -- The body of a step: a fact number, then a rule number in the last bytes.
-abbrev pub stepFact : List ℕ → ℕ
-stepFact body = bigEndian (take (length body - ruleBytes) body)
+abbrev pub step_fact : List ℕ → ℕ
+step_fact body = big_endian (take (length body - rule_bytes) body)
 
-abbrev pub stepRule : List ℕ → ℕ
-stepRule body = bigEndian (drop (length body - ruleBytes) body)
+abbrev pub step_rule : List ℕ → ℕ
+step_rule body = big_endian (drop (length body - rule_bytes) body)
 
 -- The item of one of the kinds above with a body. No row has another kind.
 unfoldable pub item_of : Width → ℕ → List ℕ → Item
 item_of w k body =
-    cond (eqb k (factsKind w)) (Facts (bigEndian body))
-    (cond (eqb k (opensKind w)) (Opens (factId (bigEndian body)))
-    (cond (eqb k (premiseKind w)) (Premise (factId (bigEndian body)))
-    (cond (eqb k (constraintKind w)) (Constraint (factId (bigEndian body)))
-    (cond (eqb k rulesKind) (Rules (bigEndian body))
-    (cond (eqb k namesKind) (Names (ruleId (bigEndian body)))
-    (cond (eqb k (unreadKind w)) (Unread (factId (bigEndian body)))
-    (Step (factId (stepFact body)) (ruleId (stepRule body)))))))))
+    cond (eqb k (facts_kind w)) (Facts (big_endian body))
+    (cond (eqb k (opens_kind w)) (Opens (fact_id (big_endian body)))
+    (cond (eqb k (premise_kind w)) (Premise (fact_id (big_endian body)))
+    (cond (eqb k (constraint_kind w)) (Constraint (fact_id (big_endian body)))
+    (cond (eqb k rules_kind) (Rules (big_endian body))
+    (cond (eqb k names_kind) (Names (rule_id (big_endian body)))
+    (cond (eqb k (unread_kind w)) (Unread (fact_id (big_endian body)))
+    (Step (fact_id (step_fact body)) (rule_id (step_rule body)))))))))
 
 -- What a rule asks of the fact that an item of its own names: a premise asks it in, a constraint asks it out.
 pub data Sign : Type 0 where
-  asksIn : Sign
-  asksOut : Sign
+  asks_in : Sign
+  asks_out : Sign
 
-abbrev pub sameSign : Sign → Sign → Bool
-sameSign asksIn asksIn = true
-sameSign asksIn asksOut = false
-sameSign asksOut asksIn = false
-sameSign asksOut asksOut = true
+abbrev pub same_sign : Sign → Sign → Bool
+same_sign asks_in asks_in = true
+same_sign asks_in asks_out = false
+same_sign asks_out asks_in = false
+same_sign asks_out asks_out = true
 
 pub record OwnItem : Type 0 where
   pub sign : Sign
@@ -161,17 +161,17 @@ pub record Class : Type 0 where
 abbrev pub class_of : Item → Class
 class_of (Facts n) = record { facts = some n; opens = none; own = none; rules = none; names = none; step = none; unread = none }
 class_of (Opens f) = record { facts = none; opens = some f; own = none; rules = none; names = none; step = none; unread = none }
-class_of (Premise f) = record { facts = none; opens = none; own = some (record { sign = asksIn; fact = f }); rules = none; names = none; step = none; unread = none }
-class_of (Constraint f) = record { facts = none; opens = none; own = some (record { sign = asksOut; fact = f }); rules = none; names = none; step = none; unread = none }
+class_of (Premise f) = record { facts = none; opens = none; own = some (record { sign = asks_in; fact = f }); rules = none; names = none; step = none; unread = none }
+class_of (Constraint f) = record { facts = none; opens = none; own = some (record { sign = asks_out; fact = f }); rules = none; names = none; step = none; unread = none }
 class_of (Rules n) = record { facts = none; opens = none; own = none; rules = some n; names = none; step = none; unread = none }
 class_of (Names r) = record { facts = none; opens = none; own = none; rules = none; names = some r; step = none; unread = none }
 class_of (Step f r) = record { facts = none; opens = none; own = none; rules = none; names = none; step = some (record { fact = f; rule = r }); unread = none }
 class_of (Unread f) = record { facts = none; opens = none; own = none; rules = none; names = none; step = none; unread = some f }
 
 -- What follows from what an item says, and else what follows where it says no such thing.
-abbrev pub whereSaid : {A B : Type 0} → Option A → (A → B) → B → B
-whereSaid (some a) then otherwise = then a
-whereSaid none then otherwise = otherwise
+abbrev pub where_said : {A B : Type 0} → Option A → (A → B) → B → B
+where_said (some a) then otherwise = then a
+where_said none then otherwise = otherwise
 
 -- A fact set, and any row of marks, is the set of the places that hold 1.
 unfoldable pub has : List ℕ → ℕ → Bool

@@ -47,11 +47,11 @@ abbrev pub ask : Refusal → Bool → Question
 ask r b = record { refusal = r; answer = b }
 
 -- The refusal of the first no; none where every question gets yes.
-abbrev pub firstNo : List Question → Option Refusal
-firstNo [] = none
-firstNo (q ∷ qs) = cond q.answer (firstNo qs) (some q.refusal)
+abbrev pub first_no : List Question → Option Refusal
+first_no [] = none
+first_no (q ∷ qs) = cond q.answer (first_no qs) (some q.refusal)
 
 -- The number that is returned: that of the first no, or 0.
-abbrev pub noNumber : Option Refusal → ℕ
-noNumber none = 0
-noNumber (some r) = number r
+abbrev pub no_number : Option Refusal → ℕ
+no_number none = 0
+no_number (some r) = number r

@@ -2,37 +2,37 @@
 use Rattle.std.specs.Prelude.{ℕ, ◌+◌, ◌/◌, ◌%◌, List, [], ◌∷◌, ◌++◌, length, take, drop}
 use Rattle.items.specs.declared.item.Item.{Item}
 use Rattle.items.specs.declared.item.Item.TheVariants.{Facts, Opens, Premise, Constraint, Rules, Names, Step, Unread}
-use Rattle.items.specs.Item.{narrow, Width, factId, ruleId, factsKind, opensKind, premiseKind, constraintKind, rulesKind, namesKind, stepKind, unreadKind}
+use Rattle.items.specs.Item.{narrow, Width, fact_id, rule_id, facts_kind, opens_kind, premise_kind, constraint_kind, rules_kind, names_kind, step_kind, unread_kind}
 
 -- A fact number in its bytes, and a rule number, high byte first.
-abbrev pub factField : Width → ℕ → List ℕ
-factField narrow f = f ∷ []
+abbrev pub fact_field : Width → ℕ → List ℕ
+fact_field narrow f = f ∷ []
 
-abbrev pub ruleField : ℕ → List ℕ
-ruleField r = r / 256 ∷ r % 256 ∷ []
+abbrev pub rule_field : ℕ → List ℕ
+rule_field r = r / 256 ∷ r % 256 ∷ []
 
 -- The bytes of an item: its kind, then the body.
-abbrev pub itemBytes : Width → Item → List ℕ
-itemBytes w (Facts n) = factsKind w ∷ factField w n
-itemBytes w (Opens f) = opensKind w ∷ factField w f.0
-itemBytes w (Premise f) = premiseKind w ∷ factField w f.0
-itemBytes w (Constraint f) = constraintKind w ∷ factField w f.0
-itemBytes w (Rules n) = rulesKind ∷ ruleField n
-itemBytes w (Names r) = namesKind ∷ ruleField r.0
-itemBytes w (Step f r) = stepKind w ∷ (factField w f.0 ++ ruleField r.0)
-itemBytes w (Unread f) = unreadKind w ∷ factField w f.0
+abbrev pub item_bytes : Width → Item → List ℕ
+item_bytes w (Facts n) = facts_kind w ∷ fact_field w n
+item_bytes w (Opens f) = opens_kind w ∷ fact_field w f.0
+item_bytes w (Premise f) = premise_kind w ∷ fact_field w f.0
+item_bytes w (Constraint f) = constraint_kind w ∷ fact_field w f.0
+item_bytes w (Rules n) = rules_kind ∷ rule_field n
+item_bytes w (Names r) = names_kind ∷ rule_field r.0
+item_bytes w (Step f r) = step_kind w ∷ (fact_field w f.0 ++ rule_field r.0)
+item_bytes w (Unread f) = unread_kind w ∷ fact_field w f.0
 
 -- The bytes of items one after another.
 abbrev pub bytes_of : Width → List Item → List ℕ
 bytes_of w [] = []
-bytes_of w (i ∷ is) = itemBytes w i ++ bytes_of w is
+bytes_of w (i ∷ is) = item_bytes w i ++ bytes_of w is
 
 -- An item that names a rule, the same in every width, and a step.
-abbrev pub ruleItem : ℕ → List ℕ
-ruleItem r = namesKind ∷ ruleField r
+abbrev pub rule_item : ℕ → List ℕ
+rule_item r = names_kind ∷ rule_field r
 
-abbrev pub stepItem : Width → ℕ → ℕ → List ℕ
-stepItem w f r = itemBytes w (Step (factId f) (ruleId r))
+abbrev pub step_item : Width → ℕ → ℕ → List ℕ
+step_item w f r = item_bytes w (Step (fact_id f) (rule_id r))
 
 -- s with the bytes of an item at a place; the others keep their contents
 abbrev pub placed : List ℕ → ℕ → List ℕ → List ℕ

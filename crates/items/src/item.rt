@@ -1,5 +1,5 @@
 ghost use Rattle.std.specs.Prelude.{◌≡◌, ◌+◌, ◌<◌, ◌≤◌, length, take, drop};
-ghost use Rattle.items.specs.Item.{narrow, factBytes, ruleBytes, bodyLength, noSuchKind, bigEndian, item_of};
+ghost use Rattle.items.specs.Item.{narrow, fact_bytes, rule_bytes, body_length, no_such_kind, big_endian, item_of};
 
 // A fact number and a rule number are counted separately, each from 0, and each indexes its own marks.
 #[derive(Drop)]
@@ -67,24 +67,24 @@ pub const MAX_BYTES: usize = 32767;
 
 // The fact number, or count of facts, at a place.
 fn fact_field(bytes: &[u8], at: usize) -> u16
-    requires { at + factBytes narrow ≤ length bytes.now }
-    ensures { result ≡ bigEndian (take (factBytes narrow) (drop at bytes.now)) }
+    requires { at + fact_bytes narrow ≤ length bytes.now }
+    ensures { result ≡ big_endian (take (fact_bytes narrow) (drop at bytes.now)) }
 {
     bytes[at] as u16
 }
 
 // The rule number, or count of rules, at a place: high byte first.
 fn rule_field(bytes: &[u8], at: usize) -> u16
-    requires { at + ruleBytes ≤ length bytes.now }
-    ensures { result ≡ bigEndian (take ruleBytes (drop at bytes.now)) }
+    requires { at + rule_bytes ≤ length bytes.now }
+    ensures { result ≡ big_endian (take rule_bytes (drop at bytes.now)) }
 {
     (bytes[at] as u16) * BASE + (bytes[at + 1] as u16)
 }
 
 // The item of a kind whose body starts at a place. Internal: the cursor has seen that the kind is one of a row, and the body whole.
 pub fn item_of(kind: u8, bytes: &[u8], at: usize) -> Item
-    requires { (bodyLength narrow kind < noSuchKind) × (at + bodyLength narrow kind ≤ length bytes.now) }
-    ensures { result ≡ item_of narrow kind (take (bodyLength narrow kind) (drop at bytes.now)) }
+    requires { (body_length narrow kind < no_such_kind) × (at + body_length narrow kind ≤ length bytes.now) }
+    ensures { result ≡ item_of narrow kind (take (body_length narrow kind) (drop at bytes.now)) }
 {
     match kind {
         FACTS_KIND => Item::Facts(fact_field(bytes, at)),

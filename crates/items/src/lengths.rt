@@ -1,6 +1,6 @@
 // How long items are. The table is the one place of the code that knows: every other length is read off it.
 ghost use Rattle.std.specs.Prelude.{◌≡◌};
-ghost use Rattle.items.specs.Item.{narrow, bodyLength};
+ghost use Rattle.items.specs.Item.{narrow, body_length};
 
 use crate::item::{KIND_BYTES, NAMES_KIND, PREMISE_KIND, RULES_KIND, STEP_KIND};
 
@@ -34,7 +34,7 @@ pub const STEP_WIDTH: usize = KIND_BYTES + BODY_LENGTHS[STEP_KIND as usize] as u
 
 // The body length of a kind, or the mark.
 pub fn body_length(kind: u8) -> usize
-    ensures { result ≡ bodyLength narrow kind }
+    ensures { result ≡ body_length narrow kind }
 {
     BODY_LENGTHS[kind as usize] as usize
 }

@@ -1,7 +1,7 @@
 // Writes one item into a lent buffer. Internal: the caller has seen that it fits.
 ghost use Rattle.std.specs.Prelude.{◌≡◌, ◌∷◌, ◌+◌, ◌<◌, ◌≤◌, length};
-ghost use Rattle.items.specs.Item.{narrow, maxFacts, itemWidth, nameWidth, stepWidth};
-ghost use Rattle.items.specs.Write.{factField, ruleField, ruleItem, stepItem, placed};
+ghost use Rattle.items.specs.Item.{narrow, max_facts, item_width, name_width, step_width};
+ghost use Rattle.items.specs.Write.{fact_field, rule_field, rule_item, step_item, placed};
 
 use crate::item::{BASE, FACT_BYTES, FactId, KIND_BYTES, NAMES_KIND, RuleId, STEP_KIND};
 use crate::lengths::{NAME_WIDTH, STEP_WIDTH};
@@ -16,8 +16,8 @@ const STEP_RULE: usize = KIND_BYTES + FACT_BYTES;
 
 // An item whose body is a fact number or a count of facts.
 pub fn write_fact_body(out: &mut [u8], at: usize, kind: u8, number: u16)
-    requires { (number < maxFacts narrow) × (at + itemWidth narrow ≤ length out.old) }
-    ensures { out.new ≡ placed (kind ∷ factField narrow number) at out.old }
+    requires { (number < max_facts narrow) × (at + item_width narrow ≤ length out.old) }
+    ensures { out.new ≡ placed (kind ∷ fact_field narrow number) at out.old }
 {
     out[at] = kind;
     out[at + KIND_BYTES] = number as u8;
@@ -25,8 +25,8 @@ pub fn write_fact_body(out: &mut [u8], at: usize, kind: u8, number: u16)
 
 // An item whose body is a rule number or a count of rules.
 pub fn write_rule_body(out: &mut [u8], at: usize, kind: u8, number: u16)
-    requires { at + nameWidth ≤ length out.old }
-    ensures { out.new ≡ placed (kind ∷ ruleField number) at out.old }
+    requires { at + name_width ≤ length out.old }
+    ensures { out.new ≡ placed (kind ∷ rule_field number) at out.old }
 {
     out[at] = kind;
     out[at + KIND_BYTES] = (number / BASE) as u8;
@@ -35,16 +35,16 @@ pub fn write_rule_body(out: &mut [u8], at: usize, kind: u8, number: u16)
 
 // An item that names a rule.
 pub fn write_rule_item(out: &mut [u8], at: usize, rule: RuleId)
-    requires { at + nameWidth ≤ length out.old }
-    ensures { out.new ≡ placed (ruleItem rule.0) at out.old }
+    requires { at + name_width ≤ length out.old }
+    ensures { out.new ≡ placed (rule_item rule.0) at out.old }
 {
     write_rule_body(out, at, NAMES_KIND, rule.0);
 }
 
 // A step.
 pub fn write_step_item(out: &mut [u8], at: usize, fact: FactId, rule: RuleId)
-    requires { (fact.0 < maxFacts narrow) × (at + stepWidth narrow ≤ length out.old) }
-    ensures { out.new ≡ placed (stepItem narrow fact.0 rule.0) at out.old }
+    requires { (fact.0 < max_facts narrow) × (at + step_width narrow ≤ length out.old) }
+    ensures { out.new ≡ placed (step_item narrow fact.0 rule.0) at out.old }
 {
     let number = rule.0;
     out[at] = STEP_KIND;

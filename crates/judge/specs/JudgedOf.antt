@@ -2,22 +2,22 @@
 use Rattle.std.specs.Prelude.{cond, List, ◌++◌, ℕ}
 use Rattle.std.proofs.Math.Option.{Option, none, some}
 use Rattle.theory.specs.Rule.{Program, exception}
-use Rattle.theory.specs.Check.{isStable}
+use Rattle.theory.specs.Check.{is_stable}
 use Rattle.items.specs.declared.refusal.Refusal.{Refusal}
-use Rattle.items.specs.Question.{firstNo}
+use Rattle.items.specs.Question.{first_no}
 use Rattle.items.specs.Item.{has}
-use Rattle.questions.specs.Questions.{listQuestions, setQuestions}
+use Rattle.questions.specs.Questions.{list_questions, set_questions}
 use Rattle.judge.specs.declared.answer.Judged.{Judged}
 use Rattle.judge.specs.declared.answer.Judged.TheVariants.{Stable, NotStable, Refused}
 use Rattle.judge.specs.Judged.{unlisted}
 
 -- the first no on the list and on the set
-abbrev pub laterNo : Program → List ℕ → List ℕ → Option Refusal
-laterNo P list set = firstNo (listQuestions (exception P) list ++ setQuestions P.facts set)
+abbrev pub later_no : Program → List ℕ → List ℕ → Option Refusal
+later_no P list set = first_no (list_questions (exception P) list ++ set_questions P.facts set)
 
-unfoldable pub judgedOf : Program → List ℕ → List ℕ → Judged
-judgedOf P list set =
-    elim (laterNo P list set) [
-      | none ↦ cond (isStable P (unlisted P list) (has set)) Stable NotStable
+unfoldable pub judged_of : Program → List ℕ → List ℕ → Judged
+judged_of P list set =
+    elim (later_no P list set) [
+      | none ↦ cond (is_stable P (unlisted P list) (has set)) Stable NotStable
       | some r ↦ Refused r
     ]

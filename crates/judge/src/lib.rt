@@ -1,8 +1,8 @@
 // The judge: is a set of facts stable for a file less some listed exception rules?
 ghost use Rattle.std.specs.Prelude.{◌≡◌};
-ghost use Rattle.tables.specs.Layout.{programIn, WellFormed};
+ghost use Rattle.tables.specs.Layout.{program_in, WellFormed};
 ghost use Rattle.judge.specs.Judged.{judged, JudgeMeans};
-ghost use Rattle.judge.specs.JudgedOf.{judgedOf};
+ghost use Rattle.judge.specs.JudgedOf.{judged_of};
 
 pub mod answer;
 mod stable;
@@ -28,7 +28,7 @@ pub fn judge(file: &[u8], list: &[u8], set: &[u8]) -> Judged
 // The questions on the list and on the set, for the program of an accepted file, and then the test. Internal.
 fn judge_program(tables: &[u16; TABLE_CELLS], list: &[u8], set: &[u8]) -> Judged
     requires { WellFormed tables.now }
-    ensures { result ≡ judgedOf (programIn tables.now) list.now set.now }
+    ensures { result ≡ judged_of (program_in tables.now) list.now set.now }
 {
     let mut listed = [0u8; MAX_RULES];
     let on_list = naming::order::ask_listed(tables, list, &mut listed);

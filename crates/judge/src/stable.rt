@@ -2,10 +2,10 @@
 ghost use Rattle.std.specs.Prelude.{◌≤◌, ◌≡◌, length};
 ghost use Rattle.std.specs.Bool.{beq};
 ghost use Rattle.theory.specs.Rule.{all, up_to};
-ghost use Rattle.theory.specs.Check.{isStable};
+ghost use Rattle.theory.specs.Check.{is_stable};
 ghost use Rattle.items.specs.Item.{has};
-ghost use Rattle.tables.specs.Layout.{programIn, WellFormed};
-ghost use Rattle.index.specs.Index.{inForceBut};
+ghost use Rattle.tables.specs.Layout.{program_in, WellFormed};
+ghost use Rattle.index.specs.Index.{in_force_but};
 
 use index::cells::{INDEX_WORDS, LITERALS};
 use index::fill::index_rules;
@@ -32,8 +32,8 @@ fn same_facts(a: &[u8], b: &[u8], facts: u16) -> bool
 // Is the set stable for the rules that are not listed? What is derived from the facts held out that are not in the set is the least set of its
 // reduct.
 pub fn is_stable(tables: &[u16; TABLE_CELLS], listed: &[u8; MAX_RULES], set: &[u8]) -> bool
-    requires { WellFormed tables.now × ((programIn tables.now).facts ≤ length set.now) }
-    ensures { result ≡ isStable (programIn tables.now) (inForceBut (programIn tables.now) listed.now) (has set.now) }
+    requires { WellFormed tables.now × ((program_in tables.now).facts ≤ length set.now) }
+    ensures { result ≡ is_stable (program_in tables.now) (in_force_but (program_in tables.now) listed.now) (has set.now) }
 {
     let mut index = [0u64; INDEX_WORDS];
     let mut missing = [0u16; MAX_RULES];

@@ -1,7 +1,7 @@
 // Shorter grounds for one fact: the steps of a run that matter for it.
 ghost use Rattle.std.specs.Prelude.{◌≡◌, length};
-ghost use Rattle.questions.specs.Questions.{groundsNo};
-ghost use Rattle.keeping.specs.Outcome.{GroundsOutcome, groundsOutcome, GroundsNumbers};
+ghost use Rattle.questions.specs.Questions.{grounds_no};
+ghost use Rattle.keeping.specs.Outcome.{GroundsOutcome, grounds_outcome, GroundsNumbers};
 
 pub mod answer;
 pub mod tabled;
@@ -21,8 +21,8 @@ pub fn grounds(
     rule_marks: &mut [u8],
     steps: &mut [u8],
 ) -> Grounds
-    ensures fact { ◌≡◌ {A = GroundsOutcome} (record { answer = result; fact-marks = fact_marks.new; rule-marks = rule_marks.new; steps = steps.new }) (groundsOutcome file.now order.now fact fact_marks.old rule_marks.old steps.old) }
-    ensures grounds_numbers { GroundsNumbers file.now order.now fact (groundsNo file.now order.now fact (length fact_marks.old) (length rule_marks.old) (length steps.old)) result }
+    ensures fact { ◌≡◌ {A = GroundsOutcome} (record { answer = result; fact-marks = fact_marks.new; rule-marks = rule_marks.new; steps = steps.new }) (grounds_outcome file.now order.now fact fact_marks.old rule_marks.old steps.old) }
+    ensures grounds_numbers { GroundsNumbers file.now order.now fact (grounds_no file.now order.now fact (length fact_marks.old) (length rule_marks.old) (length steps.old)) result }
 {
     let mut tables = [0u16; TABLE_CELLS];
     match reader::scan::scan(file, &mut tables) {

@@ -1,11 +1,11 @@
 // The grounds for one fact on the tables of an accepted file, under an accepted order. Internal.
 ghost use Rattle.std.specs.Prelude.{◌≡◌, length};
-ghost use Rattle.items.specs.Item.{narrow, maxFacts, has};
-ghost use Rattle.tables.specs.Layout.{programIn, WellFormed};
+ghost use Rattle.items.specs.Item.{narrow, max_facts, has};
+ghost use Rattle.tables.specs.Layout.{program_in, WellFormed};
 ghost use Rattle.questions.specs.Questions.{named_in};
-ghost use Rattle.run.specs.Stands.{MayRun, runIn};
+ghost use Rattle.run.specs.Stands.{MayRun, run_in};
 ghost use Rattle.keeping.specs.Outcome.{GroundsOutcome};
-ghost use Rattle.keeping.specs.Told.{groundsTold};
+ghost use Rattle.keeping.specs.Told.{grounds_told};
 
 use crate::answer::Grounds;
 use items::item::{FactId, MAX_FACTS, MAX_RULES};
@@ -18,7 +18,7 @@ use tables::layout::TABLE_CELLS;
 
 // Is the fact marked as derived? No number past the marks is.
 fn is_derived(marks: &[u8; MAX_FACTS], fact: u32) -> bool
-    requires { length marks.now ≡ maxFacts narrow }
+    requires { length marks.now ≡ max_facts narrow }
     ensures { result ≡ has marks.now fact }
 {
     let number = fact as usize;
@@ -38,8 +38,8 @@ pub fn grounds_tabled(
     steps: &mut [u8],
 ) -> Grounds
     requires well_formed { WellFormed tables.now }
-    requires may_run { MayRun (programIn tables.now) (named_in order.now) (length fact_marks.old) (length rule_marks.old) (length steps.old) }
-    ensures { ◌≡◌ {A = GroundsOutcome} (record { answer = result; fact-marks = fact_marks.new; rule-marks = rule_marks.new; steps = steps.new }) (groundsTold (programIn tables.now) (runIn tables.now order.now) fact fact_marks.old rule_marks.old steps.old) }
+    requires may_run { MayRun (program_in tables.now) (named_in order.now) (length fact_marks.old) (length rule_marks.old) (length steps.old) }
+    ensures { ◌≡◌ {A = GroundsOutcome} (record { answer = result; fact-marks = fact_marks.new; rule-marks = rule_marks.new; steps = steps.new }) (grounds_told (program_in tables.now) (run_in tables.now order.now) fact fact_marks.old rule_marks.old steps.old) }
 {
     let mut marks = [0u8; MAX_FACTS];
     let mut fired = [0u16; MAX_FACTS];

@@ -10,14 +10,14 @@ use lib.ListN.{length, get_or, take, set, length-set}
 use lib.Seq.{take-suc, take_all, take-suc-set, length-take-le, get_or-take}
 use lib.Dec.{ltb}
 use Rattle.theory.specs.Rule.{all, Program, count}
-use Rattle.theory.specs.Derive.{stepBy}
-use Rattle.theory.specs.Keeping.{StepSet, select, Traced, Kept, groundsOf}
+use Rattle.theory.specs.Derive.{step_by}
+use Rattle.theory.specs.Keeping.{StepSet, select, Traced, Kept, grounds_of}
 use Rattle.theory.proofs.Bools.{and_both}
-use Rattle.theory.proofs.Lists.{getD-mem, all-elem}
+use Rattle.theory.proofs.Lists.{get_or-mem, all-elem}
 use Rattle.theory.proofs.Keeping.{kept-is}
-use Rattle.items.specs.Item.{narrow, maxFacts}
-use Rattle.kept_steps.specs.Keep.{stepsBy}
-use Rattle.kept_steps.proofs.StepsPlaced.{rule-known}
+use Rattle.items.specs.Item.{narrow, max_facts}
+use Rattle.kept_steps.specs.Keep.{steps_by}
+use Rattle.kept_steps.proofs.StepsPlaced.{rule_known}
 
 -- One element more.
 select-snoc : (K : ℕ → Bool) (xs : List ℕ) (x : ℕ) → select K (xs ++ (x ∷ [])) ≡ select K xs ++ cond (K (length xs)) (x ∷ []) []
@@ -50,19 +50,19 @@ module _ (K : ℕ → Bool) (row : List ℕ) (k : ℕ) (l : k < length row) wher
 pub record Retaining (K : ℕ → Bool) (row out : List ℕ) (n k : ℕ) : Type 0 where
   pub reached : k ≤ length row
   pub fewer : n ≤ k
-  pub cells : length out ≡ maxFacts narrow
+  pub cells : length out ≡ max_facts narrow
   pub same : take n out ≡ select K (take k row)
 
-pub none-retained : (K : ℕ → Bool) (row out : List ℕ) → length out ≡ maxFacts narrow → Retaining K row out 0 0
-none-retained K row out e = record { reached = omega arith; fewer = omega arith; cells = e; same = refl }
+pub none_retained : (K : ℕ → Bool) (row out : List ℕ) → length out ≡ max_facts narrow → Retaining K row out 0 0
+none_retained K row out e = record { reached = omega arith; fewer = omega arith; cells = e; same = refl }
 
 module _ {K : ℕ → Bool} {row out : List ℕ} {n k : ℕ} (w : Retaining K row out n k) where
   pub all_retained : length row ≤ k → take n out ≡ select K row
   all_retained l = w.same ∙ ap (select K) (take_all k row l)
 
   module _ (l : k < length row) where
-    pub one-retained : length row ≤ maxFacts narrow → K k ≡ true → Retaining K row (set out n (get_or row k 0)) (n + 1) (k + 1)
-    one-retained few t =
+    pub one_retained : length row ≤ max_facts narrow → K k ≡ true → Retaining K row (set out n (get_or row k 0)) (n + 1) (k + 1)
+    one_retained few t =
         record {
           reached = omega arith;
           fewer = omega (arith, w.fewer);
@@ -96,13 +96,13 @@ all-selected p K (x ∷ xs) h = go (K 0) _ (all-selected p (λ k. K (suc k)) xs 
     go false us e = e
 
 -- The kept rules of a row, written to the front of another: their steps are those kept for the fact, and each is a rule of the program.
-module _ {P : Program} (rules : List ℕ) {f : ℕ} {K : StepSet} (r : Traced P (stepsBy P rules)) (u : Kept P (stepsBy P rules) f K) (out : List ℕ) (n : ℕ) (same : take n out ≡ select K rules) where
-  pub grounds-kept : stepsBy P (take n out) ≡ groundsOf P f (stepsBy P rules)
-  grounds-kept = ap (stepsBy P) same ∙ select-map (stepBy P) K rules ∙ kept-is P (stepsBy P rules) f K r u
+module _ {P : Program} (rules : List ℕ) {f : ℕ} {K : StepSet} (r : Traced P (steps_by P rules)) (u : Kept P (steps_by P rules) f K) (out : List ℕ) (n : ℕ) (same : take n out ≡ select K rules) where
+  pub grounds_kept : steps_by P (take n out) ≡ grounds_of P f (steps_by P rules)
+  grounds_kept = ap (steps_by P) same ∙ select-map (step_by P) K rules ∙ kept-is P (steps_by P rules) f K r u
 
   pub rules-kept : n ≤ length out → (k : ℕ) → k < n → get_or out k 0 < count P
   rules-kept h k l =
       let counted : n ≡ length (select K rules) = sym (length-take-le n out h) ∙ ap length same in
       let here : get_or out k 0 ≡ get_or (select K rules) k 0 = sym (get_or-take n out k 0 l) ∙ ap (λ (xs : List ℕ). get_or xs k 0) same in
-      let passes : all (λ i. ltb i (count P)) (select K rules) ≡ true = all-selected (λ i. ltb i (count P)) K rules (λ j m. lt-ltb _ _ (rule-known P rules r j m)) in
-      rw here (ltb-true _ _ (all-elem (λ i. ltb i (count P)) (select K rules) passes _ (getD-mem (select K rules) k (omega arith))))
+      let passes : all (λ i. ltb i (count P)) (select K rules) ≡ true = all-selected (λ i. ltb i (count P)) K rules (λ j m. lt-ltb _ _ (rule_known P rules r j m)) in
+      rw here (ltb-true _ _ (all-elem (λ i. ltb i (count P)) (select K rules) passes _ (get_or-mem (select K rules) k (omega arith))))

@@ -1,11 +1,11 @@
 // The steps of a run that are kept for a fact. Internal.
 ghost use Rattle.std.specs.Prelude.{ℕ, ◌≤◌, ◌<◌, ◌≡◌, true, [], ◌∷◌, map, length, get_or, take};
-ghost use Rattle.theory.specs.Rule.{count as count_of, rule as ruleOf};
+ghost use Rattle.theory.specs.Rule.{count as count_of, rule as rule_of};
 ghost use Rattle.theory.specs.Stable.{facts_of};
-ghost use Rattle.theory.specs.Keeping.{Traced, select, groundsOf};
-ghost use Rattle.items.specs.Item.{narrow, maxFacts, has};
-ghost use Rattle.tables.specs.Layout.{programIn, WellFormed};
-ghost use Rattle.kept_steps.specs.Keep.{stepsBy, place_of, Placed, MayKeep, Keeps};
+ghost use Rattle.theory.specs.Keeping.{Traced, select, grounds_of};
+ghost use Rattle.items.specs.Item.{narrow, max_facts, has};
+ghost use Rattle.tables.specs.Layout.{program_in, WellFormed};
+ghost use Rattle.kept_steps.specs.Keep.{steps_by, place_of, Placed, MayKeep, Keeps};
 
 use items::item::{FactId, MAX_FACTS, RuleId};
 use tables::layout::TABLE_CELLS;
@@ -17,9 +17,9 @@ const KEPT: u8 = 1;
 // For each fact of a row of steps, the place of its step.
 fn place_steps(tables: &[u16; TABLE_CELLS], row: &[u16], places: &mut [u16; MAX_FACTS])
     requires well_formed { WellFormed tables.now }
-    requires row_len_bound { (length row.now ≤ maxFacts narrow) × (length places.old ≡ maxFacts narrow) }
-    requires traced { Traced (programIn tables.now) (stepsBy (programIn tables.now) row.now) }
-    ensures { Placed (stepsBy (programIn tables.now) row.now) places.new }
+    requires row_len_bound { (length row.now ≤ max_facts narrow) × (length places.old ≡ max_facts narrow) }
+    requires traced { Traced (program_in tables.now) (steps_by (program_in tables.now) row.now) }
+    ensures { Placed (steps_by (program_in tables.now) row.now) places.new }
 {
     let mut k: usize = 0;
     while k < row.len() {
@@ -40,9 +40,9 @@ fn keep_step(
     kept: &mut [u8; MAX_FACTS],
 )
     requires well_formed { WellFormed tables.now }
-    requires may_keep { MayKeep (programIn tables.now) row.now places.now kept.old k }
-    ensures keeps { Keeps (programIn tables.now) (stepsBy (programIn tables.now) row.now) (has kept.old) (k ∷ []) (has kept.new) }
-    ensures kept_len { length kept.new ≡ maxFacts narrow }
+    requires may_keep { MayKeep (program_in tables.now) row.now places.now kept.old k }
+    ensures keeps { Keeps (program_in tables.now) (steps_by (program_in tables.now) row.now) (has kept.old) (k ∷ []) (has kept.new) }
+    ensures kept_len { length kept.new ≡ max_facts narrow }
 {
     kept[k] = KEPT;
     keep_premises(tables, row, places, k, kept);
@@ -58,9 +58,9 @@ fn keep_premises(
     kept: &mut [u8; MAX_FACTS],
 )
     requires well_formed { WellFormed tables.now }
-    requires may_keep { MayKeep (programIn tables.now) row.now places.now kept.old k }
-    ensures keeps { Keeps (programIn tables.now) (stepsBy (programIn tables.now) row.now) (has kept.old) (map (place_of places.now) (ruleOf (programIn tables.now) (get_or row.now k 0)).premises) (has kept.new) }
-    ensures kept_len { length kept.new ≡ maxFacts narrow }
+    requires may_keep { MayKeep (program_in tables.now) row.now places.now kept.old k }
+    ensures keeps { Keeps (program_in tables.now) (steps_by (program_in tables.now) row.now) (has kept.old) (map (place_of places.now) (rule_of (program_in tables.now) (get_or row.now k 0)).premises) (has kept.new) }
+    ensures kept_len { length kept.new ≡ max_facts narrow }
 {
     let own = premise_span(tables, RuleId(row[k]));
     let end = own.end;
@@ -77,9 +77,9 @@ fn keep_premises(
 
 // Writes the rules of the kept steps of a row, in their order, to the front of another, and answers how many they are.
 fn retain(row: &[u16], kept: &[u8; MAX_FACTS], out: &mut [u16; MAX_FACTS]) -> usize
-    requires { (length row.now ≤ maxFacts narrow) × (length kept.now ≡ maxFacts narrow) × (length out.old ≡ maxFacts narrow) }
+    requires { (length row.now ≤ max_facts narrow) × (length kept.now ≡ max_facts narrow) × (length out.old ≡ max_facts narrow) }
     ensures out_after { take result out.new ≡ select (has kept.now) row.now }
-    ensures upper_bound { (result ≤ length row.now) × (length out.new ≡ maxFacts narrow) }
+    ensures upper_bound { (result ≤ length row.now) × (length out.new ≡ max_facts narrow) }
 {
     let mut n: usize = 0;
     let mut k: usize = 0;
@@ -101,12 +101,12 @@ pub fn keep_grounds(
     out: &mut [u16; MAX_FACTS],
 ) -> usize
     requires well_formed { WellFormed tables.now }
-    requires row_len_bound { (length row.now ≤ maxFacts narrow) × (length out.old ≡ maxFacts narrow) }
-    requires traced { Traced (programIn tables.now) (stepsBy (programIn tables.now) row.now) }
-    requires fact_value { facts_of (stepsBy (programIn tables.now) row.now) fact.0 ≡ true }
-    ensures out_after { stepsBy (programIn tables.now) (take result out.new) ≡ groundsOf (programIn tables.now) fact.0 (stepsBy (programIn tables.now) row.now) }
-    ensures upper_bound { (result ≤ length row.now) × (length out.new ≡ maxFacts narrow) }
-    ensures by_index { (k : ℕ) → k < result → get_or out.new k 0 < count_of (programIn tables.now) }
+    requires row_len_bound { (length row.now ≤ max_facts narrow) × (length out.old ≡ max_facts narrow) }
+    requires traced { Traced (program_in tables.now) (steps_by (program_in tables.now) row.now) }
+    requires fact_value { facts_of (steps_by (program_in tables.now) row.now) fact.0 ≡ true }
+    ensures out_after { steps_by (program_in tables.now) (take result out.new) ≡ grounds_of (program_in tables.now) fact.0 (steps_by (program_in tables.now) row.now) }
+    ensures upper_bound { (result ≤ length row.now) × (length out.new ≡ max_facts narrow) }
+    ensures by_index { (k : ℕ) → k < result → get_or out.new k 0 < count_of (program_in tables.now) }
 {
     let mut places = [0u16; MAX_FACTS];
     let mut kept = [0u8; MAX_FACTS];

@@ -9,21 +9,21 @@ use lib.Dec.{eqb}
 use lib.ListN.{length, set, length-set}
 use lib.Seq.{get_or-set_same, get_or-set_other}
 use Rattle.theory.proofs.Bools.{either}
-use Rattle.items.specs.Item.{narrow, maxFacts, has}
-use Rattle.lanes.specs.Lanes.{laneIn}
+use Rattle.items.specs.Item.{narrow, max_facts, has}
+use Rattle.lanes.specs.Lanes.{lane_in}
 
 -- The first facts are marked where the lane has them.
 pub record Marking (derived : List ℕ) (w t : ℕ) (found : List ℕ) (n : ℕ) : Type 0 where
-  pub places : length found ≡ maxFacts narrow
-  pub marked : (f : ℕ) → f < n → has found f ≡ laneIn derived w t f
+  pub places : length found ≡ max_facts narrow
+  pub marked : (f : ℕ) → f < n → has found f ≡ lane_in derived w t f
 
-pub none-marked : (derived : List ℕ) (w t : ℕ) (found : List ℕ) → length found ≡ maxFacts narrow → Marking derived w t found 0
-none-marked derived w t found e = record { places = e; marked = λ f h. absurd (omega arith) }
+pub none_marked : (derived : List ℕ) (w t : ℕ) (found : List ℕ) → length found ≡ max_facts narrow → Marking derived w t found 0
+none_marked derived w t found e = record { places = e; marked = λ f h. absurd (omega arith) }
 
 module _ {derived : List ℕ} {w t : ℕ} {found : List ℕ} {n : ℕ} (m : Marking derived w t found n) where
-  pub one-marked : n < maxFacts narrow → (v : ℕ) → eqb v 1 ≡ laneIn derived w t n → {after : List ℕ} → after ≡ set found n v → Marking derived w t after (n + 1)
+  pub one_marked : n < max_facts narrow → (v : ℕ) → eqb v 1 ≡ lane_in derived w t n → {after : List ℕ} → after ≡ set found n v → Marking derived w t after (n + 1)
   unfolding has
-  one-marked h v is e = rw e after-set
+  one_marked h v is e = rw e after-set
     where
       after-set : Marking derived w t (set found n v) (n + 1)
       after-set =
@@ -36,5 +36,5 @@ module _ {derived : List ℕ} {w t : ℕ} {found : List ℕ} {n : ℕ} (m : Mark
                 (either (eqb f n));
           }
 
-  pub all-marked : maxFacts narrow ≤ n → (f : ℕ) → f < maxFacts narrow → has found f ≡ laneIn derived w t f
+  pub all-marked : max_facts narrow ≤ n → (f : ℕ) → f < max_facts narrow → has found f ≡ lane_in derived w t f
   all-marked h f l = m.marked f (omega arith)

@@ -17,9 +17,9 @@ use Rattle.theory.specs.Rule.{all}
 use Rattle.theory.specs.Guesses.{bit, unlike}
 use Rattle.theory.proofs.Bools.{either, and-true}
 use Rattle.theory.proofs.NumberBits.{bit-and, bit-xor, bit-zero}
-use Rattle.bits.specs.Flags.{wordBits}
-use Rattle.bits.proofs.WordBits.{lowest_set, lower-clear}
-use Rattle.lanes.specs.Lanes.{everyLane, laneWords, word_of, laneIn}
+use Rattle.bits.specs.Flags.{word_bits}
+use Rattle.bits.proofs.WordBits.{lowest_set, lower_clear}
+use Rattle.lanes.specs.Lanes.{every_lane, lane_words, word_of, lane_in}
 use Rattle.lanes.specs.Fit.{agrees, FirstFit}
 use Rattle.lanes.specs.declared.fit.Lane.TheVariants.{At, Nothing}
 use Rattle.lanes.proofs.LanePatterns.{every-lane}
@@ -31,19 +31,19 @@ and_assoc false b c = refl
 -- The lanes that are left, and the facts to come, decide which lanes fit.
 pub record Fitting (row derived outs : List ℕ) (word fits n : ℕ) : Type 0 where
   pub inside : n ≤ length row
-  pub same : (t : ℕ) → t < wordBits → bit fits t && agrees (drop n row) derived outs word t ≡ agrees row derived outs word t
+  pub same : (t : ℕ) → t < word_bits → bit fits t && agrees (drop n row) derived outs word t ≡ agrees row derived outs word t
 
-pub every-fits : (row derived outs : List ℕ) (word : ℕ) → Fitting row derived outs word everyLane 0
-every-fits row derived outs word =
+pub every_fits : (row derived outs : List ℕ) (word : ℕ) → Fitting row derived outs word every_lane 0
+every_fits row derived outs word =
     record { inside = omega arith; same = λ t h. ap (λ (b : Bool). b && agrees row derived outs word t) (every-lane t h) }
 
 module _ {row derived outs : List ℕ} {word fits n : ℕ} (f : Fitting row derived outs word fits n) where
-  pub one-fits : n < length row → Fitting row derived outs word (bit_and fits (bit_xor (word_of derived (get_or row n 0) word) (word_of outs (get_or row n 0) word))) (n + 1)
-  one-fits h = record { inside = omega arith; same = λ t l. here t ∙ ahead t ∙ f.same t l }
+  pub one_fits : n < length row → Fitting row derived outs word (bit_and fits (bit_xor (word_of derived (get_or row n 0) word) (word_of outs (get_or row n 0) word))) (n + 1)
+  one_fits h = record { inside = omega arith; same = λ t l. here t ∙ ahead t ∙ f.same t l }
     where
       -- what the fact says of a lane
       own : ℕ → Bool
-      own t = unlike (laneIn derived word t (get_or row n 0)) (laneIn outs word t (get_or row n 0))
+      own t = unlike (lane_in derived word t (get_or row n 0)) (lane_in outs word t (get_or row n 0))
 
       left : ℕ
       left = bit_and fits (bit_xor (word_of derived (get_or row n 0) word) (word_of outs (get_or row n 0) word))
@@ -61,7 +61,7 @@ module _ {row derived outs : List ℕ} {word fits n : ℕ} (f : Fitting row deri
       ahead : (t : ℕ) → bit fits t && (own t && agrees (drop (suc n) row) derived outs word t) ≡ bit fits t && agrees (drop n row) derived outs word t
       ahead t = ap (λ (xs : List ℕ). bit fits t && agrees xs derived outs word t) (sym (drop-cons row n 0 h))
 
-  pub all_fit : length row ≤ n → (t : ℕ) → t < wordBits → bit fits t ≡ agrees row derived outs word t
+  pub all_fit : length row ≤ n → (t : ℕ) → t < word_bits → bit fits t ≡ agrees row derived outs word t
   all_fit h t l =
       sym (ap (λ (xs : List ℕ). bit fits t && agrees xs derived outs word t) (drop_of_length-le row h) ∙ and-true (bit fits t))
       ∙ f.same t l
@@ -72,15 +72,15 @@ not_at l e = let z : ◌≡◌ {A = ℕ} 0 1 = cc in absurd (omega arith)
 
 -- No lane of the first words fits.
 pub record Unfit (row derived outs : List ℕ) (w : ℕ) : Type 0 where
-  pub none : (v t : ℕ) → v < w → t < wordBits → agrees row derived outs v t ≡ false
+  pub none : (v t : ℕ) → v < w → t < word_bits → agrees row derived outs v t ≡ false
 
-pub none-unfit : (row derived outs : List ℕ) → Unfit row derived outs 0
-none-unfit row derived outs = record { none = λ v t h l. absurd (omega arith) }
+pub none_unfit : (row derived outs : List ℕ) → Unfit row derived outs 0
+none_unfit row derived outs = record { none = λ v t h l. absurd (omega arith) }
 
 module _ {row derived outs : List ℕ} {w : ℕ} (u : Unfit row derived outs w) where
-  module _ (fits : ℕ) (is : (t : ℕ) → t < wordBits → bit fits t ≡ agrees row derived outs w t) where
-    pub one-unfit : fits ≡ 0 → Unfit row derived outs (w + 1)
-    one-unfit e =
+  module _ (fits : ℕ) (is : (t : ℕ) → t < word_bits → bit fits t ≡ agrees row derived outs w t) where
+    pub one_unfit : fits ≡ 0 → Unfit row derived outs (w + 1)
+    one_unfit e =
         record {
           none = λ v t h l.
               ⊎_elim
@@ -89,34 +89,34 @@ module _ {row derived outs : List ℕ} {w : ℕ} (u : Unfit row derived outs w) 
               (either (eqb v w));
         }
 
-    pub first_found : w < laneWords → (b : ℕ) → b ≡ count_trailing_zeros wordBits fits → b < wordBits → FirstFit row derived outs (At (w * wordBits + b))
+    pub first_found : w < lane_words → (b : ℕ) → b ≡ count_trailing_zeros word_bits fits → b < word_bits → FirstFit row derived outs (At (w * word_bits + b))
     first_found h b lowest small =
         record {
-          inside = λ l e. let is : w * wordBits + b ≡ l = cc in omega arith;
-          fits = λ l e. let is : w * wordBits + b ≡ l = cc in rw (sym is, digits_div w small, digits_mod w small) here;
+          inside = λ l e. let is : w * word_bits + b ≡ l = cc in omega arith;
+          fits = λ l e. let is : w * word_bits + b ≡ l = cc in rw (sym is, digits_div w small, digits_mod w small) here;
           none_before = before;
-          none-fits = λ e. not_at (w * wordBits + b) (sym e);
+          none_fits = λ e. not_at (w * word_bits + b) (sym e);
         }
       where
         here : agrees row derived outs w b ≡ true
-        here = sym (is b small) ∙ ap (bit fits) lowest ∙ lowest_set wordBits fits (rw (← lowest) small)
+        here = sym (is b small) ∙ ap (bit fits) lowest ∙ lowest_set word_bits fits (rw (← lowest) small)
 
         lower : (t : ℕ) → t < b → agrees row derived outs w t ≡ false
-        lower t l = sym (is t (omega arith)) ∙ lower-clear wordBits fits t (rw (← lowest) l)
+        lower t l = sym (is t (omega arith)) ∙ lower_clear word_bits fits t (rw (← lowest) l)
 
-        before : (l : ℕ) → At (w * wordBits + b) ≡ At l → (v t : ℕ) → v < laneWords → t < wordBits → v * wordBits + t < l → agrees row derived outs v t ≡ false
+        before : (l : ℕ) → At (w * word_bits + b) ≡ At l → (v t : ℕ) → v < lane_words → t < word_bits → v * word_bits + t < l → agrees row derived outs v t ≡ false
         before l e v t hv ht lt =
-            let place : w * wordBits + b ≡ l = cc in
+            let place : w * word_bits + b ≡ l = cc in
             ⊎_elim
             (λ q. let same : v ≡ w = eqb-true v w q in rw same (lower t (omega arith)))
             (λ q. let ne : v ≡ w → ⊥ = eqb-false v w q in u.none v t (omega arith) ht)
             (either (eqb v w))
 
-  pub none_found : laneWords ≤ w → FirstFit row derived outs Nothing
+  pub none_found : lane_words ≤ w → FirstFit row derived outs Nothing
   none_found h =
       record {
         inside = λ l e. not_at l e;
         fits = λ l e. not_at l e;
         none_before = λ l e. not_at l e;
-        none-fits = λ e v t hv ht. u.none v t (omega arith) ht;
+        none_fits = λ e v t hv ht. u.none v t (omega arith) ht;
       }

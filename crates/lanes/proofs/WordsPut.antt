@@ -7,38 +7,38 @@ use native.Mathlib.Decide.{ℕ_discrete}
 use native.Mathlib.Omega.{arith}
 use lib.ListN.{length, get_or, set, length-set}
 use lib.Seq.{get_or-set_same, get_or-set_other}
-use Rattle.items.specs.Item.{narrow, maxFacts}
-use Rattle.lanes.specs.Lanes.{laneWords, laneCells, word_of, Beside, Put}
+use Rattle.items.specs.Item.{narrow, max_facts}
+use Rattle.lanes.specs.Lanes.{lane_words, lane_cells, word_of, Beside, Put}
 
 -- The words below one are given.
 pub record Putting (fact : ℕ) (own before after : List ℕ) (w : ℕ) : Type 0 where
   pub beside : Beside fact before after
-  pub given : length before ≡ laneCells → (v : ℕ) → v < w → word_of after fact v ≡ get_or own v 0
+  pub given : length before ≡ lane_cells → (v : ℕ) → v < w → word_of after fact v ≡ get_or own v 0
 
-pub none-put : (fact : ℕ) (own words : List ℕ) → Putting fact own words words 0
-none-put fact own words =
+pub none_put : (fact : ℕ) (own words : List ℕ) → Putting fact own words words 0
+none_put fact own words =
     record { beside = record { places = refl; others = λ f w l ne. refl }; given = λ e v l. absurd (omega arith) }
 
 module _ {fact : ℕ} {own before after : List ℕ} {w : ℕ} (p : Putting fact own before after w) where
   abbrev at : ℕ
-  at = fact * laneWords + w
+  at = fact * lane_words + w
 
   abbrev own-word : ℕ
   own-word = get_or own w 0
 
-  pub one-put : fact < maxFacts narrow → w < laneWords → Putting fact own before (set after at own-word) (w + 1)
-  one-put small l =
+  pub one_put : fact < max_facts narrow → w < lane_words → Putting fact own before (set after at own-word) (w + 1)
+  one_put small l =
       record {
         beside =
             record {
               places = length-set after at own-word ∙ p.beside.places;
-              others = λ f v m ne. get_or-set_other after at (f * laneWords + v) own-word 0 (λ e. ne (omega arith)) ∙ p.beside.others f v m ne;
+              others = λ f v m ne. get_or-set_other after at (f * lane_words + v) own-word 0 (λ e. ne (omega arith)) ∙ p.beside.others f v m ne;
             };
         given = λ e v m.
             by_cases (ℕ_discrete v w)
             (λ is. rw is (get_or-set_same after at own-word 0 (omega (arith, p.beside.places))))
-            (λ ne. get_or-set_other after at (fact * laneWords + v) own-word 0 (λ q. ne (omega arith)) ∙ p.given e v (omega arith));
+            (λ ne. get_or-set_other after at (fact * lane_words + v) own-word 0 (λ q. ne (omega arith)) ∙ p.given e v (omega arith));
       }
 
-  pub all-put : laneWords ≤ w → Put fact own before after
+  pub all-put : lane_words ≤ w → Put fact own before after
   all-put h = record { beside = p.beside; given = λ e v l. p.given e v (omega arith) }

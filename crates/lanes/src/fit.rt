@@ -2,9 +2,9 @@
 ghost use Rattle.std.specs.Prelude.{ℕ, ◌<◌, ◌/◌, ◌%◌, ◌≡◌, true, ltb, length};
 ghost use Rattle.theory.specs.Rule.{all};
 ghost use Rattle.theory.specs.Guesses.{bit};
-ghost use Rattle.items.specs.Item.{narrow, maxFacts, has};
-ghost use Rattle.bits.specs.Flags.{wordBits};
-ghost use Rattle.lanes.specs.Lanes.{laneWords, laneCount, laneIn};
+ghost use Rattle.items.specs.Item.{narrow, max_facts, has};
+ghost use Rattle.bits.specs.Flags.{word_bits};
+ghost use Rattle.lanes.specs.Lanes.{lane_words, lane_count, lane_in};
 ghost use Rattle.lanes.specs.Fit.{agrees, FirstFit};
 
 use crate::words::{EVERY_LANE, LANE_CELLS, LANE_WORDS};
@@ -21,8 +21,8 @@ pub enum Lane {
 
 // The lanes of one word in which each fact of the row is derived exactly where it is not held out.
 fn fit_word(row: &[u16], derived: &[u64; LANE_CELLS], outs: &[u64; LANE_CELLS], word: usize) -> u64
-    requires { (word < laneWords) × (all (λ k. ltb k (maxFacts narrow)) row.now ≡ true) }
-    ensures { (t : ℕ) → t < wordBits → bit result t ≡ agrees row.now derived.now outs.now word t }
+    requires { (word < lane_words) × (all (λ k. ltb k (max_facts narrow)) row.now ≡ true) }
+    ensures { (t : ℕ) → t < word_bits → bit result t ≡ agrees row.now derived.now outs.now word t }
 {
     let mut fits = EVERY_LANE;
     let mut n: usize = 0;
@@ -36,7 +36,7 @@ fn fit_word(row: &[u16], derived: &[u64; LANE_CELLS], outs: &[u64; LANE_CELLS], 
 
 // The first lane whose guess fits.
 pub fn first_fit(row: &[u16], derived: &[u64; LANE_CELLS], outs: &[u64; LANE_CELLS]) -> Lane
-    requires { all (λ k. ltb k (maxFacts narrow)) row.now ≡ true }
+    requires { all (λ k. ltb k (max_facts narrow)) row.now ≡ true }
     ensures { FirstFit row.now derived.now outs.now result }
 {
     let mut w: usize = 0;
@@ -52,7 +52,7 @@ pub fn first_fit(row: &[u16], derived: &[u64; LANE_CELLS], outs: &[u64; LANE_CEL
 
 // Is a lane set in a word?
 fn has_lane(word: u64, lane: usize) -> bool
-    requires { lane < wordBits }
+    requires { lane < word_bits }
     ensures { result ≡ bit word lane }
 {
     (word >> lane) % 2 == 1
@@ -60,9 +60,9 @@ fn has_lane(word: u64, lane: usize) -> bool
 
 // Marks the facts that a lane derives.
 pub fn mark_lane(derived: &[u64; LANE_CELLS], lane: usize, found: &mut [u8; MAX_FACTS])
-    requires { (lane < laneCount) × (length found.old ≡ maxFacts narrow) }
-    ensures found_len { length found.new ≡ maxFacts narrow }
-    ensures by_index { (f : ℕ) → f < maxFacts narrow → has found.new f ≡ laneIn derived.now (lane / wordBits) (lane % wordBits) f }
+    requires { (lane < lane_count) × (length found.old ≡ max_facts narrow) }
+    ensures found_len { length found.new ≡ max_facts narrow }
+    ensures by_index { (f : ℕ) → f < max_facts narrow → has found.new f ≡ lane_in derived.now (lane / word_bits) (lane % word_bits) f }
 {
     let word = lane / WORD_BITS;
     let bit = lane % WORD_BITS;

@@ -2,9 +2,9 @@
 ghost use Rattle.std.specs.Prelude.{ℕ, ◌+◌, ◌*◌, ◌<◌, ◌≤◌, ◌≡◌, true, ltb, length};
 ghost use Rattle.theory.specs.Rule.{all, NoRepeat};
 ghost use Rattle.theory.specs.Guesses.{bit};
-ghost use Rattle.items.specs.Item.{narrow, maxFacts, maxGuessed};
-ghost use Rattle.bits.specs.Flags.{wordBits};
-ghost use Rattle.lanes.specs.Lanes.{laneCells, blocks};
+ghost use Rattle.items.specs.Item.{narrow, max_facts, max_guessed};
+ghost use Rattle.bits.specs.Flags.{word_bits};
+ghost use Rattle.lanes.specs.Lanes.{lane_cells, blocks};
 ghost use Rattle.lanes.specs.Held.{BlockHeld, BaseHeld, FactHeld};
 
 use crate::words::{EVERY_LANE, LANE_CELLS, LANE_WORDS, put};
@@ -13,8 +13,8 @@ use items::item::MAX_FACTS;
 
 // The bit of a place in the 64 guesses of a word, the lanes of the word in their order: the guesses of word n begin at 64 n.
 fn guess_word(number: usize, place: usize) -> u64
-    requires { place < maxGuessed }
-    ensures { (t : ℕ) → t < wordBits → bit result t ≡ bit (number * wordBits + t) place }
+    requires { place < max_guessed }
+    ensures { (t : ℕ) → t < word_bits → bit result t ≡ bit (number * word_bits + t) place }
 {
     match place {
         0 => 0xAAAAAAAAAAAAAAAA,
@@ -35,7 +35,7 @@ fn guess_word(number: usize, place: usize) -> u64
 
 // Holds a fact out in the lanes whose guess lacks the bit of its place.
 fn hold_fact(outs: &mut [u64; LANE_CELLS], fact: usize, block: usize, place: usize)
-    requires { (fact < maxFacts narrow) × (place < maxGuessed) × (block < blocks) }
+    requires { (fact < max_facts narrow) × (place < max_guessed) × (block < blocks) }
     ensures { FactHeld fact block place outs.old outs.new }
 {
     let mut own = [0u64; LANE_WORDS];
@@ -50,7 +50,7 @@ fn hold_fact(outs: &mut [u64; LANE_CELLS], fact: usize, block: usize, place: usi
 
 // Holds out in each lane of a block the facts of the row that its guess leaves out.
 pub fn hold_block(row: &[u16], block: usize, outs: &mut [u64; LANE_CELLS])
-    requires { (length row.now ≤ maxGuessed) × (all (λ k. ltb k (maxFacts narrow)) row.now ≡ true) × NoRepeat row.now × (block < blocks) }
+    requires { (length row.now ≤ max_guessed) × (all (λ k. ltb k (max_facts narrow)) row.now ≡ true) × NoRepeat row.now × (block < blocks) }
     ensures { BlockHeld row.now block outs.old outs.new }
 {
     let mut place: usize = 0;
@@ -63,7 +63,7 @@ pub fn hold_block(row: &[u16], block: usize, outs: &mut [u64; LANE_CELLS])
 
 // Holds out in every lane the facts that are held out at the base, and no other.
 pub fn hold_base(base: &[u8; LITERALS], outs: &mut [u64; LANE_CELLS])
-    requires { length outs.old ≡ laneCells }
+    requires { length outs.old ≡ lane_cells }
     ensures { BaseHeld base.now outs.new }
 {
     let none = [0u64; LANE_WORDS];

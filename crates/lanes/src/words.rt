@@ -1,6 +1,6 @@
 // Eight words for each fact. Internal.
 ghost use Rattle.std.specs.Prelude.{◌<◌};
-ghost use Rattle.items.specs.Item.{narrow, maxFacts};
+ghost use Rattle.items.specs.Item.{narrow, max_facts};
 ghost use Rattle.lanes.specs.Lanes.{Put, Met, Joined};
 
 use bits::row::WORD_BITS;
@@ -19,7 +19,7 @@ pub const EVERY_LANE: u64 = 18446744073709551615;
 
 // Gives a fact its words.
 pub fn put(words: &mut [u64; LANE_CELLS], fact: usize, own: &[u64; LANE_WORDS])
-    requires { fact < maxFacts narrow }
+    requires { fact < max_facts narrow }
     ensures { Put fact own.now words.old words.new }
 {
     let from = fact * LANE_WORDS;
@@ -32,7 +32,7 @@ pub fn put(words: &mut [u64; LANE_CELLS], fact: usize, own: &[u64; LANE_WORDS])
 
 // Keeps the lanes that a fact has too.
 pub fn meet(words: &[u64; LANE_CELLS], fact: usize, body: &mut [u64; LANE_WORDS])
-    requires { fact < maxFacts narrow }
+    requires { fact < max_facts narrow }
     ensures { Met fact words.now body.old body.new }
 {
     let from = fact * LANE_WORDS;
@@ -45,7 +45,7 @@ pub fn meet(words: &[u64; LANE_CELLS], fact: usize, body: &mut [u64; LANE_WORDS]
 
 // Gives a fact the lanes of a body. Were some new?
 pub fn join(words: &mut [u64; LANE_CELLS], fact: usize, body: &[u64; LANE_WORDS]) -> bool
-    requires { fact < maxFacts narrow }
+    requires { fact < max_facts narrow }
     ensures { Joined fact body.now words.old words.new result }
 {
     let from = fact * LANE_WORDS;

@@ -1,10 +1,10 @@
 // Layered files: the order of a file's exception rules by the rank of their conclusions.
 ghost use Rattle.std.specs.Prelude.{◌≡◌, length};
-ghost use Rattle.tables.specs.Layout.{programIn, WellFormed};
-ghost use Rattle.reader.specs.Asked.{countsOf};
-ghost use Rattle.questions.specs.Questions.{layeredNo};
-ghost use Rattle.layers.specs.Outcome.{LayeredOutcome, layeredOutcome, LayeredMeans};
-ghost use Rattle.layers.specs.Tabled.{layeredOf};
+ghost use Rattle.tables.specs.Layout.{program_in, WellFormed};
+ghost use Rattle.reader.specs.Asked.{counts_of};
+ghost use Rattle.questions.specs.Questions.{layered_no};
+ghost use Rattle.layers.specs.Outcome.{LayeredOutcome, layered_outcome, LayeredMeans};
+ghost use Rattle.layers.specs.Tabled.{layered_of};
 
 pub mod answer;
 
@@ -18,8 +18,8 @@ use tables::layout::TABLE_CELLS;
 // Writes the exception rules of a file by the least rank of their conclusions, then by number, over the front of the order; those that are withheld come last,
 // ascending. Answers how many they are, or the first no.
 pub fn layered(file: &[u8], order: &mut [u8]) -> Layered
-    ensures fact { ◌≡◌ {A = LayeredOutcome} (record { answer = result; order = order.new }) (layeredOutcome file.now order.old) }
-    ensures layered_means { LayeredMeans file.now (layeredNo file.now (length order.old)) (record { answer = result; order = order.new }) }
+    ensures fact { ◌≡◌ {A = LayeredOutcome} (record { answer = result; order = order.new }) (layered_outcome file.now order.old) }
+    ensures layered_means { LayeredMeans file.now (layered_no file.now (length order.old)) (record { answer = result; order = order.new }) }
 {
     let mut tables = [0u16; TABLE_CELLS];
     match reader::scan::scan(file, &mut tables) {
@@ -30,8 +30,8 @@ pub fn layered(file: &[u8], order: &mut [u8]) -> Layered
 
 // The questions after the file's own, and then the order. Internal.
 fn layered_scanned(tables: &[u16; TABLE_CELLS], counts: FileCounts, order: &mut [u8]) -> Layered
-    requires { WellFormed tables.now × (counts ≡ countsOf (programIn tables.now)) }
-    ensures { ◌≡◌ {A = LayeredOutcome} (record { answer = result; order = order.new }) (layeredOf (programIn tables.now) order.old) }
+    requires { WellFormed tables.now × (counts ≡ counts_of (program_in tables.now)) }
+    ensures { ◌≡◌ {A = LayeredOutcome} (record { answer = result; order = order.new }) (layered_of (program_in tables.now) order.old) }
 {
     if order.len() < NAME_WIDTH * (counts.exceptions as usize) {
         return Layered::Refused(Refusal::OrderShort);

@@ -8,15 +8,15 @@ use native.Mathlib.Omega.{arith}
 use borrow.Author.Tests.{lt-ltb, le-ltb, ltb-true, eq-eqb, eqb-true, eqb-false}
 use lib.ListN.{length, set, replicate, length-set}
 use lib.Dec.{eqb, ltb}
-use Rattle.theory.specs.Rule.{mem, any, range, up_to, howMany, Program, inForce, null, count, rule, plain, exception, constraintFact, plainRules}
+use Rattle.theory.specs.Rule.{mem, any, range, up_to, how_many, Program, in_force, null, count, rule, plain, exception, constraint_fact, plain_rules}
 use Rattle.theory.proofs.Bools.{either, and-true, and-false, and_left, and_right, and_both, both_ways, false_of, or-none}
-use Rattle.theory.proofs.Lists.{range_all, range_cons, range-end, howMany-ext, mem-upTo}
+use Rattle.theory.proofs.Lists.{range_all, range_cons, range-end, how_many-ext, mem-up_to}
 use Rattle.theory.proofs.Withheld.{plain-rules}
-use Rattle.items.specs.Item.{maxRules, has}
-use Rattle.tables.specs.Layout.{span, programIn, Spanned, WellFormed}
-use Rattle.marking.specs.Marks.{paintAs, paint}
+use Rattle.items.specs.Item.{max_rules, has}
+use Rattle.tables.specs.Layout.{span, program_in, Spanned, WellFormed}
+use Rattle.marking.specs.Marks.{paint_as, paint}
 use Rattle.tables.proofs.ProgramHeld.{rules-below}
-use Rattle.marking.proofs.MarksPainted.{both-tests, no_test, same_test, one-mark, painted, has-paint, length-paint}
+use Rattle.marking.proofs.MarksPainted.{both_tests, no_test, same_test, one_mark, painted, has-paint, length-paint}
 use Rattle.tables.proofs.PartsSpanned.{span-cons, span-end}
 
 -- Marking the elements of a part: those to come from here give what all give from the start.
@@ -24,100 +24,100 @@ pub record MarkingOwn (elements : List ℕ) (row : ℕ → ℕ) (from end v : �
   pub reached : from ≤ j
   pub inside : j ≤ end
   pub places : length now ≡ length before
-  pub same : paintAs v (λ k. mem k elements) before ≡ paintAs v (λ k. mem k (span row j end)) now
+  pub same : paint_as v (λ k. mem k elements) before ≡ paint_as v (λ k. mem k (span row j end)) now
 
-pub none-marked : {facts : ℕ} {row : ℕ → ℕ} {elements : List ℕ} {from end : ℕ} (v : ℕ) (before : List ℕ) → Spanned facts row elements from end → MarkingOwn elements row from end v before before from
-none-marked v before s =
-    record { reached = omega arith; inside = s.low; places = refl; same = ap (λ (l : List ℕ). paintAs v (λ k. mem k l) before) s.is }
+pub none_marked : {facts : ℕ} {row : ℕ → ℕ} {elements : List ℕ} {from end : ℕ} (v : ℕ) (before : List ℕ) → Spanned facts row elements from end → MarkingOwn elements row from end v before before from
+none_marked v before s =
+    record { reached = omega arith; inside = s.low; places = refl; same = ap (λ (l : List ℕ). paint_as v (λ k. mem k l) before) s.is }
 
 module _ {elements : List ℕ} {row : ℕ → ℕ} {from end v : ℕ} {before now : List ℕ} {j : ℕ} (w : MarkingOwn elements row from end v before now j) where
-  all-marked : end ≤ j → now ≡ paintAs v (λ k. mem k elements) before
-  all-marked h = sym (w.same ∙ ap (λ (l : List ℕ). paintAs v (λ k. mem k l) now) (span-end row j end h) ∙ no_test v 0 now)
+  all-marked : end ≤ j → now ≡ paint_as v (λ k. mem k elements) before
+  all-marked h = sym (w.same ∙ ap (λ (l : List ℕ). paint_as v (λ k. mem k l) now) (span-end row j end h) ∙ no_test v 0 now)
 
-  pub own-marked : end ≤ j → (own : List ℕ) → own ≡ elements → now ≡ paintAs v (λ k. mem k own) before
+  pub own-marked : end ≤ j → (own : List ℕ) → own ≡ elements → now ≡ paint_as v (λ k. mem k own) before
   own-marked h own e = rw e (all-marked h)
 
-  pub one-marked : j < end → MarkingOwn elements row from end v before (set now (row j) v) (j + 1)
-  one-marked h =
+  pub one_marked : j < end → MarkingOwn elements row from end v before (set now (row j) v) (j + 1)
+  one_marked h =
       record {
         reached = omega (arith, w.reached);
         inside = omega arith;
         places = length-set now (row j) v ∙ w.places;
         same =
-            w.same ∙ ap (λ (l : List ℕ). paintAs v (λ k. mem k l) now) (span-cons row j end h)
-            ∙ both-tests v (λ k. eqb k (row j)) (λ k. mem k (span row (j + 1) end)) now
-            ∙ ap (paintAs v (λ k. mem k (span row (j + 1) end))) (sym (one-mark v now (row j)));
+            w.same ∙ ap (λ (l : List ℕ). paint_as v (λ k. mem k l) now) (span-cons row j end h)
+            ∙ both_tests v (λ k. eqb k (row j)) (λ k. mem k (span row (j + 1) end)) now
+            ∙ ap (paint_as v (λ k. mem k (span row (j + 1) end))) (sym (one_mark v now (row j)));
       }
 
 -- the constraints of the rules in force from rule i on
-abbrev constrainedFrom : Program → ℕ → ℕ → Bool
-constrainedFrom P i k = any (λ j. inForce P j && mem k (rule P j).constraints) (range i (count P - i))
+abbrev constrained_from : Program → ℕ → ℕ → Bool
+constrained_from P i k = any (λ j. in_force P j && mem k (rule P j).constraints) (range i (count P - i))
 
 -- Marking the constraints of rule after rule.
 pub record MarkingRules (P : Program) (before now : List ℕ) (i : ℕ) : Type 0 where
   pub inside : i ≤ count P
   pub places : length now ≡ length before
-  pub same : paint (constraintFact P (inForce P)) before ≡ paint (constrainedFrom P i) now
+  pub same : paint (constraint_fact P (in_force P)) before ≡ paint (constrained_from P i) now
 
-pub no-rule-marked : (P : Program) (before : List ℕ) → MarkingRules P before before 0
-unfolding constraintFact
-no-rule-marked P before =
+pub no-rule_marked : (P : Program) (before : List ℕ) → MarkingRules P before before 0
+unfolding constraint_fact
+no-rule_marked P before =
     record {
       inside = omega arith;
       places = refl;
-      same = same_test 1 _ _ before (λ k. ap (any (λ j. inForce P j && mem k (rule P j).constraints)) (range_all (count P)));
+      same = same_test 1 _ _ before (λ k. ap (any (λ j. in_force P j && mem k (rule P j).constraints)) (range_all (count P)));
     }
 
 module _ {P : Program} {before now : List ℕ} {i : ℕ} (w : MarkingRules P before now i) where
-  pub rules-marked : count P ≤ i → now ≡ paint (constraintFact P (inForce P)) before
-  rules-marked h =
-      sym (w.same ∙ same_test 1 _ (λ _. false) now (λ k. ap (any (λ j. inForce P j && mem k (rule P j).constraints)) (range-end (count P) i h)) ∙ no_test 1 0 now)
+  pub rules_marked : count P ≤ i → now ≡ paint (constraint_fact P (in_force P)) before
+  rules_marked h =
+      sym (w.same ∙ same_test 1 _ (λ _. false) now (λ k. ap (any (λ j. in_force P j && mem k (rule P j).constraints)) (range-end (count P) i h)) ∙ no_test 1 0 now)
 
   -- what rule i gives, where it is in force, and the rules behind it
-  rule-more : i < count P → (b : Bool) → inForce P i ≡ b → (k : ℕ) → constrainedFrom P i k ≡ (b && mem k (rule P i).constraints) || constrainedFrom P (i + 1) k
+  rule-more : i < count P → (b : Bool) → in_force P i ≡ b → (k : ℕ) → constrained_from P i k ≡ (b && mem k (rule P i).constraints) || constrained_from P (i + 1) k
   rule-more h b on k =
-      ap (any (λ j. inForce P j && mem k (rule P j).constraints)) (range_cons (count P) i h)
-      ∙ ap (λ (o : Bool). (o && mem k (rule P i).constraints) || constrainedFrom P (i + 1) k) on
+      ap (any (λ j. in_force P j && mem k (rule P j).constraints)) (range_cons (count P) i h)
+      ∙ ap (λ (o : Bool). (o && mem k (rule P i).constraints) || constrained_from P (i + 1) k) on
 
-  pub rule-marked : i < count P → inForce P i ≡ true → (next : List ℕ) → next ≡ paint (λ k. mem k (rule P i).constraints) now → MarkingRules P before next (i + 1)
+  pub rule-marked : i < count P → in_force P i ≡ true → (next : List ℕ) → next ≡ paint (λ k. mem k (rule P i).constraints) now → MarkingRules P before next (i + 1)
   rule-marked h on next e =
       record {
         inside = omega arith;
         places = ap length e ∙ length-paint 1 _ now ∙ w.places;
         same =
             w.same
-            ∙ same_test 1 _ (λ k. mem k (rule P i).constraints || constrainedFrom P (i + 1) k) now (rule-more h true on)
-            ∙ both-tests 1 (λ k. mem k (rule P i).constraints) (constrainedFrom P (i + 1)) now
-            ∙ ap (paint (constrainedFrom P (i + 1))) (sym e);
+            ∙ same_test 1 _ (λ k. mem k (rule P i).constraints || constrained_from P (i + 1) k) now (rule-more h true on)
+            ∙ both_tests 1 (λ k. mem k (rule P i).constraints) (constrained_from P (i + 1)) now
+            ∙ ap (paint (constrained_from P (i + 1))) (sym e);
       }
 
-  pub rule-passed : i < count P → inForce P i ≡ false → MarkingRules P before now (i + 1)
+  pub rule-passed : i < count P → in_force P i ≡ false → MarkingRules P before now (i + 1)
   rule-passed h off =
       record {
         inside = omega arith;
         places = w.places;
-        same = w.same ∙ same_test 1 _ (constrainedFrom P (i + 1)) now (rule-more h false off);
+        same = w.same ∙ same_test 1 _ (constrained_from P (i + 1)) now (rule-more h false off);
       }
 
 -- Of a table of zeros painted by a test as many facts are marked as pass it.
-pub painted-count : (places : ℕ) (p : ℕ → Bool) (n facts : ℕ) → n ≡ facts → facts ≤ places → (marks : List ℕ) → marks ≡ paint p (replicate places 0) → howMany (has marks) (up_to n) ≡ howMany p (up_to facts)
+pub painted_count : (places : ℕ) (p : ℕ → Bool) (n facts : ℕ) → n ≡ facts → facts ≤ places → (marks : List ℕ) → marks ≡ paint p (replicate places 0) → how_many (has marks) (up_to n) ≡ how_many p (up_to facts)
 unfolding has
-painted-count places p n facts s few marks e =
-    ap₂ (λ (l : List ℕ) (m : ℕ). howMany (has l) (up_to m)) e s
-    ∙ howMany-ext (has (paint p (replicate places 0))) p (up_to facts) (λ f m. painted places p f (omega (arith, mem-upTo facts f m)))
+painted_count places p n facts s few marks e =
+    ap₂ (λ (l : List ℕ) (m : ℕ). how_many (has l) (up_to m)) e s
+    ∙ how_many-ext (has (paint p (replicate places 0))) p (up_to facts) (λ f m. painted places p f (omega (arith, mem-up_to facts f m)))
 
 -- The first n rules are painted where they pass a test.
 pub record Painting (e : ℕ → Bool) (before now : List ℕ) (n : ℕ) : Type 0 where
   pub painted : now ≡ paint (λ i. ltb i n && e i) before
 
-pub none-painted : (e : ℕ → Bool) (before : List ℕ) → Painting e before before 0
-none-painted e before =
+pub none_painted : (e : ℕ → Bool) (before : List ℕ) → Painting e before before 0
+none_painted e before =
     record { painted = sym (same_test 1 _ (λ _. false) before (λ i. ap (λ (b : Bool). b && e i) (le-ltb i 0 (omega arith))) ∙ no_test 1 0 before) }
 
 module _ (e : ℕ → Bool) (before now : List ℕ) (n : ℕ) (w : Painting e before now n) where
   -- one place more
-  place-more : (i : ℕ) → (ltb i n && e i) || (eqb i n && e n) ≡ ltb i (n + 1) && e i
-  place-more i = ⊎_elim same other (either (eqb i n))
+  place_more : (i : ℕ) → (ltb i n && e i) || (eqb i n && e n) ≡ ltb i (n + 1) && e i
+  place_more i = ⊎_elim same other (either (eqb i n))
     where
       same : eqb i n ≡ true → (ltb i n && e i) || (eqb i n && e n) ≡ ltb i (n + 1) && e i
       same t =
@@ -136,12 +136,12 @@ module _ (e : ℕ → Bool) (before now : List ℕ) (n : ℕ) (w : Painting e be
   grown : (b : Bool) → e n ≡ b → paint (λ i. eqb i n && b) now ≡ paint (λ i. ltb i (n + 1) && e i) before
   grown b q =
       ap (paint (λ i. eqb i n && b)) w.painted
-      ∙ sym (both-tests 1 (λ i. ltb i n && e i) (λ i. eqb i n && b) before)
-      ∙ same_test 1 _ _ before (λ i. ap (λ (x : Bool). (ltb i n && e i) || (eqb i n && x)) (sym q) ∙ place-more i)
+      ∙ sym (both_tests 1 (λ i. ltb i n && e i) (λ i. eqb i n && b) before)
+      ∙ same_test 1 _ _ before (λ i. ap (λ (x : Bool). (ltb i n && e i) || (eqb i n && x)) (sym q) ∙ place_more i)
 
-  pub one-painted : e n ≡ true → Painting e before (set now n 1) (n + 1)
-  one-painted q =
-      record { painted = one-mark 1 now n ∙ same_test 1 _ (λ i. eqb i n && true) now (λ i. sym (and-true (eqb i n))) ∙ grown true q }
+  pub one_painted : e n ≡ true → Painting e before (set now n 1) (n + 1)
+  one_painted q =
+      record { painted = one_mark 1 now n ∙ same_test 1 _ (λ i. eqb i n && true) now (λ i. sym (and-true (eqb i n))) ∙ grown true q }
 
   pub not-painted : e n ≡ false → Painting e before now (n + 1)
   not-painted q =
@@ -153,7 +153,7 @@ module _ (e : ℕ → Bool) (before now : List ℕ) (n : ℕ) (w : Painting e be
       ∙ same_test 1 _ e before (λ i. both_ways _ _ (λ t. and_right (ltb i n) _ t) (λ t. and_both (lt-ltb i n (below i t)) t))
 
 -- A rule of the program is plain where it is no exception rule.
-pub plain_at : (P : Program) (i : ℕ) → i < count P → plainRules P (inForce P) i ≡ not (exception P i)
+pub plain_at : (P : Program) (i : ℕ) → i < count P → plain_rules P (in_force P) i ≡ not (exception P i)
 unfolding plain exception
 plain_at P i h = plain-rules P i ∙ rw (lt-ltb i (count P) h) (twice (null (rule P i).constraints))
   where
@@ -161,15 +161,15 @@ plain_at P i h = plain-rules P i ∙ rw (lt-ltb i (count P) h) (twice (null (rul
     twice true = refl
     twice false = refl
 
-pub plain_known : (P : Program) (i : ℕ) → plainRules P (inForce P) i ≡ true → i < count P
+pub plain_known : (P : Program) (i : ℕ) → plain_rules P (in_force P) i ≡ true → i < count P
 unfolding plain
 plain_known P i t = ltb-true i (count P) (and_left (ltb i (count P)) _ (sym (plain-rules P i) ∙ t))
 
 -- The marks of the plain rules show them.
-pub plain-mask : {T : List ℕ} → WellFormed T → has (paint (plainRules (programIn T) (inForce (programIn T))) (replicate maxRules 0)) ≡ plainRules (programIn T) (inForce (programIn T))
+pub plain-mask : {T : List ℕ} → WellFormed T → has (paint (plain_rules (program_in T) (in_force (program_in T))) (replicate max_rules 0)) ≡ plain_rules (program_in T) (in_force (program_in T))
 plain-mask {T} w =
-    has-paint maxRules (plainRules (programIn T) (inForce (programIn T)))
-    (λ i h. false_of (plainRules (programIn T) (inForce (programIn T)) i) (λ t. beyond h (plain_known (programIn T) i t) (rules-below w)))
+    has-paint max_rules (plain_rules (program_in T) (in_force (program_in T)))
+    (λ i h. false_of (plain_rules (program_in T) (in_force (program_in T)) i) (λ t. beyond h (plain_known (program_in T) i t) (rules-below w)))
   where
-    beyond : {i n : ℕ} → maxRules ≤ i → i < n → n ≤ maxRules → ⊥
+    beyond : {i n : ℕ} → max_rules ≤ i → i < n → n ≤ max_rules → ⊥
     beyond a b c = omega arith

@@ -6,16 +6,16 @@ abbrev pub barred : ℕ
 barred = 2
 
 -- the facts with that mark
-unfoldable pub barredIn : List ℕ → ℕ → Bool
-barredIn marks f = eqb (get_or marks f 0) barred
+unfoldable pub barred_in : List ℕ → ℕ → Bool
+barred_in marks f = eqb (get_or marks f 0) barred
 
 -- marks with the mark v at each place that passes the test; i is the number of the first place
-abbrev pub paintFrom : ℕ → ℕ → (ℕ → Bool) → List ℕ → List ℕ
-paintFrom v i p [] = []
-paintFrom v i p (x ∷ xs) = cond (p i) v x ∷ paintFrom v (suc i) p xs
+abbrev pub paint_from : ℕ → ℕ → (ℕ → Bool) → List ℕ → List ℕ
+paint_from v i p [] = []
+paint_from v i p (x ∷ xs) = cond (p i) v x ∷ paint_from v (suc i) p xs
 
-abbrev pub paintAs : ℕ → (ℕ → Bool) → List ℕ → List ℕ
-paintAs v p marks = paintFrom v 0 p marks
+abbrev pub paint_as : ℕ → (ℕ → Bool) → List ℕ → List ℕ
+paint_as v p marks = paint_from v 0 p marks
 
 abbrev pub paint : (ℕ → Bool) → List ℕ → List ℕ
-paint p marks = paintAs 1 p marks
+paint p marks = paint_as 1 p marks

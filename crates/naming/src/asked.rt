@@ -1,8 +1,8 @@
 // The questions before a run that stand behind those of the file. Internal.
 ghost use Rattle.std.specs.Prelude.{◌≡◌};
-ghost use Rattle.tables.specs.Layout.{programIn, WellFormed};
+ghost use Rattle.tables.specs.Layout.{program_in, WellFormed};
 ghost use Rattle.questions.specs.Answer.{answer_of};
-ghost use Rattle.questions.specs.Parts.{tabledNo};
+ghost use Rattle.questions.specs.Parts.{tabled_no};
 
 use questions::answer::Answer;
 use tables::layout::TABLE_CELLS;
@@ -16,7 +16,7 @@ pub fn ask_tabled(
     steps: usize,
 ) -> Answer
     requires { WellFormed tables.now }
-    ensures { result ≡ answer_of (tabledNo (programIn tables.now) order.now facts rules steps) }
+    ensures { result ≡ answer_of (tabled_no (program_in tables.now) order.now facts rules steps) }
 {
     match crate::order::ask_order_of(tables, order) {
         Answer::No(r) => Answer::No(r),

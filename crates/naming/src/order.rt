@@ -1,11 +1,11 @@
 // The questions on orders and on lists of rules.
 ghost use Rattle.std.specs.Prelude.{ℕ, ◌≡◌, List, replicate};
 ghost use Rattle.theory.specs.Rule.{count, exception};
-ghost use Rattle.items.specs.Question.{firstNo};
-ghost use Rattle.items.specs.Item.{maxRules};
-ghost use Rattle.tables.specs.Layout.{programIn, WellFormed};
-ghost use Rattle.questions.specs.Questions.{orderNo, askListQuestions, askOrderQuestions};
-ghost use Rattle.questions.specs.Parts.{listNo};
+ghost use Rattle.items.specs.Question.{first_no};
+ghost use Rattle.items.specs.Item.{max_rules};
+ghost use Rattle.tables.specs.Layout.{program_in, WellFormed};
+ghost use Rattle.questions.specs.Questions.{order_no, ask_list_questions, ask_order_questions};
+ghost use Rattle.questions.specs.Parts.{list_no};
 ghost use Rattle.questions.specs.Answer.{answer_of, AnswerNumbers};
 ghost use Rattle.questions.specs.Named.{Listed};
 
@@ -18,8 +18,8 @@ use tables::layout::TABLE_CELLS;
 // Questions 11 to 13; the rules that the list names are marked in a table that is empty before. Internal.
 pub fn ask_listed(tables: &[u16; TABLE_CELLS], list: &[u8], listed: &mut [u8; MAX_RULES]) -> Answer
     requires well_formed { WellFormed tables.now }
-    requires fact { ◌≡◌ {A = List ℕ} listed.old (replicate maxRules 0) }
-    ensures value { result ≡ answer_of (listNo (exception (programIn tables.now)) list.now) }
+    requires fact { ◌≡◌ {A = List ℕ} listed.old (replicate max_rules 0) }
+    ensures value { result ≡ answer_of (list_no (exception (program_in tables.now)) list.now) }
     ensures listed { Listed list.now listed.new result }
 {
     if !crate::names::whole_names(list) {
@@ -31,7 +31,7 @@ pub fn ask_listed(tables: &[u16; TABLE_CELLS], list: &[u8], listed: &mut [u8; MA
 // Questions 11 to 13. Internal.
 pub fn ask_list_of(tables: &[u16; TABLE_CELLS], list: &[u8]) -> Answer
     requires { WellFormed tables.now }
-    ensures { result ≡ answer_of (listNo (exception (programIn tables.now)) list.now) }
+    ensures { result ≡ answer_of (list_no (exception (program_in tables.now)) list.now) }
 {
     let mut named = [0u8; MAX_RULES];
     ask_listed(tables, list, &mut named)
@@ -40,7 +40,7 @@ pub fn ask_list_of(tables: &[u16; TABLE_CELLS], list: &[u8]) -> Answer
 // Questions 11 to 14. Internal.
 pub fn ask_order_of(tables: &[u16; TABLE_CELLS], order: &[u8]) -> Answer
     requires { WellFormed tables.now }
-    ensures { result ≡ answer_of (orderNo (exception (programIn tables.now)) (count (programIn tables.now)) order.now) }
+    ensures { result ≡ answer_of (order_no (exception (program_in tables.now)) (count (program_in tables.now)) order.now) }
 {
     let mut named = [0u8; MAX_RULES];
     let answer = ask_listed(tables, order, &mut named);
@@ -56,8 +56,8 @@ pub fn ask_order_of(tables: &[u16; TABLE_CELLS], order: &[u8]) -> Answer
 
 // The questions of the file, then 11 to 13 of the list.
 pub fn ask_list(file: &[u8], list: &[u8]) -> Answer
-    ensures value { result ≡ answer_of (firstNo (askListQuestions file.now list.now)) }
-    ensures answer_numbers { AnswerNumbers (askListQuestions file.now list.now) result }
+    ensures value { result ≡ answer_of (first_no (ask_list_questions file.now list.now)) }
+    ensures answer_numbers { AnswerNumbers (ask_list_questions file.now list.now) result }
 {
     let mut tables = [0u16; TABLE_CELLS];
     match reader::scan::scan(file, &mut tables) {
@@ -68,8 +68,8 @@ pub fn ask_list(file: &[u8], list: &[u8]) -> Answer
 
 // The questions of the file, then 11 to 14 of the order.
 pub fn ask_order(file: &[u8], order: &[u8]) -> Answer
-    ensures value { result ≡ answer_of (firstNo (askOrderQuestions file.now order.now)) }
-    ensures answer_numbers { AnswerNumbers (askOrderQuestions file.now order.now) result }
+    ensures value { result ≡ answer_of (first_no (ask_order_questions file.now order.now)) }
+    ensures answer_numbers { AnswerNumbers (ask_order_questions file.now order.now) result }
 {
     let mut tables = [0u16; TABLE_CELLS];
     match reader::scan::scan(file, &mut tables) {

@@ -1,8 +1,8 @@
 // Orders and lists that are written. Internal.
 ghost use Rattle.std.specs.Prelude.{◌≤◌};
-ghost use Rattle.items.specs.Item.{maxRules};
+ghost use Rattle.items.specs.Item.{max_rules};
 ghost use Rattle.questions.specs.Questions.{naming};
-ghost use Rattle.theory.specs.Places.{placesMarked};
+ghost use Rattle.theory.specs.Places.{places_marked};
 ghost use Rattle.questions.specs.Put.{Fits, Put};
 
 use items::item::{MAX_RULES, RuleId};
@@ -16,9 +16,9 @@ pub fn write_names(
     out: &mut [u8],
     from: usize,
 ) -> usize
-    requires count_le_max_rules { count ≤ maxRules }
-    requires fits { Fits (naming (placesMarked mark marks.now count)) from out.old }
-    ensures { Put (naming (placesMarked mark marks.now count)) from out.old result out.new }
+    requires count_le_max_rules { count ≤ max_rules }
+    requires fits { Fits (naming (places_marked mark marks.now count)) from out.old }
+    ensures { Put (naming (places_marked mark marks.now count)) from out.old result out.new }
 {
     let mut at = from;
     let mut i: usize = 0;

@@ -7,14 +7,14 @@ use lib.Arith.{mod-mul}
 use lib.Bits.{bit_and, bit_xor, and_block, and_zero_r, xor_lt}
 use lib.Count.{count_trailing_zeros, under}
 use lib.Pow.{mod-mod-pow, pow-add, pow-lt, pow_pos, shl_exact, shr_le, shr_lt, shr_mono, split}
-use Rattle.items.specs.Item.{maxGuessed}
+use Rattle.items.specs.Item.{max_guessed}
 use Rattle.nogoods.specs.Nogoods.{guesses}
 
 -- The zeros at the low end of a number are clear, and so is any part of them.
-pub zeros-clear : (k m : ℕ) → m % 2 ^ count_trailing_zeros k m ≡ 0
+pub zeros_clear : (k m : ℕ) → m % 2 ^ count_trailing_zeros k m ≡ 0
 unfolding count_trailing_zeros
-zeros-clear zero m = mod-one m
-zeros-clear (suc k) m = go (m % 2) refl (zeros-clear k (m / 2))
+zeros_clear zero m = mod-one m
+zeros_clear (suc k) m = go (m % 2) refl (zeros_clear k (m / 2))
   where
     go : (d : ℕ) → m % 2 ≡ d → m / 2 % 2 ^ count_trailing_zeros k (m / 2) ≡ 0 → m % 2 ^ under d (count_trailing_zeros k (m / 2)) ≡ 0
     go zero e low =
@@ -40,11 +40,11 @@ masked_same : (b x y m : ℕ) → x / 2 ^ b ≡ y / 2 ^ b → m % 2 ^ b ≡ 0 �
 masked_same b x y m same e = masked b x m e ∙ ap (λ (n : ℕ). bit_and n (m / 2 ^ b) * 2 ^ b) same ∙ sym (masked b y m e)
 
 -- A place as a number, as the code makes it.
-place-fits : (b : ℕ) → b ≤ maxGuessed → 1 * 2 ^ b % 4294967296 ≡ 2 ^ b
-place-fits b h = shl_exact {a = 1} 1 b 32 (omega arith) (omega arith) ∙ one-mul (2 ^ b)
+place_fits : (b : ℕ) → b ≤ max_guessed → 1 * 2 ^ b % 4294967296 ≡ 2 ^ b
+place_fits b h = shl_exact {a = 1} 1 b 32 (omega arith) (omega arith) ∙ one-mul (2 ^ b)
 
-pub turned-small : (guess place : ℕ) → guess < guesses → place < maxGuessed → bit_xor guess (1 * 2 ^ place % 4294967296) < guesses
-turned-small guess place g p = xor_lt maxGuessed guess _ g (subst (λ (n : ℕ). n < guesses) (sym (place-fits place (omega arith))) (pow-lt p))
+pub turned_small : (guess place : ℕ) → guess < guesses → place < max_guessed → bit_xor guess (1 * 2 ^ place % 4294967296) < guesses
+turned_small guess place g p = xor_lt max_guessed guess _ g (subst (λ (n : ℕ). n < guesses) (sym (place_fits place (omega arith))) (pow-lt p))
 
 -- The block of a guess, by its size: it ends above the guess and not above all guesses, and from the guess on all in it have the guess's value under the mask.
 pub record Block (guess mask size : ℕ) : Type 0 where
@@ -54,19 +54,19 @@ pub record Block (guess mask size : ℕ) : Type 0 where
   pub ends : (guess / size + 1) * size ≤ guesses
   pub same : (x : ℕ) → guess ≤ x → x < (guess / size + 1) * size → bit_and x mask ≡ bit_and guess mask
 
-module _ (guess mask b : ℕ) (small : guess < guesses) (few : b ≤ maxGuessed) (clear : mask % 2 ^ b ≡ 0) where
+module _ (guess mask b : ℕ) (small : guess < guesses) (few : b ≤ max_guessed) (clear : mask % 2 ^ b ≡ 0) where
   -- The blocks part the guesses evenly.
-  block-ends : (guess / 2 ^ b + 1) * 2 ^ b ≤ guesses
-  block-ends = subst (λ (n : ℕ). (guess / 2 ^ b + 1) * 2 ^ b ≤ n) whole (mul-le-mul_right (2 ^ b) below)
+  block_ends : (guess / 2 ^ b + 1) * 2 ^ b ≤ guesses
+  block_ends = subst (λ (n : ℕ). (guess / 2 ^ b + 1) * 2 ^ b ≤ n) whole (mul-le-mul_right (2 ^ b) below)
     where
-      rest : maxGuessed - b + b ≡ maxGuessed
+      rest : max_guessed - b + b ≡ max_guessed
       rest = omega arith
 
-      whole : 2 ^ (maxGuessed - b) * 2 ^ b ≡ guesses
-      whole = sym (pow-add 2 (maxGuessed - b) b) ∙ ap (λ (n : ℕ). 2 ^ n) rest
+      whole : 2 ^ (max_guessed - b) * 2 ^ b ≡ guesses
+      whole = sym (pow-add 2 (max_guessed - b) b) ∙ ap (λ (n : ℕ). 2 ^ n) rest
 
-      below : guess / 2 ^ b + 1 ≤ 2 ^ (maxGuessed - b)
-      below = let l : guess / 2 ^ b < 2 ^ (maxGuessed - b) = shr_lt (maxGuessed - b) b (subst (λ (n : ℕ). guess < 2 ^ n) (sym rest) small) in omega arith
+      below : guess / 2 ^ b + 1 ≤ 2 ^ (max_guessed - b)
+      below = let l : guess / 2 ^ b < 2 ^ (max_guessed - b) = shr_lt (max_guessed - b) b (subst (λ (n : ℕ). guess < 2 ^ n) (sym rest) small) in omega arith
 
   together : (x : ℕ) → guess ≤ x → x < (guess / 2 ^ b + 1) * 2 ^ b → x / 2 ^ b ≡ guess / 2 ^ b
   together x l u =
@@ -76,11 +76,11 @@ module _ (guess mask b : ℕ) (small : guess < guesses) (few : b ≤ maxGuessed)
 
   pub block_of : Block guess mask (1 * 2 ^ b % 4294967296)
   block_of =
-      subst (λ (n : ℕ). Block guess mask n) (sym (place-fits b few))
+      subst (λ (n : ℕ). Block guess mask n) (sym (place_fits b few))
       record {
         some = pow_pos b;
         number = shr_le guess b;
         above = (div-lt_iff_lt-mul (pow_pos b)).0 (omega arith);
-        ends = block-ends;
+        ends = block_ends;
         same = λ x l u. masked_same b x guess mask (together x l u) clear;
       }

@@ -7,8 +7,8 @@ abbrev pub guesses : ℕ
 guesses = 65536
 
 -- how many nogoods are kept at most
-abbrev pub mostKept : ℕ
-mostKept = 80
+abbrev pub most_kept : ℕ
+most_kept = 80
 
 -- no guess from a up to b passes the test
 abbrev pub Passed : (ℕ → Bool) → ℕ → ℕ → Type 0

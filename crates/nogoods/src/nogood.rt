@@ -1,8 +1,8 @@
 // Nogoods, and the guesses that they leave. Internal.
 ghost use Rattle.std.specs.Prelude.{ℕ, ◌<◌, ◌≤◌, ◌%◌, ◌^◌, ◌≡◌, Bool};
 ghost use Rattle.std.specs.Int.Bits.{bit_and};
-ghost use Rattle.items.specs.Item.{maxGuessed};
-ghost use Rattle.nogoods.specs.Nogoods.{guesses, mostKept, Passed, Stored};
+ghost use Rattle.items.specs.Item.{max_guessed};
+ghost use Rattle.nogoods.specs.Nogoods.{guesses, most_kept, Passed, Stored};
 
 use crate::guess::MAX_GUESSED;
 
@@ -12,7 +12,7 @@ pub const MOST_KEPT: usize = 80;
 
 // How many of the lowest places a mask leaves free, as far as there are places.
 fn free_places(mask: u32) -> usize
-    ensures { (result ≤ maxGuessed) × (mask % 2 ^ result ≡ 0) }
+    ensures { (result ≤ max_guessed) × (mask % 2 ^ result ≡ 0) }
 {
     let places = u32::trailing_zeros(mask) as usize;
     if places < MAX_GUESSED {
@@ -39,7 +39,7 @@ pub fn next_open(
     from: u32,
     end: u32,
 ) -> u32
-    requires { (kept ≤ mostKept) × (from ≤ guesses) × (end ≤ guesses) }
+    requires { (kept ≤ most_kept) × (from ≤ guesses) × (end ≤ guesses) }
     ensures lower_bound { (from ≤ result) × (result ≤ guesses) }
     ensures by_index { (pass : ℕ → Bool) → Stored pass masks.now values.now kept → Passed pass from result }
 {

@@ -1,12 +1,12 @@
 // The order for a set, written into a buffer.
 ghost use Rattle.std.specs.Prelude.{◌*◌, ◌≤◌, ◌≡◌, length};
-ghost use Rattle.theory.specs.Rule.{inForce};
-ghost use Rattle.theory.specs.Stable.{orderFor};
-ghost use Rattle.items.specs.Item.{nameWidth, has};
+ghost use Rattle.theory.specs.Rule.{in_force};
+ghost use Rattle.theory.specs.Stable.{order_for};
+ghost use Rattle.items.specs.Item.{name_width, has};
 ghost use Rattle.items.specs.Write.{over};
 ghost use Rattle.reader.specs.Questions.{exceptions};
 ghost use Rattle.questions.specs.Questions.{naming};
-ghost use Rattle.tables.specs.Layout.{programIn, WellFormed};
+ghost use Rattle.tables.specs.Layout.{program_in, WellFormed};
 
 use crate::by_key::write_by_key;
 use crate::groups::{GROUPS, groups_of};
@@ -17,8 +17,8 @@ use tables::layout::{TABLE_CELLS, rules_of};
 // length.
 pub fn write_order(tables: &[u16; TABLE_CELLS], set: &[u8; MAX_FACTS], order: &mut [u8]) -> usize
     requires well_formed { WellFormed tables.now }
-    requires tables_in_bounds { nameWidth * exceptions (programIn tables.now) ≤ length order.old }
-    ensures { (order.new ≡ over (naming (orderFor (programIn tables.now) (inForce (programIn tables.now)) (has set.now))) order.old) × (result ≡ length (naming (orderFor (programIn tables.now) (inForce (programIn tables.now)) (has set.now)))) }
+    requires tables_in_bounds { name_width * exceptions (program_in tables.now) ≤ length order.old }
+    ensures { (order.new ≡ over (naming (order_for (program_in tables.now) (in_force (program_in tables.now)) (has set.now))) order.old) × (result ≡ length (naming (order_for (program_in tables.now) (in_force (program_in tables.now)) (has set.now)))) }
 {
     let groups = groups_of(tables, set);
     write_by_key(&groups, rules_of(tables), GROUPS, order)

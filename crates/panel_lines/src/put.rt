@@ -1,7 +1,7 @@
 // Writes bytes, numbers and lines behind one another into a buffer. Internal: the caller has seen that they fit. Each answers the place
 // behind what it wrote.
 ghost use Rattle.std.specs.Prelude.{[], ◌∷◌};
-ghost use Rattle.panel_lines.specs.Text.{decimal, spaced, field, line, headLine, stepLine, lastLine};
+ghost use Rattle.panel_lines.specs.Text.{decimal, spaced, field, line, head_line, step_line, last_line};
 ghost use Rattle.questions.specs.Questions.{step_of};
 ghost use Rattle.questions.specs.Put.{Fits, Put};
 
@@ -58,8 +58,8 @@ pub fn put_line(out: &mut [u8], at: usize, letter: u8, n: u16) -> usize
 
 // The line of the counts.
 pub fn put_head(out: &mut [u8], at: usize, facts: u16, rules: u16, stages: u16) -> usize
-    requires { Fits (headLine facts rules stages) at out.old }
-    ensures { Put (headLine facts rules stages) at out.old result out.new }
+    requires { Fits (head_line facts rules stages) at out.old }
+    ensures { Put (head_line facts rules stages) at out.old result out.new }
 {
     let end = put_field(out, at, b'F', facts);
     let next = put(out, end, b' ');
@@ -70,8 +70,8 @@ pub fn put_head(out: &mut [u8], at: usize, facts: u16, rules: u16, stages: u16) 
 
 // The line of a step.
 pub fn put_step(out: &mut [u8], at: usize, fact: FactId, rule: RuleId) -> usize
-    requires { Fits (stepLine (step_of fact rule)) at out.old }
-    ensures { Put (stepLine (step_of fact rule)) at out.old result out.new }
+    requires { Fits (step_line (step_of fact rule)) at out.old }
+    ensures { Put (step_line (step_of fact rule)) at out.old result out.new }
 {
     let next = put_field(out, at, b'D', fact.0);
     let end = put_spaced(out, next, rule.0);
@@ -80,8 +80,8 @@ pub fn put_step(out: &mut [u8], at: usize, fact: FactId, rule: RuleId) -> usize
 
 // The last line.
 pub fn put_last(out: &mut [u8], at: usize, none_aside: bool) -> usize
-    requires { Fits (lastLine none_aside) at out.old }
-    ensures { Put (lastLine none_aside) at out.old result out.new }
+    requires { Fits (last_line none_aside) at out.old }
+    ensures { Put (last_line none_aside) at out.old result out.new }
 {
     let letter = if none_aside { b'Y' } else { b'N' };
     let end = put(out, at, letter);

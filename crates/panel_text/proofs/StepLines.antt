@@ -10,37 +10,37 @@ use Rattle.items.specs.declared.item.Item.TheVariants.{Step}
 use Rattle.cursors.specs.declared.cursor.Cursor.{Cursor}
 use Rattle.cursors.specs.declared.cursor.Read.TheVariants.{Found, Refused, Ended}
 use Rattle.cursors.specs.Cursor.{next_at}
-use Rattle.questions.proofs.Rows.{stepsFrom, NotStep, no-step-left, steps-ended, other_item, step-read}
+use Rattle.questions.proofs.Rows.{steps_from, NotStep, no-step_left, steps-ended, other_item, step-read}
 use Rattle.questions.specs.Questions.{each, step_of, row_of}
-use Rattle.panel_lines.specs.Text.{stepLine}
+use Rattle.panel_lines.specs.Text.{step_line}
 use Rattle.questions.specs.Put.{Fits, Put}
-use Rattle.questions.proofs.BytesPut.{Putting, ended, nothing_put, next_fits, one-put}
+use Rattle.questions.proofs.BytesPut.{Putting, ended, nothing_put, next_fits, one_put}
 
 -- the lines of the steps from a cursor on
-abbrev toCome : List ℕ → Cursor → List ℕ
-toCome row c = each stepLine (stepsFrom row c)
+abbrev to_come : List ℕ → Cursor → List ℕ
+to_come row c = each step_line (steps_from row c)
 
 -- The steps before the cursor are written.
 abbrev pub Stepping : List ℕ → ℕ → List ℕ → Cursor → ℕ → List ℕ → Type 0
-Stepping row from before c at now = Putting (each stepLine (row_of row)) from before (toCome row c) at now
+Stepping row from before c at now = Putting (each step_line (row_of row)) from before (to_come row c) at now
 
 module _ (row : List ℕ) (from : ℕ) (before : List ℕ) (c : Cursor) (at : ℕ) (now : List ℕ) (w : Stepping row from before c at now) (d : Cursor) where
-  pub refused-put : (r : Refusal) → next_at row c ≡ Refused r d → Put (each stepLine (row_of row)) from before at now
-  refused-put r e = ended w (ap (each stepLine) (no-step-left row c d r e))
+  pub refused-put : (r : Refusal) → next_at row c ≡ Refused r d → Put (each step_line (row_of row)) from before at now
+  refused-put r e = ended w (ap (each step_line) (no-step_left row c d r e))
 
-  pub ended-put : next_at row c ≡ Ended d → Put (each stepLine (row_of row)) from before at now
-  ended-put e = ended w (ap (each stepLine) (steps-ended row c d e))
+  pub ended-put : next_at row c ≡ Ended d → Put (each step_line (row_of row)) from before at now
+  ended-put e = ended w (ap (each step_line) (steps-ended row c d e))
 
   module _ (i : Item) (e : next_at row c ≡ Found i d) where
-    pub other-passed : NotStep i → Stepping row from before d at now
-    other-passed k = nothing_put w (toCome row d) (ap (each stepLine) (other_item row c d i e k))
+    pub other_passed : NotStep i → Stepping row from before d at now
+    other_passed k = nothing_put w (to_come row d) (ap (each step_line) (other_item row c d i e k))
 
     module _ (f : FactId) (r : RuleId) (q : i ≡ Step f r) where
-      split : toCome row c ≡ stepLine (step_of f r) ++ toCome row d
-      split = ap (each stepLine) (step-read row c d i e f r q)
+      split : to_come row c ≡ step_line (step_of f r) ++ to_come row d
+      split = ap (each step_line) (step-read row c d i e f r q)
 
-      pub step_fits : Fits (stepLine (step_of f r)) at now
-      step_fits = next_fits w (stepLine (step_of f r)) (toCome row d) split
+      pub step_fits : Fits (step_line (step_of f r)) at now
+      step_fits = next_fits w (step_line (step_of f r)) (to_come row d) split
 
-      pub step-put : (next : ℕ) (after : List ℕ) → Put (stepLine (step_of f r)) at now next after → Stepping row from before d next after
-      step-put next after p = one-put w (stepLine (step_of f r)) (toCome row d) split next after p
+      pub step-put : (next : ℕ) (after : List ℕ) → Put (step_line (step_of f r)) at now next after → Stepping row from before d next after
+      step-put next after p = one_put w (step_line (step_of f r)) (to_come row d) split next after p

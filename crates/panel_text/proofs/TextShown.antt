@@ -29,12 +29,12 @@ module _ (text before : List ℕ) where
   pub too_long : length before < length text → before ≡ shown text before
   too_long h = chosen false (lt-leb (length text) (length before) h)
 
-  pub none-copied : length text ≤ length before → Copying text before before 0
-  none-copied h = record { inside = omega arith; fits = h; kept = refl; copied = paste-zero before 0 text }
+  pub none_copied : length text ≤ length before → Copying text before before 0
+  none_copied h = record { inside = omega arith; fits = h; kept = refl; copied = paste-zero before 0 text }
 
   module _ (now : List ℕ) (i : ℕ) (w : Copying text before now i) where
-    pub one-copied : i < length text → Copying text before (set now i (get_or text i 0)) (i + 1)
-    one-copied h =
+    pub one_copied : i < length text → Copying text before (set now i (get_or text i 0)) (i + 1)
+    one_copied h =
         record {
           inside = omega arith;
           fits = w.fits;
@@ -58,4 +58,4 @@ module _ (text before : List ℕ) where
 pub front-text : (text room after : List ℕ) (n : ℕ) → Put text 0 room n after → take n after ≡ text
 front-text text room after n p =
     let end : n ≡ length text = p.behind ∙ zero-add (length text) in
-    rw (end, p.bytes-put) (take-append_seam text (drop (0 + length text) room))
+    rw (end, p.bytes_put) (take-append_seam text (drop (0 + length text) room))

@@ -1,10 +1,10 @@
 // The lines of a run, by the marks and the steps that it leaves. Internal.
 ghost use Rattle.std.specs.Prelude.{◌≤◌, length};
-ghost use Rattle.items.specs.Item.{maxRules};
+ghost use Rattle.items.specs.Item.{max_rules};
 ghost use Rattle.questions.specs.Questions.{each, row_of};
-ghost use Rattle.theory.specs.Places.{placesMarked};
-ghost use Rattle.panel_lines.specs.Text.{line, stepLine};
-ghost use Rattle.panel_text.specs.Left.{leftText, Tables};
+ghost use Rattle.theory.specs.Places.{places_marked};
+ghost use Rattle.panel_lines.specs.Text.{line, step_line};
+ghost use Rattle.panel_text.specs.Left.{left_text, Tables};
 ghost use Rattle.questions.specs.Put.{Fits, Put};
 
 use cursors::cursor::{Cursor, Read, Row};
@@ -18,8 +18,8 @@ const SET_ASIDE: u8 = 2;
 
 // A line for each step of a row.
 pub fn put_steps(out: &mut [u8], from: usize, row: &[u8]) -> usize
-    requires { Fits (each stepLine (row_of row.now)) from out.old }
-    ensures { Put (each stepLine (row_of row.now)) from out.old result out.new }
+    requires { Fits (each step_line (row_of row.now)) from out.old }
+    ensures { Put (each step_line (row_of row.now)) from out.old result out.new }
 {
     let mut at = from;
     let mut cursor = Cursor {
@@ -53,9 +53,9 @@ fn put_marked(
     count: usize,
     mark: u8,
 ) -> usize
-    requires count_in_bounds { (count ≤ length marks.now) × (count ≤ maxRules) }
-    requires fits { Fits (each (line letter) (placesMarked mark marks.now count)) from out.old }
-    ensures { Put (each (line letter) (placesMarked mark marks.now count)) from out.old result out.new }
+    requires count_in_bounds { (count ≤ length marks.now) × (count ≤ max_rules) }
+    requires fits { Fits (each (line letter) (places_marked mark marks.now count)) from out.old }
+    ensures { Put (each (line letter) (places_marked mark marks.now count)) from out.old result out.new }
 {
     let mut at = from;
     let mut i: usize = 0;
@@ -79,8 +79,8 @@ pub fn put_left(
     row: &[u8],
 ) -> usize
     requires tables { Tables facts rules fact_marks.now rule_marks.now }
-    requires fits { Fits (leftText facts rules stages fact_marks.now rule_marks.now row.now) 0 out.old }
-    ensures { Put (leftText facts rules stages fact_marks.now rule_marks.now row.now) 0 out.old result out.new }
+    requires fits { Fits (left_text facts rules stages fact_marks.now rule_marks.now row.now) 0 out.old }
+    ensures { Put (left_text facts rules stages fact_marks.now rule_marks.now row.now) 0 out.old result out.new }
 {
     let at = put_head(out, 0, facts, rules, stages);
     let at = put_steps(out, at, row);

@@ -1,12 +1,12 @@
 // The text for a file, into a buffer that is large enough. Internal.
 ghost use Rattle.std.specs.Prelude.{◌≤◌, ◌≡◌, length};
-ghost use Rattle.theory.specs.Rule.{inForce};
+ghost use Rattle.theory.specs.Rule.{in_force};
 ghost use Rattle.theory.specs.Run.{run as run_of};
 ghost use Rattle.items.specs.Item.{narrow};
 ghost use Rattle.reader.specs.Questions.{program_of};
 ghost use Rattle.reader.specs.Accepted.{Accepted};
 ghost use Rattle.reader.specs.Scanned.{Tabled};
-ghost use Rattle.panel_lines.specs.Text.{ascending, runText, panelText, shown, textRoom};
+ghost use Rattle.panel_lines.specs.Text.{ascending, run_text, panel_text, shown, text_room};
 ghost use Rattle.questions.specs.Put.{Put};
 
 use items::item::{MAX_FACTS, MAX_RULES};
@@ -42,8 +42,8 @@ pub const TEXT_ROOM: usize = MOST_HEAD
 // run refuses nothing.
 fn put_run(file: &[u8], tables: &[u16; TABLE_CELLS], counts: FileCounts, out: &mut [u8]) -> usize
     requires accepted { Accepted file.now counts × Tabled file.now tables.now }
-    requires narrow_in_bounds { textRoom narrow ≤ length out.old }
-    ensures { Put (runText (program_of file.now) (run_of (program_of file.now) (inForce (program_of file.now)) (ascending (program_of file.now)))) 0 out.old result out.new }
+    requires narrow_in_bounds { text_room narrow ≤ length out.old }
+    ensures { Put (run_text (program_of file.now) (run_of (program_of file.now) (in_force (program_of file.now)) (ascending (program_of file.now)))) 0 out.old result out.new }
 {
     let mut order = [0u8; MAX_RULES * NAME_WIDTH];
     let named = crate::order::put_order(tables, &mut order);
@@ -78,9 +78,9 @@ fn put_run(file: &[u8], tables: &[u16; TABLE_CELLS], counts: FileCounts, out: &m
 
 // The text for a file. Answers its length.
 pub fn put_text(file: &[u8], out: &mut [u8]) -> usize
-    requires { textRoom narrow ≤ length out.old }
-    ensures put { Put (panelText file.now) 0 out.old result out.new }
-    ensures upper_bound { result ≤ textRoom narrow }
+    requires { text_room narrow ≤ length out.old }
+    ensures put { Put (panel_text file.now) 0 out.old result out.new }
+    ensures upper_bound { result ≤ text_room narrow }
 {
     let mut tables = [0u16; TABLE_CELLS];
     match reader::scan::scan(file, &mut tables) {

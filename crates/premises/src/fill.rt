@@ -1,10 +1,10 @@
 // Rules are indexed by their premises. Internal.
 ghost use Rattle.std.specs.Prelude.{ℕ, ◌+◌, ◌<◌, ◌≤◌, ◌≡◌, Bool, true, false, length, take};
-ghost use Rattle.theory.specs.Rule.{nothing, count, rule as ruleOf};
-ghost use Rattle.items.specs.Item.{maxRules};
+ghost use Rattle.theory.specs.Rule.{nothing, count, rule as rule_of};
+ghost use Rattle.items.specs.Item.{max_rules};
 ghost use Rattle.bits.specs.Flags.{Flags};
-ghost use Rattle.bits.specs.Matrix.{matrixWords, Matrix, SameFrom};
-ghost use Rattle.tables.specs.Layout.{maxOwn, programIn, WellFormed};
+ghost use Rattle.bits.specs.Matrix.{matrix_words, Matrix, SameFrom};
+ghost use Rattle.tables.specs.Layout.{max_own, program_in, WellFormed};
 ghost use Rattle.premises.specs.Premises.{Places, in_row, Asked, Counted, ripe};
 ghost use Rattle.premises.specs.Filling.{Listed, Blank, Entered, Indexing};
 
@@ -21,10 +21,10 @@ pub fn index_rule(
     place: usize,
     asks: &mut [u64],
 ) -> usize
-    requires { WellFormed tables.now × (rule.0 < count (programIn tables.now)) × (place < maxRules) × (matrixWords ≤ length asks.old) }
-    ensures upper_bound { result ≤ maxOwn }
-    ensures by_index { (keys bound : ℕ) (q : ℕ → ℕ → Bool) → (programIn tables.now).facts ≤ bound → bound ≤ keys → Matrix keys q asks.old → ((f : ℕ) → q f place ≡ false) → Entered keys bound q place (ruleOf (programIn tables.now) rule.0).premises asks.new result }
-    ensures same_from { SameFrom matrixWords asks.old asks.new }
+    requires { WellFormed tables.now × (rule.0 < count (program_in tables.now)) × (place < max_rules) × (matrix_words ≤ length asks.old) }
+    ensures upper_bound { result ≤ max_own }
+    ensures by_index { (keys bound : ℕ) (q : ℕ → ℕ → Bool) → (program_in tables.now).facts ≤ bound → bound ≤ keys → Matrix keys q asks.old → ((f : ℕ) → q f place ≡ false) → Entered keys bound q place (rule_of (program_in tables.now) rule.0).premises asks.new result }
+    ensures same_from { SameFrom matrix_words asks.old asks.new }
 {
     let own = premise_span(tables, rule);
     let end = own.end;
@@ -55,9 +55,9 @@ pub fn index_next(
     missing: &mut [u16; MAX_RULES],
     awake: &mut [u64; ROW_WORDS],
 )
-    requires { WellFormed tables.now × (rule.0 < count (programIn tables.now)) × (place < maxRules) × (matrixWords ≤ length asks.old) }
-    ensures indexing { (R : Places) → R.taken place ≡ true → R.holder place ≡ rule.0 → Indexing (programIn tables.now) R place asks.old missing.old awake.old → Indexing (programIn tables.now) R (place + 1) asks.new missing.new awake.new }
-    ensures same_from { SameFrom matrixWords asks.old asks.new }
+    requires { WellFormed tables.now × (rule.0 < count (program_in tables.now)) × (place < max_rules) × (matrix_words ≤ length asks.old) }
+    ensures indexing { (R : Places) → R.taken place ≡ true → R.holder place ≡ rule.0 → Indexing (program_in tables.now) R place asks.old missing.old awake.old → Indexing (program_in tables.now) R (place + 1) asks.new missing.new awake.new }
+    ensures same_from { SameFrom matrix_words asks.old asks.new }
 {
     let distinct = index_rule(tables, rule, place, asks);
     missing[place] = distinct as u16;
@@ -75,10 +75,10 @@ pub fn index_row(
     missing: &mut [u16; MAX_RULES],
     awake: &mut [u64; ROW_WORDS],
 )
-    requires { WellFormed tables.now × Listed (programIn tables.now) row.now names × Blank asks.old missing.old awake.old }
-    ensures asked { Asked (programIn tables.now) (in_row (take names row.now)) asks.new }
-    ensures counted { Counted (programIn tables.now) (in_row (take names row.now)) nothing missing.new }
-    ensures flags { Flags (ripe (programIn tables.now) (in_row (take names row.now)) nothing) awake.new }
+    requires { WellFormed tables.now × Listed (program_in tables.now) row.now names × Blank asks.old missing.old awake.old }
+    ensures asked { Asked (program_in tables.now) (in_row (take names row.now)) asks.new }
+    ensures counted { Counted (program_in tables.now) (in_row (take names row.now)) nothing missing.new }
+    ensures flags { Flags (ripe (program_in tables.now) (in_row (take names row.now)) nothing) awake.new }
 {
     let mut place: usize = 0;
     while place < names {

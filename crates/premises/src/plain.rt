@@ -1,11 +1,11 @@
 // The plain rules by premise, with the rules in force. Internal.
 ghost use Rattle.std.specs.Prelude.{◌*◌, ◌<◌, ◌≡◌, length};
 ghost use Rattle.theory.specs.Rule.{nothing};
-ghost use Rattle.items.specs.Item.{maxRules, has};
-ghost use Rattle.bits.specs.Flags.{wordBits, rowWords, word as word_of, Flags};
-ghost use Rattle.bits.specs.Matrix.{matrixWords, SameFrom};
-ghost use Rattle.tables.specs.Layout.{programIn, WellFormed};
-ghost use Rattle.premises.specs.Premises.{plainOnes, Asked, Counted, ripe};
+ghost use Rattle.items.specs.Item.{max_rules, has};
+ghost use Rattle.bits.specs.Flags.{word_bits, row_words, word as word_of, Flags};
+ghost use Rattle.bits.specs.Matrix.{matrix_words, SameFrom};
+ghost use Rattle.tables.specs.Layout.{program_in, WellFormed};
+ghost use Rattle.premises.specs.Premises.{plain_ones, Asked, Counted, ripe};
 ghost use Rattle.premises.specs.Filling.{Blank};
 ghost use Rattle.premises.specs.Plain.{PlainIndexed, Zeroed, MaskPut, RowsAre, Masks, OnlyPlain};
 
@@ -22,8 +22,8 @@ pub const PLAIN_WORDS: usize = MATRIX_WORDS + ROW_WORDS;
 
 // The rules of a mask whose bits stand in one word.
 fn mask_word(mask: &[u8; MAX_RULES], at: usize) -> u64
-    requires { at < rowWords }
-    ensures { result ≡ word_of (has mask.now) (at * wordBits) wordBits }
+    requires { at < row_words }
+    ensures { result ≡ word_of (has mask.now) (at * word_bits) word_bits }
 {
     let mut word: u64 = 0;
     let mut bit: usize = 0;
@@ -38,7 +38,7 @@ fn mask_word(mask: &[u8; MAX_RULES], at: usize) -> u64
 
 // Puts the rules of a mask behind the rows, whose words are all 0.
 fn put_mask(tables: &[u16; TABLE_CELLS], mask: &[u8; MAX_RULES], index: &mut [u64; PLAIN_WORDS])
-    requires { WellFormed tables.now × OnlyPlain (programIn tables.now) mask.now × Zeroed index.old }
+    requires { WellFormed tables.now × OnlyPlain (program_in tables.now) mask.now × Zeroed index.old }
     ensures { MaskPut mask.now index.new }
 {
     let rules = rules_of(tables);
@@ -57,11 +57,11 @@ fn fill_plain(
     ready: &mut [u64; ROW_WORDS],
 )
     requires { WellFormed tables.now × Blank index.old missing.old ready.old }
-    ensures rows_are { RowsAre (programIn tables.now) index.new }
-    ensures asked { Asked (programIn tables.now) (plainOnes (programIn tables.now)) index.new }
-    ensures counted { Counted (programIn tables.now) (plainOnes (programIn tables.now)) nothing missing.new }
-    ensures flags { Flags (ripe (programIn tables.now) (plainOnes (programIn tables.now)) nothing) ready.new }
-    ensures same_from { SameFrom matrixWords index.old index.new }
+    ensures rows_are { RowsAre (program_in tables.now) index.new }
+    ensures asked { Asked (program_in tables.now) (plain_ones (program_in tables.now)) index.new }
+    ensures counted { Counted (program_in tables.now) (plain_ones (program_in tables.now)) nothing missing.new }
+    ensures flags { Flags (ripe (program_in tables.now) (plain_ones (program_in tables.now)) nothing) ready.new }
+    ensures same_from { SameFrom matrix_words index.old index.new }
 {
     let rules = rules_of(tables);
     let mut i: usize = 0;
@@ -85,13 +85,13 @@ pub fn index_plain(
     missing: &mut [u16; MAX_RULES],
     ready: &mut [u64; ROW_WORDS],
 )
-    requires well_formed { WellFormed tables.now × OnlyPlain (programIn tables.now) mask.now }
-    requires zeroed { Zeroed index.old × (length missing.old ≡ maxRules) × Flags nothing ready.old }
-    ensures rows_are { RowsAre (programIn tables.now) index.new }
-    ensures plain_indexed { PlainIndexed (programIn tables.now) index.new }
+    requires well_formed { WellFormed tables.now × OnlyPlain (program_in tables.now) mask.now }
+    requires zeroed { Zeroed index.old × (length missing.old ≡ max_rules) × Flags nothing ready.old }
+    ensures rows_are { RowsAre (program_in tables.now) index.new }
+    ensures plain_indexed { PlainIndexed (program_in tables.now) index.new }
     ensures masks { Masks mask.now index.new }
-    ensures counted { Counted (programIn tables.now) (plainOnes (programIn tables.now)) nothing missing.new }
-    ensures flags { Flags (ripe (programIn tables.now) (plainOnes (programIn tables.now)) nothing) ready.new }
+    ensures counted { Counted (program_in tables.now) (plain_ones (program_in tables.now)) nothing missing.new }
+    ensures flags { Flags (ripe (program_in tables.now) (plain_ones (program_in tables.now)) nothing) ready.new }
 {
     put_mask(tables, mask, index);
     fill_plain(tables, index, missing, ready);

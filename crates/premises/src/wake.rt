@@ -4,10 +4,10 @@ ghost use Rattle.std.proofs.Math.Seq.{slice};
 ghost use Rattle.theory.specs.Rule.{nothing, FactSet};
 ghost use Rattle.theory.specs.Walk.{after};
 ghost use Rattle.theory.specs.Derive.{conclude, Fresh};
-ghost use Rattle.items.specs.Item.{maxRules, has};
-ghost use Rattle.bits.specs.Flags.{wordBits, rowWords, word as word_of, Flags};
-ghost use Rattle.bits.specs.Matrix.{matrixWords, Matrix};
-ghost use Rattle.tables.specs.Layout.{programIn, WellFormed};
+ghost use Rattle.items.specs.Item.{max_rules, has};
+ghost use Rattle.bits.specs.Flags.{word_bits, row_words, word as word_of, Flags};
+ghost use Rattle.bits.specs.Matrix.{matrix_words, Matrix};
+ghost use Rattle.tables.specs.Layout.{program_in, WellFormed};
 ghost use Rattle.premises.specs.Premises.{Places, Asked, Counted, ripe, roused};
 ghost use Rattle.premises.specs.Waking.{Lowered, in_word, Span};
 
@@ -31,8 +31,8 @@ fn one_less(count: u16) -> u16
 
 // Takes each rule out of a word of a row and lowers its count by one; those that reach 0 wake.
 fn lower(word: u64, at: usize, missing: &mut [u16; MAX_RULES], awake: &mut [u64; ROW_WORDS])
-    requires { at < rowWords }
-    ensures { (p w : ℕ → Bool) → word ≡ word_of p (at * wordBits) wordBits → Flags w awake.old → length missing.old ≡ maxRules → Lowered (in_word at p) w missing.old missing.new awake.new }
+    requires { at < row_words }
+    ensures { (p w : ℕ → Bool) → word ≡ word_of p (at * word_bits) word_bits → Flags w awake.old → length missing.old ≡ max_rules → Lowered (in_word at p) w missing.old missing.new awake.new }
 {
     let mut left = word;
     while left != 0 {
@@ -53,8 +53,8 @@ pub fn enter(
     missing: &mut [u16; MAX_RULES],
     awake: &mut [u64; ROW_WORDS],
 )
-    requires { fact * rowWords + rowWords ≤ length asks.now }
-    ensures { (keys : ℕ) (q : ℕ → ℕ → Bool) (w : ℕ → Bool) → fact < keys → Matrix keys q asks.now → Flags w awake.old → length missing.old ≡ maxRules → Lowered (q fact) w missing.old missing.new awake.new }
+    requires { fact * row_words + row_words ≤ length asks.now }
+    ensures { (keys : ℕ) (q : ℕ → ℕ → Bool) (w : ℕ → Bool) → fact < keys → Matrix keys q asks.now → Flags w awake.old → length missing.old ≡ max_rules → Lowered (q fact) w missing.old missing.new awake.new }
 {
     let from = fact * ROW_WORDS;
     let mut at: usize = 0;
@@ -74,8 +74,8 @@ pub fn wake(
     missing: &mut [u16; MAX_RULES],
     awake: &mut [u64; ROW_WORDS],
 )
-    requires { WellFormed tables.now × Span (programIn tables.now) fired.now from to }
-    ensures { (R : Places) (S : FactSet) (p : ℕ → Bool) → Asked (programIn tables.now) R asks.now → Counted (programIn tables.now) R S missing.old → Flags p awake.old → Fresh (programIn tables.now) S (slice from to fired.now) → Counted (programIn tables.now) R (after (conclude (programIn tables.now)) S (slice from to fired.now)) missing.new × Flags (roused (programIn tables.now) R S (after (conclude (programIn tables.now)) S (slice from to fired.now)) p) awake.new }
+    requires { WellFormed tables.now × Span (program_in tables.now) fired.now from to }
+    ensures { (R : Places) (S : FactSet) (p : ℕ → Bool) → Asked (program_in tables.now) R asks.now → Counted (program_in tables.now) R S missing.old → Flags p awake.old → Fresh (program_in tables.now) S (slice from to fired.now) → Counted (program_in tables.now) R (after (conclude (program_in tables.now)) S (slice from to fired.now)) missing.new × Flags (roused (program_in tables.now) R S (after (conclude (program_in tables.now)) S (slice from to fired.now)) p) awake.new }
 {
     let mut at = from;
     while at < to {
@@ -95,8 +95,8 @@ pub fn enter_set(
     missing: &mut [u16; MAX_RULES],
     awake: &mut [u64; ROW_WORDS],
 )
-    requires { WellFormed tables.now × (matrixWords ≤ length asks.now) }
-    ensures { (R : Places) → Asked (programIn tables.now) R asks.now → Counted (programIn tables.now) R nothing missing.old → Flags (ripe (programIn tables.now) R nothing) awake.old → Counted (programIn tables.now) R (has set.now) missing.new × Flags (ripe (programIn tables.now) R (has set.now)) awake.new }
+    requires { WellFormed tables.now × (matrix_words ≤ length asks.now) }
+    ensures { (R : Places) → Asked (program_in tables.now) R asks.now → Counted (program_in tables.now) R nothing missing.old → Flags (ripe (program_in tables.now) R nothing) awake.old → Counted (program_in tables.now) R (has set.now) missing.new × Flags (ripe (program_in tables.now) R (has set.now)) awake.new }
 {
     let facts = facts_of(tables);
     let mut f: usize = 0;

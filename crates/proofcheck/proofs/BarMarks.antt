@@ -8,15 +8,15 @@ use lib.ListN.{length, get_or, set, replicate, length-replicate}
 use lib.Seq.{get_or-set_same, get_or-set_other}
 use lib.Dec.{eqb}
 use Rattle.theory.specs.Rule.{adjoin}
-use Rattle.items.specs.Item.{narrow, maxFacts, has}
+use Rattle.items.specs.Item.{narrow, max_facts, has}
 use Rattle.marking.proofs.MarksPainted.{unmarked}
-use Rattle.marking.specs.Marks.{barred, barredIn}
+use Rattle.marking.specs.Marks.{barred, barred_in}
 use Rattle.proofcheck.specs.Steps.{Unmarked}
 
 module _ (l : List ℕ) (n : ℕ) (h : n < length l) where
-  pub bar-set : barredIn (set l n barred) ≡ adjoin (barredIn l) n
-  unfolding barredIn
-  bar-set = fun_ext (λ i. go i (eqb i n) refl)
+  pub bar_set : barred_in (set l n barred) ≡ adjoin (barred_in l) n
+  unfolding barred_in
+  bar_set = fun_ext (λ i. go i (eqb i n) refl)
     where
       go : (i : ℕ) (b : Bool) → eqb i n ≡ b → eqb (get_or (set l n barred) i 0) barred ≡ eqb i n || eqb (get_or l i 0) barred
       go i true e = let same : i ≡ n = eqb-true i n e in rw (e, same, get_or-set_same l n barred 0 h)
@@ -27,16 +27,16 @@ module _ (l : List ℕ) (n : ℕ) (h : n < length l) where
   kept k j d q i true e = let same : i ≡ n = eqb-true i n e in rw (same, get_or-set_same l n k 0 h, d, q)
   kept k j d q i false e = rw (get_or-set_other l n i k 0 (eqb-false i n e))
 
-  pub bar-keeps-facts : has l n ≡ false → has (set l n barred) ≡ has l
+  pub bar_keeps_facts : has l n ≡ false → has (set l n barred) ≡ has l
   unfolding has
-  bar-keeps-facts q = fun_ext (λ i. kept barred 1 refl q i (eqb i n) refl)
+  bar_keeps_facts q = fun_ext (λ i. kept barred 1 refl q i (eqb i n) refl)
 
 -- Zeros are no marks.
-pub unmarked-zeros : Unmarked (replicate (maxFacts narrow) 0)
-unfolding barredIn
-unmarked-zeros = record { size = length-replicate {A = ℕ} (maxFacts narrow) 0; no-fact = unmarked (maxFacts narrow); none-barred = fun_ext (λ i. no-bar (maxFacts narrow) i) }
+pub unmarked_zeros : Unmarked (replicate (max_facts narrow) 0)
+unfolding barred_in
+unmarked_zeros = record { size = length-replicate {A = ℕ} (max_facts narrow) 0; no_fact = unmarked (max_facts narrow); none_barred = fun_ext (λ i. no-bar (max_facts narrow) i) }
   where
-    no-bar : (m i : ℕ) → barredIn (replicate m 0) i ≡ false
+    no-bar : (m i : ℕ) → barred_in (replicate m 0) i ≡ false
     no-bar zero i = refl
     no-bar (suc m) zero = refl
     no-bar (suc m) (suc i) = no-bar m i

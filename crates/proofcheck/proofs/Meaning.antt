@@ -5,15 +5,15 @@ use mathlib.Core.Bool.{Bool, true, false, cond}
 use mathlib.Core.List.{List}
 use mathlib.Core.Option.{Option, none, some}
 use native.Mathlib.Omega.{arith}
-use Rattle.theory.specs.Rule.{inForce}
-use Rattle.theory.specs.Check.{isProof}
+use Rattle.theory.specs.Rule.{in_force}
+use Rattle.theory.specs.Check.{is_proof}
 use Rattle.theory.proofs.Bools.{never}
-use Rattle.theory.proofs.Check.{test-of-proof}
+use Rattle.theory.proofs.Check.{test_of_proof}
 use Rattle.items.specs.declared.refusal.Refusal.{Refusal}
-use Rattle.items.specs.Question.{noNumber}
+use Rattle.items.specs.Question.{no_number}
 use Rattle.reader.specs.Questions.{program_of}
 use Rattle.items.specs.Item.{has}
-use Rattle.questions.specs.Questions.{row_of, checkNo}
+use Rattle.questions.specs.Questions.{row_of, check_no}
 use Rattle.proofcheck.specs.declared.answer.Checked.{Checked}
 use Rattle.proofcheck.specs.declared.answer.Checked.TheVariants.{Yes, No, Refused}
 use Rattle.proofcheck.specs.Checked.{checked, CheckMeans}
@@ -21,19 +21,19 @@ use Rattle.items.proofs.RefusalNumbers.{number-above}
 
 module _ (file set : List ℕ) (fact : ℕ) (row : List ℕ) where
   -- by the test on the row
-  tested : ◌≡◌ {A = Option Refusal} (checkNo file set fact row) none → (b : Bool) → isProof (program_of file) (inForce (program_of file)) (has set) (row_of row) fact ≡ b → CheckMeans file set fact row (cond b Yes No)
-  tested q true e = record { numbered = sym (ap noNumber q); yes-exactly = λ z. (λ v. (test-of-proof (program_of file) (inForce (program_of file)) (has set) (row_of row) fact).0 e, λ p. refl) }
-  tested q false e = record { numbered = sym (ap noNumber q); yes-exactly = λ z. (λ v. absurd (omega arith), λ p. never ((test-of-proof (program_of file) (inForce (program_of file)) (has set) (row_of row) fact).1 p) e) }
+  tested : ◌≡◌ {A = Option Refusal} (check_no file set fact row) none → (b : Bool) → is_proof (program_of file) (in_force (program_of file)) (has set) (row_of row) fact ≡ b → CheckMeans file set fact row (cond b Yes No)
+  tested q true e = record { numbered = sym (ap no_number q); yes_exactly = λ z. (λ v. (test_of_proof (program_of file) (in_force (program_of file)) (has set) (row_of row) fact).0 e, λ p. refl) }
+  tested q false e = record { numbered = sym (ap no_number q); yes_exactly = λ z. (λ v. absurd (omega arith), λ p. never ((test_of_proof (program_of file) (in_force (program_of file)) (has set) (row_of row) fact).1 p) e) }
 
-  refused : (r : Refusal) → checkNo file set fact row ≡ some r → CheckMeans file set fact row (Refused r)
-  refused r q = record { numbered = sym (ap noNumber q); yes-exactly = λ z. absurd (omega (arith, number-above r)) }
+  refused : (r : Refusal) → check_no file set fact row ≡ some r → CheckMeans file set fact row (Refused r)
+  refused r q = record { numbered = sym (ap no_number q); yes_exactly = λ z. absurd (omega (arith, number-above r)) }
 
   pub checked-means : CheckMeans file set fact row (checked file set fact row)
   unfolding checked
-  checked-means = go (checkNo file set fact row) refl
+  checked-means = go (check_no file set fact row) refl
     where
-      go : (o : Option Refusal) → checkNo file set fact row ≡ o → CheckMeans file set fact row (elim o [ none ↦ cond (isProof (program_of file) (inForce (program_of file)) (has set) (row_of row) fact) Yes No | some r ↦ Refused r ])
-      go none q = tested q (isProof (program_of file) (inForce (program_of file)) (has set) (row_of row) fact) refl
+      go : (o : Option Refusal) → check_no file set fact row ≡ o → CheckMeans file set fact row (elim o [ none ↦ cond (is_proof (program_of file) (in_force (program_of file)) (has set) (row_of row) fact) Yes No | some r ↦ Refused r ])
+      go none q = tested q (is_proof (program_of file) (in_force (program_of file)) (has set) (row_of row) fact) refl
       go (some r) q = refused r q
 
   -- an answer that is the one defined means what that one means

@@ -8,17 +8,17 @@ use Rattle.theory.specs.Rule.{Step}
 use Rattle.theory.specs.Check.{ends_with}
 
 -- the last step concludes f, where `ends` tells it of the step before this row
-abbrev endsAfter : ℕ → Bool → List Step → Bool
-endsAfter f ends [] = ends
-endsAfter f ends (s ∷ row) = ends_with f (s ∷ row)
+abbrev ends_after : ℕ → Bool → List Step → Bool
+ends_after f ends [] = ends
+ends_after f ends (s ∷ row) = ends_with f (s ∷ row)
 
-one-step : (f : ℕ) (s : Step) (row : List Step) → ends_with f (s ∷ row) ≡ endsAfter f (eqb s.fact f) row
-one-step f s [] = refl
-one-step f s (t ∷ row) = refl
+one_step : (f : ℕ) (s : Step) (row : List Step) → ends_with f (s ∷ row) ≡ ends_after f (eqb s.fact f) row
+one_step f s [] = refl
+one_step f s (t ∷ row) = refl
 
 -- What is to come, with what the last step told, decides as the whole does.
 pub record Ending (f : ℕ) (ends : Bool) (row rest : List Step) : Type 0 where
-  pub same : ends_with f row ≡ endsAfter f ends rest
+  pub same : ends_with f row ≡ ends_after f ends rest
 
 pub none_passed : (f : ℕ) (row : List Step) → Ending f false row row
 none_passed f [] = record { same = refl }
@@ -26,10 +26,10 @@ none_passed f (s ∷ row) = record { same = refl }
 
 module _ {f : ℕ} {ends : Bool} {row rest : List Step} (w : Ending f ends row rest) where
   pub all-passed : rest ≡ [] → ends ≡ ends_with f row
-  all-passed e = sym (w.same ∙ ap (endsAfter f ends) e)
+  all-passed e = sym (w.same ∙ ap (ends_after f ends) e)
 
-  pub ending-along : (more : List Step) → rest ≡ more → Ending f ends row more
-  ending-along more e = record { same = w.same ∙ ap (endsAfter f ends) e }
+  pub ending_along : (more : List Step) → rest ≡ more → Ending f ends row more
+  ending_along more e = record { same = w.same ∙ ap (ends_after f ends) e }
 
-  pub one-passed : (s : Step) (more : List Step) → rest ≡ s ∷ more → Ending f (eqb s.fact f) row more
-  one-passed s more e = record { same = w.same ∙ ap (endsAfter f ends) e ∙ one-step f s more }
+  pub one_passed : (s : Step) (more : List Step) → rest ≡ s ∷ more → Ending f (eqb s.fact f) row more
+  one_passed s more e = record { same = w.same ∙ ap (ends_after f ends) e ∙ one_step f s more }

@@ -1,10 +1,10 @@
 // The proof check on an accepted file. Internal.
 ghost use Rattle.std.specs.Prelude.{◌≡◌};
 ghost use Rattle.std.proofs.Math.Option.{none};
-ghost use Rattle.theory.specs.Rule.{inForce};
-ghost use Rattle.theory.specs.Check.{isProof};
+ghost use Rattle.theory.specs.Rule.{in_force};
+ghost use Rattle.theory.specs.Check.{is_proof};
 ghost use Rattle.items.specs.Item.{has};
-ghost use Rattle.reader.specs.Questions.{program_of, fileNo};
+ghost use Rattle.reader.specs.Questions.{program_of, file_no};
 ghost use Rattle.reader.specs.Scanned.{Tabled};
 ghost use Rattle.questions.specs.Questions.{row_of};
 ghost use Rattle.proofcheck.specs.Checked.{checked};
@@ -23,7 +23,7 @@ fn is_proof(
     proof: &[u8],
 ) -> bool
     requires { Tabled file.now tables.now }
-    ensures { result ≡ isProof (program_of file.now) (inForce (program_of file.now)) (has set.now) (row_of proof.now) fact.0 }
+    ensures { result ≡ is_proof (program_of file.now) (in_force (program_of file.now)) (has set.now) (row_of proof.now) fact.0 }
 {
     let mut marks = [0u8; MAX_FACTS];
     crate::steps::row_proves(file, tables, set, fact, proof, &mut marks)
@@ -37,7 +37,7 @@ pub fn check_accepted(
     fact: u32,
     proof: &[u8],
 ) -> Checked
-    requires { (fileNo file.now ≡ none) × Tabled file.now tables.now }
+    requires { (file_no file.now ≡ none) × Tabled file.now tables.now }
     ensures { result ≡ checked file.now set.now fact proof.now }
 {
     let facts = facts_of(tables);

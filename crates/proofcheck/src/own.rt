@@ -1,11 +1,11 @@
 // What a rule asks of the steps before it and of the set, read item after item through the rule's view. Internal.
 ghost use Rattle.std.specs.Prelude.{◌<◌, ◌≡◌, true, length};
-ghost use Rattle.theory.specs.Rule.{count, rule as ruleOf};
-ghost use Rattle.items.specs.Item.{narrow, maxFacts, has};
+ghost use Rattle.theory.specs.Rule.{count, rule as rule_of};
+ghost use Rattle.items.specs.Item.{narrow, max_facts, has};
 ghost use Rattle.reader.specs.Questions.{program_of};
 ghost use Rattle.reader.specs.Scanned.{Tabled};
-ghost use Rattle.proofcheck.specs.Steps.{ruleFits, RuleMarked};
-ghost use Rattle.proofcheck.specs.Viewed.{ruleAhead, MayView, MayAsk, ItemAnswered, Fitted};
+ghost use Rattle.proofcheck.specs.Steps.{rule_fits, RuleMarked};
+ghost use Rattle.proofcheck.specs.Viewed.{rule_ahead, MayView, MayAsk, ItemAnswered, Fitted};
 
 use items::item::{MAX_FACTS, RuleId};
 use marking::marks::BARRED;
@@ -66,7 +66,7 @@ fn ask_item(taken: Taken, set: &[u8], marks: &mut [u8; MAX_FACTS]) -> Told
 // slice is proved by hand, so the work is done in `ask_item`.
 fn view_fits(file: &[u8], at: usize, end: usize, set: &[u8], marks: &mut [u8; MAX_FACTS]) -> bool
     requires { MayView file.now at end marks.old }
-    ensures { Fitted (has set.now) (ruleAhead file.now at) marks.old result marks.new }
+    ensures { Fitted (has set.now) (rule_ahead file.now at) marks.old result marks.new }
 {
     let mut view = view::view_of(file, at, end);
     loop {
@@ -89,9 +89,9 @@ pub fn rule_fits(
     marks: &mut [u8; MAX_FACTS],
 ) -> bool
     requires tabled { Tabled file.now tables.now × (rule.0 < count (program_of file.now)) }
-    requires marks_len { length marks.old ≡ maxFacts narrow }
-    ensures value { result ≡ ruleFits (has set.now) (has marks.old) (ruleOf (program_of file.now) rule.0) }
-    ensures rule_marked { result ≡ true → RuleMarked (ruleOf (program_of file.now) rule.0) marks.old marks.new }
+    requires marks_len { length marks.old ≡ max_facts narrow }
+    ensures value { result ≡ rule_fits (has set.now) (has marks.old) (rule_of (program_of file.now) rule.0) }
+    ensures rule_marked { result ≡ true → RuleMarked (rule_of (program_of file.now) rule.0) marks.old marks.new }
 {
     let range = view::range::range_of(tables, rule);
     view_fits(file, range.at, range.end, set, marks)

@@ -1,13 +1,13 @@
 // One walk along the steps of a row, in which each step's rule is read once. Internal.
 ghost use Rattle.std.specs.Prelude.{◌≡◌, true, length};
-ghost use Rattle.theory.specs.Rule.{inForce};
-ghost use Rattle.theory.specs.Check.{isProof};
-ghost use Rattle.items.specs.Item.{narrow, maxFacts, has};
+ghost use Rattle.theory.specs.Rule.{in_force};
+ghost use Rattle.theory.specs.Check.{is_proof};
+ghost use Rattle.items.specs.Item.{narrow, max_facts, has};
 ghost use Rattle.reader.specs.Questions.{program_of};
 ghost use Rattle.reader.specs.Scanned.{Tabled};
 ghost use Rattle.questions.specs.Questions.{row_of};
-ghost use Rattle.marking.specs.Marks.{barredIn};
-ghost use Rattle.proofcheck.specs.Steps.{stepFits, StepMarked, Unmarked};
+ghost use Rattle.marking.specs.Marks.{barred_in};
+ghost use Rattle.proofcheck.specs.Steps.{step_fits, StepMarked, Unmarked};
 
 use cursors::cursor::{Cursor, Read, Row};
 use items::item::{FactId, Item, MAX_FACTS, RuleId};
@@ -25,8 +25,8 @@ fn step_fits(
     marks: &mut [u8; MAX_FACTS],
 ) -> bool
     requires tabled { Tabled file.now tables.now }
-    requires marks_len { length marks.old ≡ maxFacts narrow }
-    ensures value { result ≡ stepFits (program_of file.now) (has set.now) (has marks.old) (barredIn marks.old) (record { fact = fact.0; by = rule.0 }) }
+    requires marks_len { length marks.old ≡ max_facts narrow }
+    ensures value { result ≡ step_fits (program_of file.now) (has set.now) (has marks.old) (barred_in marks.old) (record { fact = fact.0; by = rule.0 }) }
     ensures step_marked { result ≡ true → StepMarked (program_of file.now) (record { fact = fact.0; by = rule.0 }) marks.old marks.new }
 {
     if rules_of(tables) <= rule.0 as usize {
@@ -62,7 +62,7 @@ pub fn row_proves(
 ) -> bool
     requires tabled { Tabled file.now tables.now }
     requires unmarked { Unmarked marks.old }
-    ensures { result ≡ isProof (program_of file.now) (inForce (program_of file.now)) (has set.now) (row_of proof.now) fact.0 }
+    ensures { result ≡ is_proof (program_of file.now) (in_force (program_of file.now)) (has set.now) (row_of proof.now) fact.0 }
 {
     let mut ends = false;
     let mut cursor = Cursor {

@@ -14,9 +14,9 @@ use Rattle.theory.specs.Rule.{all, mem, adjoin}
 use Rattle.theory.proofs.Bools.{either, never, and_left, and_right, and_both, or_left, or_right, or_cases, or-none}
 use Rattle.theory.proofs.Lists.{eqb-self, mem-left, mem-append, all_append}
 use Rattle.items.specs.Item.{has}
-use Rattle.index.specs.Literal.{literals, literalCount}
+use Rattle.index.specs.Literal.{literals, literal_count}
 use Rattle.index.proofs.LiteralsCounted.{count_same, count-more, count_room, count_most}
-use Rattle.propagation.specs.State.{waiting, told, toldCount, Stacked, Waited}
+use Rattle.propagation.specs.State.{waiting, told, told_count, Stacked, Waited}
 
 -- A literal's byte says whether it is told and whether it is true.
 module _ (marks : List ℕ) (l : ℕ) where
@@ -24,9 +24,9 @@ module _ (marks : List ℕ) (l : ℕ) where
   unfolding told
   untold e = rw e refl
 
-  pub is-told : (get_or marks l 0 ≡ 0 → ⊥) → told marks l ≡ true
+  pub is_told : (get_or marks l 0 ≡ 0 → ⊥) → told marks l ≡ true
   unfolding told
-  is-told n = rw (ne_eqb (get_or marks l 0) 0 n) refl
+  is_told n = rw (ne_eqb (get_or marks l 0) 0 n) refl
 
   pub has-told : has marks l ≡ true → told marks l ≡ true
   unfolding has told
@@ -57,7 +57,7 @@ module _ {marks stack : List ℕ} {top : ℕ} (w : Stacked marks stack top) (l :
       }
     where
       go : (x : ℕ) (b : Bool) → eqb x l ≡ b → told marks x ≡ eqb x l || told marks x
-      go x true e = let is-l : x ≡ l = eqb-true x l e in rw (e, is-l) (is-told marks l n)
+      go x true e = let is-l : x ≡ l = eqb-true x l e in rw (e, is-l) (is_told marks l n)
       go x false e = rw e refl
 
   module _ (e : get_or marks l 0 ≡ 0) where
@@ -67,16 +67,16 @@ module _ {marks stack : List ℕ} {top : ℕ} (w : Stacked marks stack top) (l :
     tells_more : (x : ℕ) → told (set marks l waiting) x ≡ eqb x l || told marks x
     unfolding told
     tells_more =
-        set_cases marks l waiting (omega (arith, w.literal-places)) (λ x b. not (eqb b 0) ≡ eqb x l || not (eqb (get_or marks x 0) 0))
+        set_cases marks l waiting (omega (arith, w.literal_places)) (λ x b. not (eqb b 0) ≡ eqb x l || not (eqb (get_or marks x 0) 0))
         (rw (eqb-self l) refl) (λ x f. rw f refl)
 
-    keeps-all : (x : ℕ) → has (set marks l waiting) x ≡ has marks x
+    keeps_all : (x : ℕ) → has (set marks l waiting) x ≡ has marks x
     unfolding has
-    keeps-all =
-        set_cases marks l waiting (omega (arith, w.literal-places)) (λ x b. eqb b 1 ≡ eqb (get_or marks x 0) 1)
+    keeps_all =
+        set_cases marks l waiting (omega (arith, w.literal_places)) (λ x b. eqb b 1 ≡ eqb (get_or marks x 0) 1)
         (rw e refl) (λ x f. refl)
 
-    grown : toldCount marks < toldCount (set marks l waiting)
+    grown : told_count marks < told_count (set marks l waiting)
     grown = omega (arith, count_same (told (set marks l waiting)) (adjoin (told marks) l) tells_more, count-more (told marks) l h (untold marks l e))
 
     longer : take (top + 1) (set stack top l) ≡ take top stack ++ (l ∷ [])
@@ -87,20 +87,20 @@ module _ {marks stack : List ℕ} {top : ℕ} (w : Stacked marks stack top) (l :
         record {
           on_stack =
               record {
-                literal-places = length-set marks l waiting ∙ w.literal-places;
+                literal_places = length-set marks l waiting ∙ w.literal_places;
                 stack_places = length-set stack top l ∙ w.stack_places;
                 stacked = ap (all (λ x. ltb x literals)) longer ∙ all_append (λ x. ltb x literals) (take top stack) (l ∷ []) ∙ and_both w.stacked (and_both (lt-ltb l literals h) refl);
                 room = omega (arith, w.room, grown);
-                waits = λ x k t. ap (mem x) longer ∙ on-it x k (either (eqb x l)) t;
-                bytes = λ x k. set_cases marks l waiting (omega (arith, w.literal-places)) (λ y b. y < literals → b ≤ waiting) (λ _. omega arith) (λ y f q. w.bytes y q) x k;
+                waits = λ x k t. ap (mem x) longer ∙ on_it x k (either (eqb x l)) t;
+                bytes = λ x k. set_cases marks l waiting (omega (arith, w.literal_places)) (λ y b. y < literals → b ≤ waiting) (λ _. omega arith) (λ y f q. w.bytes y q) x k;
               };
           tells = tells_more;
-          keeps = keeps-all;
+          keeps = keeps_all;
           paced = omega (arith, grown);
         }
       where
-        on-it : (x : ℕ) → x < literals → (eqb x l ≡ true) ⊎ (eqb x l ≡ false) → get_or (set marks l waiting) x 0 ≡ waiting → mem x (take top stack ++ (l ∷ [])) ≡ true
-        on-it x k s t = ⊎_elim last before s
+        on_it : (x : ℕ) → x < literals → (eqb x l ≡ true) ⊎ (eqb x l ≡ false) → get_or (set marks l waiting) x 0 ≡ waiting → mem x (take top stack ++ (l ∷ [])) ≡ true
+        on_it x k s t = ⊎_elim last before s
           where
             last : eqb x l ≡ true → mem x (take top stack ++ (l ∷ [])) ≡ true
             last f = mem-append x (take top stack) (l ∷ []) ∙ or_right (mem x (take top stack)) _ (or_left _ _ f)
@@ -113,57 +113,57 @@ module _ {marks stack : List ℕ} {rest : ℕ} (w : Stacked marks stack (suc res
   abbrev last : ℕ
   last = get_or stack rest 0
 
-  pub top-inside : rest < literals
-  top-inside = omega (arith, w.room, count_most (told marks))
+  pub top_inside : rest < literals
+  top_inside = omega (arith, w.room, count_most (told marks))
 
   shorter : take (suc rest) stack ≡ take rest stack ++ (last ∷ [])
-  shorter = take-suc stack rest 0 (omega (arith, w.stack_places, top-inside))
+  shorter = take-suc stack rest 0 (omega (arith, w.stack_places, top_inside))
 
   all-shorter : all (λ x. ltb x literals) (take rest stack) && (ltb last literals && true) ≡ true
   all-shorter = sym (ap (all (λ x. ltb x literals)) shorter ∙ all_append (λ x. ltb x literals) (take rest stack) (last ∷ [])) ∙ w.stacked
 
-  pub top-literal : last < literals
-  top-literal = ltb-true last literals (and_left _ _ (and_right (all (λ x. ltb x literals) (take rest stack)) _ all-shorter))
+  pub top_literal : last < literals
+  top_literal = ltb-true last literals (and_left _ _ (and_right (all (λ x. ltb x literals) (take rest stack)) _ all-shorter))
 
-  waits-below : (x : ℕ) → eqb x last ≡ false → x < literals → get_or marks x 0 ≡ waiting → mem x (take rest stack) ≡ true
-  waits-below x f k t =
+  waits_below : (x : ℕ) → eqb x last ≡ false → x < literals → get_or marks x 0 ≡ waiting → mem x (take rest stack) ≡ true
+  waits_below x f k t =
       ⊎_elim (λ m. m) (λ m. never (sym (or-none (eqb x last)) ∙ m) f)
       (or_cases (mem x (take rest stack)) _ (sym (ap (mem x) shorter ∙ mem-append x (take rest stack) (last ∷ [])) ∙ w.waits x k t))
 
-  pub passed-by : (get_or marks last 0 ≡ waiting → ⊥) → Stacked marks stack rest
-  passed-by n =
+  pub passed_by : (get_or marks last 0 ≡ waiting → ⊥) → Stacked marks stack rest
+  passed_by n =
       record {
-        literal-places = w.literal-places;
+        literal_places = w.literal_places;
         stack_places = w.stack_places;
         stacked = and_left _ _ all-shorter;
         room = omega (arith, w.room);
-        waits = λ x k t. waits-below x (ne_eqb x last (λ e. n (ap (λ (y : ℕ). get_or marks y 0) (sym e) ∙ t))) k t;
+        waits = λ x k t. waits_below x (ne_eqb x last (λ e. n (ap (λ (y : ℕ). get_or marks y 0) (sym e) ∙ t))) k t;
         bytes = w.bytes;
       }
 
   module _ (e : get_or marks last 0 ≡ waiting) where
-    pub same-told : told (set marks last 1) ≡ told marks
+    pub same_told : told (set marks last 1) ≡ told marks
     unfolding told
-    same-told =
+    same_told =
         fun_ext
-        (set_cases marks last 1 (omega (arith, w.literal-places, top-literal)) (λ x b. not (eqb b 0) ≡ not (eqb (get_or marks x 0) 0))
+        (set_cases marks last 1 (omega (arith, w.literal_places, top_literal)) (λ x b. not (eqb b 0) ≡ not (eqb (get_or marks x 0) 0))
         (rw e refl) (λ x f. refl))
 
-    pub was-not-true : has marks last ≡ false
+    pub was_not_true : has marks last ≡ false
     unfolding has
-    was-not-true = rw e refl
+    was_not_true = rw e refl
 
     pub taken : Stacked (set marks last 1) stack rest
     taken =
         record {
-          literal-places = length-set marks last 1 ∙ w.literal-places;
+          literal_places = length-set marks last 1 ∙ w.literal_places;
           stack_places = w.stack_places;
           stacked = and_left _ _ all-shorter;
-          room = omega (arith, w.room, ap literalCount same-told);
+          room = omega (arith, w.room, ap literal_count same_told);
           waits =
-              set_cases marks last 1 (omega (arith, w.literal-places, top-literal)) (λ x b. x < literals → b ≡ waiting → mem x (take rest stack) ≡ true)
-              (λ k t. absurd (omega arith)) (λ x f k t. waits-below x f k t);
+              set_cases marks last 1 (omega (arith, w.literal_places, top_literal)) (λ x b. x < literals → b ≡ waiting → mem x (take rest stack) ≡ true)
+              (λ k t. absurd (omega arith)) (λ x f k t. waits_below x f k t);
           bytes =
-              set_cases marks last 1 (omega (arith, w.literal-places, top-literal)) (λ x b. x < literals → b ≤ waiting)
+              set_cases marks last 1 (omega (arith, w.literal_places, top_literal)) (λ x b. x < literals → b ≤ waiting)
               (λ k. omega arith) (λ x f k. w.bytes x k);
         }

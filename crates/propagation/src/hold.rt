@@ -1,9 +1,9 @@
 // Facts are held out. Internal.
 ghost use Rattle.std.specs.Prelude.{◌≤◌, ◌≡◌, true, not, length, take, drop, ltb};
 ghost use Rattle.theory.specs.Rule.{all, keep, up_to};
-ghost use Rattle.items.specs.Item.{narrow, maxFacts, has};
-ghost use Rattle.tables.specs.Layout.{programIn};
-ghost use Rattle.index.specs.Cells.{onIn};
+ghost use Rattle.items.specs.Item.{narrow, max_facts, has};
+ghost use Rattle.tables.specs.Layout.{program_in};
+ghost use Rattle.index.specs.Cells.{on_in};
 ghost use Rattle.propagation.specs.State.{Ready, Settled, HeldToo};
 
 use crate::spread::{spread, wait};
@@ -22,9 +22,9 @@ pub fn hold_out(
     missing: &mut [u16; MAX_RULES],
 )
     requires ready { Ready tables.now index.now }
-    requires settled { Settled (programIn tables.now) (onIn index.now) marks.old missing.old }
-    requires to_in_bounds { (to ≤ length facts.now) × (all (λ k. ltb k (maxFacts narrow)) facts.now ≡ true) }
-    ensures settled_2 { Settled (programIn tables.now) (onIn index.now) marks.new missing.new }
+    requires settled { Settled (program_in tables.now) (on_in index.now) marks.old missing.old }
+    requires to_in_bounds { (to ≤ length facts.now) × (all (λ k. ltb k (max_facts narrow)) facts.now ≡ true) }
+    ensures settled_2 { Settled (program_in tables.now) (on_in index.now) marks.new missing.new }
     ensures held_too { HeldToo marks.old (drop from (take to facts.now)) marks.new }
 {
     let mut stack = [0u16; LITERALS];
@@ -46,10 +46,10 @@ pub fn hold_absent(
     missing: &mut [u16; MAX_RULES],
 )
     requires ready { Ready tables.now index.now }
-    requires settled { Settled (programIn tables.now) (onIn index.now) marks.old missing.old }
-    requires tables_in_bounds { (programIn tables.now).facts ≤ length set.now }
-    ensures settled_2 { Settled (programIn tables.now) (onIn index.now) marks.new missing.new }
-    ensures held_too { HeldToo marks.old (keep (λ k. not (has set.now k)) (up_to (programIn tables.now).facts)) marks.new }
+    requires settled { Settled (program_in tables.now) (on_in index.now) marks.old missing.old }
+    requires tables_in_bounds { (program_in tables.now).facts ≤ length set.now }
+    ensures settled_2 { Settled (program_in tables.now) (on_in index.now) marks.new missing.new }
+    ensures held_too { HeldToo marks.old (keep (λ k. not (has set.now k)) (up_to (program_in tables.now).facts)) marks.new }
 {
     let facts = facts_of(tables);
     let mut stack = [0u16; LITERALS];

@@ -1,8 +1,8 @@
 // Nothing is held out yet. Internal.
 ghost use Rattle.std.specs.Prelude.{ℕ, ◌≡◌, List, [], replicate};
-ghost use Rattle.tables.specs.Layout.{programIn};
+ghost use Rattle.tables.specs.Layout.{program_in};
 ghost use Rattle.index.specs.Literal.{literals};
-ghost use Rattle.index.specs.Cells.{onIn};
+ghost use Rattle.index.specs.Cells.{on_in};
 ghost use Rattle.index.specs.Index.{Sized};
 ghost use Rattle.propagation.specs.State.{Ready, Settled, HeldToo};
 
@@ -19,8 +19,8 @@ pub fn hold_none(
     missing: &mut [u16; MAX_RULES],
 )
     requires ready { Ready tables.now index.now }
-    requires sized { Sized (programIn tables.now) index.now missing.old × (◌≡◌ {A = List ℕ} marks.old (replicate literals 0)) }
-    ensures settled { Settled (programIn tables.now) (onIn index.now) marks.new missing.new }
+    requires sized { Sized (program_in tables.now) index.now missing.old × (◌≡◌ {A = List ℕ} marks.old (replicate literals 0)) }
+    ensures settled { Settled (program_in tables.now) (on_in index.now) marks.new missing.new }
     ensures held_too { HeldToo marks.old [] marks.new }
 {
     let rules = rules_of(tables);

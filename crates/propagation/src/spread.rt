@@ -1,11 +1,11 @@
 // One literal after another is taken as true. Internal.
 ghost use Rattle.std.specs.Prelude.{ℕ, ◌<◌, ◌≡◌};
 ghost use Rattle.theory.specs.Rule.{count};
-ghost use Rattle.theory.specs.Conditions.{everyRule};
+ghost use Rattle.theory.specs.Conditions.{every_rule};
 ghost use Rattle.items.specs.Item.{has};
-ghost use Rattle.tables.specs.Layout.{programIn, WellFormed};
+ghost use Rattle.tables.specs.Layout.{program_in, WellFormed};
 ghost use Rattle.index.specs.Literal.{literals, outside};
-ghost use Rattle.index.specs.Cells.{onIn};
+ghost use Rattle.index.specs.Cells.{on_in};
 ghost use Rattle.index.specs.Index.{askers};
 ghost use Rattle.propagation.specs.State.{Ready, Stacked, Spreading, Between, Waited, Concluded, Onward, Settled, told};
 
@@ -48,8 +48,8 @@ pub fn conclude(
     top: usize,
 ) -> usize
     requires well_formed { WellFormed tables.now }
-    requires rule_bound { (rule < count (programIn tables.now)) × Stacked marks.old stack.old top }
-    ensures { Concluded (programIn tables.now) rule marks.old top marks.new stack.new result }
+    requires rule_bound { (rule < count (program_in tables.now)) × Stacked marks.old stack.old top }
+    ensures { Concluded (program_in tables.now) rule marks.old top marks.new stack.new result }
 {
     let fact = conclusion(tables, RuleId(rule as u16));
     wait(marks, stack, top, fact.0 as usize)
@@ -66,8 +66,8 @@ fn tell(
     top: usize,
 ) -> usize
     requires ready { Ready tables.now index.now × (literal < literals) }
-    requires spreading { Spreading (programIn tables.now) (onIn index.now) everyRule (askers (programIn tables.now) (onIn index.now) literal) marks.old missing.old stack.old top }
-    ensures between { Between (programIn tables.now) (onIn index.now) marks.new missing.new stack.new result }
+    requires spreading { Spreading (program_in tables.now) (on_in index.now) every_rule (askers (program_in tables.now) (on_in index.now) literal) marks.old missing.old stack.old top }
+    ensures between { Between (program_in tables.now) (on_in index.now) marks.new missing.new stack.new result }
     ensures onward { Onward marks.old top marks.new result }
 {
     let mut left = row_of(index, literal);
@@ -99,8 +99,8 @@ pub fn spread(
     top: usize,
 )
     requires ready { Ready tables.now index.now }
-    requires between { Between (programIn tables.now) (onIn index.now) marks.old missing.old stack.old top }
-    ensures settled { Settled (programIn tables.now) (onIn index.now) marks.new missing.new }
+    requires between { Between (program_in tables.now) (on_in index.now) marks.old missing.old stack.old top }
+    ensures settled { Settled (program_in tables.now) (on_in index.now) marks.new missing.new }
     ensures by_index { (k : ℕ) → has marks.new (outside k) ≡ told marks.old (outside k) }
 {
     let mut top = top;

@@ -10,13 +10,13 @@ use Rattle.items.proofs.PlacedBytes.{placed-none, placed-length, placed-more, st
 use Rattle.questions.specs.Put.{Fits, Put}
 
 -- One byte is one store.
-pub one-stored : (byte at : ℕ) (s : List ℕ) → Fits (byte ∷ []) at s → Put (byte ∷ []) at s (at + 1) (set s at byte)
-one-stored byte at s h = record { bytes-put = stored (byte ∷ []) s at h.inside; behind = refl }
+pub one_stored : (byte at : ℕ) (s : List ℕ) → Fits (byte ∷ []) at s → Put (byte ∷ []) at s (at + 1) (set s at byte)
+one_stored byte at s h = record { bytes_put = stored (byte ∷ []) s at h.inside; behind = refl }
 
 -- The place behind lies inside.
-pub put-inside : (bytes : List ℕ) (at : ℕ) (before : List ℕ) (next : ℕ) (after : List ℕ) → Fits bytes at before → Put bytes at before next after → next ≤ length after
-put-inside bytes at before next after h p =
-    omega (arith, h.inside, p.behind, ap length p.bytes-put, placed-length bytes before at h.inside)
+pub put_inside : (bytes : List ℕ) (at : ℕ) (before : List ℕ) (next : ℕ) (after : List ℕ) → Fits bytes at before → Put bytes at before next after → next ≤ length after
+put_inside bytes at before next after h p =
+    omega (arith, h.inside, p.behind, ap length p.bytes_put, placed-length bytes before at h.inside)
 
 -- Room for a row is room for its front.
 pub front_fits : (a b : List ℕ) (at : ℕ) (s : List ℕ) → Fits (a ++ b) at s → Fits a at s
@@ -35,7 +35,7 @@ module _ {all : List ℕ} {from : ℕ} {before rest : List ℕ} {at : ℕ} {now 
   pub ended : rest ≡ [] → Put all from before at now
   ended e =
       w.finish at now
-      (record { bytes-put = sym (ap (λ (r : List ℕ). placed r at now) e ∙ placed-none at now); behind = sym (ap (λ (r : List ℕ). at + length r) e ∙ add-zero at) })
+      (record { bytes_put = sym (ap (λ (r : List ℕ). placed r at now) e ∙ placed-none at now); behind = sym (ap (λ (r : List ℕ). at + length r) e ∙ add-zero at) })
 
   pub nothing_put : (more : List ℕ) → rest ≡ more → Putting all from before more at now
   nothing_put more e = rw e at w
@@ -44,8 +44,8 @@ module _ {all : List ℕ} {from : ℕ} {before rest : List ℕ} {at : ℕ} {now 
     pub next_fits : Fits a at now
     next_fits = front_fits a more at now (rw e at w.fits)
 
-    pub one-put : (next : ℕ) (after : List ℕ) → Put a at now next after → Putting all from before more next after
-    one-put next after p =
+    pub one_put : (next : ℕ) (after : List ℕ) → Put a at now next after → Putting all from before more next after
+    one_put next after p =
         record {
           fits = record { inside = omega (arith, p.behind, same, w.fits.inside, ap length e, length-append a more) };
           kept = same ∙ w.kept;
@@ -53,11 +53,11 @@ module _ {all : List ℕ} {from : ℕ} {before rest : List ℕ} {at : ℕ} {now 
         }
       where
         same : length after ≡ length now
-        same = ap length p.bytes-put ∙ placed-length a now at next_fits.inside
+        same = ap length p.bytes_put ∙ placed-length a now at next_fits.inside
 
         joined : (n : ℕ) (s : List ℕ) → Put more next after n s → Put rest at now n s
         joined n s q =
             record {
-              bytes-put = q.bytes-put ∙ ap₂ (placed more) p.behind p.bytes-put ∙ sym (placed-more a now at next_fits.inside more) ∙ ap (λ (r : List ℕ). placed r at now) (sym e);
+              bytes_put = q.bytes_put ∙ ap₂ (placed more) p.behind p.bytes_put ∙ sym (placed-more a now at next_fits.inside more) ∙ ap (λ (r : List ℕ). placed r at now) (sym e);
               behind = omega (arith, q.behind, p.behind, ap length e, length-append a more);
             }

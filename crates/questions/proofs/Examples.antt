@@ -2,12 +2,12 @@
 use mathlib.Core.Path.{◌≡◌, refl}
 use mathlib.Core.List.{List, [], ◌∷◌}
 use Prim.Native.Nat.{ℕ}
-use Rattle.theory.specs.Rule.{exception, constraintFact}
-use Rattle.items.specs.Item.{bodyLength, item_of}
-use Rattle.cursors.specs.Cursor.{front, itemsAt}
-use Rattle.items.specs.Question.{noNumber}
-use Rattle.reader.specs.Questions.{fileQuestions, exceptions, constraintFacts}
-use Rattle.questions.specs.Questions.{listQuestions, orderQuestions, setQuestions, rowQuestions, bufferQuestions, runQuestions, judgeQuestions, checkQuestions, earlyQuestions, searchQuestions, bothQuestions, betterQuestions, runNo, judgeNo, checkNo, searchNo, betterNo}
+use Rattle.theory.specs.Rule.{exception, constraint_fact}
+use Rattle.items.specs.Item.{body_length, item_of}
+use Rattle.cursors.specs.Cursor.{front, items_at}
+use Rattle.items.specs.Question.{no_number}
+use Rattle.reader.specs.Questions.{file_questions, exceptions, constraint_facts}
+use Rattle.questions.specs.Questions.{list_questions, order_questions, set_questions, row_questions, buffer_questions, run_questions, judge_questions, check_questions, early_questions, search_questions, both_questions, better_questions, run_no, judge_no, check_no, search_no, better_no}
 
 -- E: no fact and no rule
 abbrev empty : List ℕ
@@ -22,29 +22,29 @@ abbrev foreign : List ℕ
 foreign = 0x00 ∷ []
 
 pub record FirstNos : Type 0 where
-  pub file-before-list : noNumber (judgeNo [] foreign foreign) ≡ 2
-  pub list-before-set : noNumber (judgeNo empty foreign foreign) ≡ 11
-  pub set-before-fact : noNumber (checkNo empty foreign 0 foreign) ≡ 21
-  pub fact-before-row : noNumber (checkNo empty [] 0 foreign) ≡ 24
-  pub order-before-room : noNumber (runNo two foreign 0 0 0) ≡ 11
-  pub file-before-orders : noNumber (betterNo [] foreign foreign) ≡ 2
-  pub first-before-second : noNumber (betterNo two foreign []) ≡ 11
-  pub facts-before-rules : noNumber (searchNo two 0 0 0 0) ≡ 31
-  pub rules-before-steps : noNumber (searchNo two 3 0 0 0) ≡ 32
-  pub steps-before-order : noNumber (searchNo two 3 2 0 0) ≡ 33
+  pub file_before_list : no_number (judge_no [] foreign foreign) ≡ 2
+  pub list_before_set : no_number (judge_no empty foreign foreign) ≡ 11
+  pub set_before_fact : no_number (check_no empty foreign 0 foreign) ≡ 21
+  pub fact_before_row : no_number (check_no empty [] 0 foreign) ≡ 24
+  pub order_before_room : no_number (run_no two foreign 0 0 0) ≡ 11
+  pub file_before_orders : no_number (better_no [] foreign foreign) ≡ 2
+  pub first_before_second : no_number (better_no two foreign []) ≡ 11
+  pub facts_before_rules : no_number (search_no two 0 0 0 0) ≡ 31
+  pub rules_before_steps : no_number (search_no two 3 0 0 0) ≡ 32
+  pub steps_before_order : no_number (search_no two 3 2 0 0) ≡ 33
 
 pub first-nos : FirstNos
-unfolding exceptions constraintFacts exception constraintFact fileQuestions itemsAt front bodyLength item_of listQuestions orderQuestions setQuestions rowQuestions bufferQuestions runQuestions judgeQuestions checkQuestions earlyQuestions searchQuestions bothQuestions betterQuestions
+unfolding exceptions constraint_facts exception constraint_fact file_questions items_at front body_length item_of list_questions order_questions set_questions row_questions buffer_questions run_questions judge_questions check_questions early_questions search_questions both_questions better_questions
 first-nos =
     record {
-      file-before-list = refl;
-      list-before-set = refl;
-      set-before-fact = refl;
-      fact-before-row = refl;
-      order-before-room = refl;
-      file-before-orders = refl;
-      first-before-second = refl;
-      facts-before-rules = refl;
-      rules-before-steps = refl;
-      steps-before-order = refl;
+      file_before_list = refl;
+      list_before_set = refl;
+      set_before_fact = refl;
+      fact_before_row = refl;
+      order_before_room = refl;
+      file_before_orders = refl;
+      first_before_second = refl;
+      facts_before_rules = refl;
+      rules_before_steps = refl;
+      steps_before_order = refl;
     }

@@ -9,9 +9,9 @@ use lib.ListN.{length, get_or, set, replicate}
 use lib.Seq.{ext_get_or}
 use lib.Dec.{eqb, leb}
 use Rattle.theory.proofs.Bools.{and_left, and_right, and_both}
-use Rattle.theory.proofs.Lists.{all-elem, getD-mem}
+use Rattle.theory.proofs.Lists.{all-elem, get_or-mem}
 use Rattle.items.specs.Item.{has}
-use Rattle.questions.specs.Questions.{zeroOrOne}
+use Rattle.questions.specs.Questions.{zero_or_one}
 
 bit : (x y : ℕ) → x ≤ 1 → y ≤ 1 → eqb x 1 ≡ eqb y 1 → x ≡ y
 bit zero zero p q e = refl
@@ -23,19 +23,19 @@ bit (suc zero) (suc (suc y)) p q e = absurd (omega arith)
 bit (suc (suc x)) y p q e = absurd (omega arith)
 
 -- Rows of 0 and 1 of one length that are the same set are the same bytes.
-pub same_bytes : (a b : List ℕ) → length a ≡ length b → zeroOrOne a ≡ true → zeroOrOne b ≡ true → ((i : ℕ) → i < length a → has a i ≡ has b i) → a ≡ b
+pub same_bytes : (a b : List ℕ) → length a ≡ length b → zero_or_one a ≡ true → zero_or_one b ≡ true → ((i : ℕ) → i < length a → has a i ≡ has b i) → a ≡ b
 unfolding has
 same_bytes a b l za zb h = ext_get_or 0 a b l (λ i q. bit (get_or a i 0) (get_or b i 0) (small a za i q) (small b zb i (omega arith)) (h i q))
   where
-    small : (s : List ℕ) → zeroOrOne s ≡ true → (i : ℕ) → i < length s → get_or s i 0 ≤ 1
-    small s z i q = leb-true _ _ (all-elem (λ x. leb x 1) s z (get_or s i 0) (getD-mem s i q))
+    small : (s : List ℕ) → zero_or_one s ≡ true → (i : ℕ) → i < length s → get_or s i 0 ≤ 1
+    small s z i q = leb-true _ _ (all-elem (λ x. leb x 1) s z (get_or s i 0) (get_or-mem s i q))
 
 -- Rows of 0 and 1: zeros, and one with a mark more.
-pub bits-zeros : (n : ℕ) → zeroOrOne (replicate n 0) ≡ true
-bits-zeros zero = refl
-bits-zeros (suc n) = bits-zeros n
+pub bits_zeros : (n : ℕ) → zero_or_one (replicate n 0) ≡ true
+bits_zeros zero = refl
+bits_zeros (suc n) = bits_zeros n
 
-pub bits-marked : (l : List ℕ) (n : ℕ) → zeroOrOne l ≡ true → zeroOrOne (set l n 1) ≡ true
-bits-marked [] n z = refl
-bits-marked (x ∷ l) zero z = and_right (leb x 1) (zeroOrOne l) z
-bits-marked (x ∷ l) (suc n) z = and_both (and_left (leb x 1) (zeroOrOne l) z) (bits-marked l n (and_right (leb x 1) (zeroOrOne l) z))
+pub bits_marked : (l : List ℕ) (n : ℕ) → zero_or_one l ≡ true → zero_or_one (set l n 1) ≡ true
+bits_marked [] n z = refl
+bits_marked (x ∷ l) zero z = and_right (leb x 1) (zero_or_one l) z
+bits_marked (x ∷ l) (suc n) z = and_both (and_left (leb x 1) (zero_or_one l) z) (bits_marked l n (and_right (leb x 1) (zero_or_one l) z))

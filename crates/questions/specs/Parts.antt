@@ -4,31 +4,31 @@ use Rattle.std.proofs.Math.Option.{Option}
 use Rattle.theory.specs.Rule.{Program, count, exception}
 use Rattle.items.specs.declared.refusal.Refusal.{Refusal}
 use Rattle.items.specs.Item.{narrow}
-use Rattle.items.specs.Question.{firstNo}
-use Rattle.questions.specs.Questions.{listQuestions, setQuestions, rowQuestions, orderQuestions, bufferQuestions, bothQuestions, limitQuestions, earlyQuestions}
+use Rattle.items.specs.Question.{first_no}
+use Rattle.questions.specs.Questions.{list_questions, set_questions, row_questions, order_questions, buffer_questions, both_questions, limit_questions, early_questions}
 
 -- A list of rules, a fact set, a proof row.
-abbrev pub listNo : (ℕ → Bool) → List ℕ → Option Refusal
-listNo known list = firstNo (listQuestions known list)
+abbrev pub list_no : (ℕ → Bool) → List ℕ → Option Refusal
+list_no known list = first_no (list_questions known list)
 
-abbrev pub setNo : ℕ → List ℕ → Option Refusal
-setNo n set = firstNo (setQuestions n set)
+abbrev pub set_no : ℕ → List ℕ → Option Refusal
+set_no n set = first_no (set_questions n set)
 
-abbrev pub rowNo : ℕ → ℕ → List ℕ → Option Refusal
-rowNo n fact row = firstNo (rowQuestions n fact row)
+abbrev pub row_no : ℕ → ℕ → List ℕ → Option Refusal
+row_no n fact row = first_no (row_questions n fact row)
 
 -- The run's questions behind those of the file.
-abbrev pub tabledNo : Program → List ℕ → ℕ → ℕ → ℕ → Option Refusal
-tabledNo P order facts rules steps =
-    firstNo (orderQuestions (exception P) (count P) order ++ bufferQuestions narrow P facts rules steps)
+abbrev pub tabled_no : Program → List ℕ → ℕ → ℕ → ℕ → Option Refusal
+tabled_no P order facts rules steps =
+    first_no (order_questions (exception P) (count P) order ++ buffer_questions narrow P facts rules steps)
 
 -- Two orders.
-abbrev pub bothNo : Program → List ℕ → List ℕ → Option Refusal
-bothNo P first second = firstNo (bothQuestions P first second)
+abbrev pub both_no : Program → List ℕ → List ℕ → Option Refusal
+both_no P first second = first_no (both_questions P first second)
 
 -- The search's limits, and all but its last question.
-abbrev pub limitsNo : Program → ℕ → Option Refusal
-limitsNo P order = firstNo (limitQuestions P order)
+abbrev pub limits_no : Program → ℕ → Option Refusal
+limits_no P order = first_no (limit_questions P order)
 
-abbrev pub earlyNo : List ℕ → ℕ → ℕ → ℕ → ℕ → Option Refusal
-earlyNo file facts rules steps order = firstNo (earlyQuestions file facts rules steps order)
+abbrev pub early_no : List ℕ → ℕ → ℕ → ℕ → ℕ → Option Refusal
+early_no file facts rules steps order = first_no (early_questions file facts rules steps order)

@@ -8,5 +8,5 @@ pub record Fits (bytes : List ℕ) (at : ℕ) (room : List ℕ) : Type 0 where
 
 -- The bytes stand at their place, and next is the place behind them.
 pub record Put (bytes : List ℕ) (at : ℕ) (before : List ℕ) (next : ℕ) (after : List ℕ) : Type 0 where
-  pub bytes-put : after ≡ placed bytes at before
+  pub bytes_put : after ≡ placed bytes at before
   pub behind : next ≡ at + length bytes

@@ -1,7 +1,7 @@
 // The questions on the buffers that the run and the search share. Internal.
 ghost use Rattle.std.specs.Prelude.{◌≡◌};
-ghost use Rattle.tables.specs.Layout.{programIn, WellFormed};
-ghost use Rattle.questions.specs.Questions.{buffersNo};
+ghost use Rattle.tables.specs.Layout.{program_in, WellFormed};
+ghost use Rattle.questions.specs.Questions.{buffers_no};
 ghost use Rattle.questions.specs.Answer.{answer_of};
 ghost use Rattle.items.specs.Item.{narrow};
 
@@ -13,7 +13,7 @@ use tables::layout::{TABLE_CELLS, facts_of, rules_of};
 // Questions 31 to 33, by the lengths of the buffers.
 pub fn ask_buffers(tables: &[u16; TABLE_CELLS], facts: usize, rules: usize, steps: usize) -> Answer
     requires { WellFormed tables.now }
-    ensures { result ≡ answer_of (buffersNo narrow (programIn tables.now) facts rules steps) }
+    ensures { result ≡ answer_of (buffers_no narrow (program_in tables.now) facts rules steps) }
 {
     let count = facts_of(tables);
     if facts < count {

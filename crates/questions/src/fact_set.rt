@@ -1,9 +1,9 @@
 // Fact sets: one byte for each fact, 1 in, 0 out.
 ghost use Rattle.std.specs.Prelude.{◌≡◌};
-ghost use Rattle.items.specs.Question.{firstNo};
+ghost use Rattle.items.specs.Question.{first_no};
 ghost use Rattle.items.specs.Item.{has};
-ghost use Rattle.questions.specs.Questions.{askSetQuestions, zeroOrOne};
-ghost use Rattle.questions.specs.Parts.{setNo};
+ghost use Rattle.questions.specs.Questions.{ask_set_questions, zero_or_one};
+ghost use Rattle.questions.specs.Parts.{set_no};
 ghost use Rattle.questions.specs.Answer.{answer_of, AnswerNumbers};
 
 use crate::answer::Answer;
@@ -26,7 +26,7 @@ pub fn in_set(set: &[u8], fact: FactId) -> bool
 
 // Is every byte 0 or 1? Internal.
 fn zero_or_one(set: &[u8]) -> bool
-    ensures { result ≡ zeroOrOne set.now }
+    ensures { result ≡ zero_or_one set.now }
 {
     let mut i = 0;
     while i < set.len() {
@@ -40,7 +40,7 @@ fn zero_or_one(set: &[u8]) -> bool
 
 // Questions 21 and 22, for a file with this count of facts. Internal.
 pub fn ask_set_of(facts: usize, set: &[u8]) -> Answer
-    ensures { result ≡ answer_of (setNo facts set.now) }
+    ensures { result ≡ answer_of (set_no facts set.now) }
 {
     if set.len() != facts {
         return Answer::No(Refusal::WrongSetLength);
@@ -54,8 +54,8 @@ pub fn ask_set_of(facts: usize, set: &[u8]) -> Answer
 
 // The questions of the file, then 21 and 22 of the set.
 pub fn ask_set(file: &[u8], set: &[u8]) -> Answer
-    ensures value { result ≡ answer_of (firstNo (askSetQuestions file.now set.now)) }
-    ensures answer_numbers { AnswerNumbers (askSetQuestions file.now set.now) result }
+    ensures value { result ≡ answer_of (first_no (ask_set_questions file.now set.now)) }
+    ensures answer_numbers { AnswerNumbers (ask_set_questions file.now set.now) result }
 {
     let mut tables = [0u16; TABLE_CELLS];
     match reader::scan::scan(file, &mut tables) {

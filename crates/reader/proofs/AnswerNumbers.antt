@@ -7,26 +7,26 @@ use Rattle.theory.specs.Rule.{count}
 use Rattle.items.specs.declared.refusal.Refusal.{Refusal}
 use Rattle.reader.specs.declared.answer.Accept.{Accept}
 use Rattle.reader.specs.declared.answer.Accept.TheVariants.{Accepted, Refused}
-use Rattle.items.specs.Question.{noNumber}
-use Rattle.reader.specs.Questions.{program_of, exceptions, constraintFacts, fileNo}
-use Rattle.reader.specs.Accept.{acceptOf, AcceptNumbers, acceptNumber}
+use Rattle.items.specs.Question.{no_number}
+use Rattle.reader.specs.Questions.{program_of, exceptions, constraint_facts, file_no}
+use Rattle.reader.specs.Accept.{accept_of, AcceptNumbers, accept_number}
 
 module _ (file : List ℕ) where
-  accept-numbers : AcceptNumbers file (acceptOf file)
-  unfolding acceptOf
-  accept-numbers =
+  accept_numbers : AcceptNumbers file (accept_of file)
+  unfolding accept_of
+  accept_numbers =
       record {
-        numbered = numbered (fileNo file);
-        facts-counted = λ h. rw (h, acceptOf);
-        rules-counted = λ h. rw (h, acceptOf);
-        exceptions-counted = λ h. rw (h, acceptOf);
-        constraints-counted = λ h. rw (h, acceptOf);
+        numbered = numbered (file_no file);
+        facts_counted = λ h. rw (h, accept_of);
+        rules_counted = λ h. rw (h, accept_of);
+        exceptions_counted = λ h. rw (h, accept_of);
+        constraints_counted = λ h. rw (h, accept_of);
       }
     where
-      numbered : (o : Option Refusal) → acceptNumber (elim o [ none ↦ Accepted (program_of file).facts (count (program_of file)) (exceptions (program_of file)) (constraintFacts (program_of file)) | some r ↦ Refused r ]) ≡ noNumber o
+      numbered : (o : Option Refusal) → accept_number (elim o [ none ↦ Accepted (program_of file).facts (count (program_of file)) (exceptions (program_of file)) (constraint_facts (program_of file)) | some r ↦ Refused r ]) ≡ no_number o
       numbered none = refl
       numbered (some r) = refl
 
   -- an answer that is the one defined, in numbers
-  pub accept-answered : (r : Accept) → r ≡ acceptOf file → (r ≡ acceptOf file) × AcceptNumbers file r
-  accept-answered r e = (e, rw e accept-numbers)
+  pub accept_answered : (r : Accept) → r ≡ accept_of file → (r ≡ accept_of file) × AcceptNumbers file r
+  accept_answered r e = (e, rw e accept_numbers)

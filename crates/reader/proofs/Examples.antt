@@ -2,73 +2,73 @@
 use Prim.Native.Nat.{ℕ, zero, suc}
 use mathlib.Core.Path.{◌≡◌, refl}
 use mathlib.Core.List.{List, [], ◌∷◌}
-use Rattle.theory.specs.Rule.{exception, constraintFact, withheld, inForce}
+use Rattle.theory.specs.Rule.{exception, constraint_fact, withheld, in_force}
 use Rattle.reader.specs.declared.answer.Accept.TheVariants.{Accepted}
-use Rattle.items.specs.Item.{bodyLength, item_of}
-use Rattle.cursors.specs.Cursor.{front, itemsAt}
-use Rattle.reader.specs.Questions.{fileQuestions, exceptions, constraintFacts}
-use Rattle.reader.specs.Accept.{acceptOf, acceptNumber}
+use Rattle.items.specs.Item.{body_length, item_of}
+use Rattle.cursors.specs.Cursor.{front, items_at}
+use Rattle.reader.specs.Questions.{file_questions, exceptions, constraint_facts}
+use Rattle.reader.specs.Accept.{accept_of, accept_number}
 
 -- so many premises 0, and what follows; and a rule with them
 abbrev pub repeated : ℕ → List ℕ → List ℕ
 repeated zero after = after
 repeated (suc n) after = 0x02 ∷ 0x00 ∷ repeated n after
 
-abbrev pub withPremises : ℕ → List ℕ → List ℕ
-withPremises n after = 0x01 ∷ 0x00 ∷ repeated n after
+abbrev pub with_premises : ℕ → List ℕ → List ℕ
+with_premises n after = 0x01 ∷ 0x00 ∷ repeated n after
 
 pub record Files : Type 0 where
-  pub nothing : acceptNumber (acceptOf []) ≡ 2
-  pub no_more : acceptNumber (acceptOf (0x10 ∷ 0x01 ∷ [])) ≡ 3
-  pub other-kind : acceptNumber (acceptOf (0x10 ∷ 0x01 ∷ 0x05 ∷ [])) ≡ 4
-  pub second-count : acceptNumber (acceptOf (0x10 ∷ 0x01 ∷ 0x10 ∷ 0x01 ∷ [])) ≡ 4
-  pub no_body : acceptNumber (acceptOf (0x10 ∷ 0x01 ∷ 0x01 ∷ [])) ≡ 5
-  pub fact-too-high : acceptNumber (acceptOf (0x10 ∷ 0x01 ∷ 0x01 ∷ 0x01 ∷ [])) ≡ 6
-  pub no-rule : acceptNumber (acceptOf (0x10 ∷ 0x01 ∷ 0x02 ∷ 0x00 ∷ [])) ≡ 7
-  pub wrong-count : acceptNumber (acceptOf (0x10 ∷ 0x00 ∷ 0x1F ∷ 0x00 ∷ 0x01 ∷ [])) ≡ 9
-  pub one-byte-more : acceptNumber (acceptOf (0x10 ∷ 0x00 ∷ 0x1F ∷ 0x00 ∷ 0x00 ∷ 0x00 ∷ [])) ≡ 10
+  pub nothing : accept_number (accept_of []) ≡ 2
+  pub no_more : accept_number (accept_of (0x10 ∷ 0x01 ∷ [])) ≡ 3
+  pub other-kind : accept_number (accept_of (0x10 ∷ 0x01 ∷ 0x05 ∷ [])) ≡ 4
+  pub second_count : accept_number (accept_of (0x10 ∷ 0x01 ∷ 0x10 ∷ 0x01 ∷ [])) ≡ 4
+  pub no_body : accept_number (accept_of (0x10 ∷ 0x01 ∷ 0x01 ∷ [])) ≡ 5
+  pub fact_too_high : accept_number (accept_of (0x10 ∷ 0x01 ∷ 0x01 ∷ 0x01 ∷ [])) ≡ 6
+  pub no_rule : accept_number (accept_of (0x10 ∷ 0x01 ∷ 0x02 ∷ 0x00 ∷ [])) ≡ 7
+  pub wrong_count : accept_number (accept_of (0x10 ∷ 0x00 ∷ 0x1F ∷ 0x00 ∷ 0x01 ∷ [])) ≡ 9
+  pub one_byte_more : accept_number (accept_of (0x10 ∷ 0x00 ∷ 0x1F ∷ 0x00 ∷ 0x00 ∷ 0x00 ∷ [])) ≡ 10
   -- E: no fact and no rule
-  pub empty : acceptOf (0x10 ∷ 0x00 ∷ 0x1F ∷ 0x00 ∷ 0x00 ∷ []) ≡ Accepted 0 0 0 0
+  pub empty : accept_of (0x10 ∷ 0x00 ∷ 0x1F ∷ 0x00 ∷ 0x00 ∷ []) ≡ Accepted 0 0 0 0
   -- C: 0 < !1; 1 < !2
-  pub two-exceptions : acceptOf (0x10 ∷ 0x03 ∷ 0x01 ∷ 0x00 ∷ 0x03 ∷ 0x01 ∷ 0x01 ∷ 0x01 ∷ 0x03 ∷ 0x02 ∷ 0x1F ∷ 0x00 ∷ 0x02 ∷ []) ≡ Accepted 3 2 2 2
+  pub two_exceptions : accept_of (0x10 ∷ 0x03 ∷ 0x01 ∷ 0x00 ∷ 0x03 ∷ 0x01 ∷ 0x01 ∷ 0x01 ∷ 0x03 ∷ 0x02 ∷ 0x1F ∷ 0x00 ∷ 0x02 ∷ []) ≡ Accepted 3 2 2 2
   -- rules of 24 and of 25 items
-  pub two-at-the-cap : acceptOf (0x10 ∷ 0x01 ∷ withPremises 24 (withPremises 24 (0x1F ∷ 0x00 ∷ 0x02 ∷ []))) ≡ Accepted 1 2 0 0
-  pub twenty-five : acceptNumber (acceptOf (0x10 ∷ 0x01 ∷ withPremises 25 (0x1F ∷ 0x00 ∷ 0x01 ∷ []))) ≡ 51
-  pub a-constraint-more : acceptNumber (acceptOf (0x10 ∷ 0x01 ∷ withPremises 24 (0x03 ∷ 0x00 ∷ []))) ≡ 51
-  pub too-high-first : acceptNumber (acceptOf (0x10 ∷ 0x01 ∷ withPremises 24 (0x03 ∷ 0x01 ∷ []))) ≡ 6
-  pub no-rule-first : acceptNumber (acceptOf (0x10 ∷ 0x01 ∷ repeated 25 [])) ≡ 7
+  pub two_at_the_cap : accept_of (0x10 ∷ 0x01 ∷ with_premises 24 (with_premises 24 (0x1F ∷ 0x00 ∷ 0x02 ∷ []))) ≡ Accepted 1 2 0 0
+  pub twenty_five : accept_number (accept_of (0x10 ∷ 0x01 ∷ with_premises 25 (0x1F ∷ 0x00 ∷ 0x01 ∷ []))) ≡ 51
+  pub a_constraint_more : accept_number (accept_of (0x10 ∷ 0x01 ∷ with_premises 24 (0x03 ∷ 0x00 ∷ []))) ≡ 51
+  pub too_high_first : accept_number (accept_of (0x10 ∷ 0x01 ∷ with_premises 24 (0x03 ∷ 0x01 ∷ []))) ≡ 6
+  pub no_rule_first : accept_number (accept_of (0x10 ∷ 0x01 ∷ repeated 25 [])) ≡ 7
   -- unread facts: 1 is unread, once and twice; 0 < !1, !2 is withheld, so neither 1 nor 2 is a constraint fact; 0 < 1 is plain
-  pub unread-withholds : acceptOf (0x10 ∷ 0x03 ∷ 0x07 ∷ 0x01 ∷ 0x01 ∷ 0x00 ∷ 0x03 ∷ 0x02 ∷ 0x03 ∷ 0x01 ∷ 0x1F ∷ 0x00 ∷ 0x01 ∷ []) ≡ Accepted 3 1 1 0
-  pub unread-twice : acceptOf (0x10 ∷ 0x02 ∷ 0x07 ∷ 0x01 ∷ 0x07 ∷ 0x01 ∷ 0x01 ∷ 0x00 ∷ 0x02 ∷ 0x01 ∷ 0x1F ∷ 0x00 ∷ 0x01 ∷ []) ≡ Accepted 2 1 0 0
-  pub unread-late : acceptNumber (acceptOf (0x10 ∷ 0x02 ∷ 0x01 ∷ 0x00 ∷ 0x07 ∷ 0x01 ∷ [])) ≡ 56
-  pub unread-too-high-first : acceptNumber (acceptOf (0x10 ∷ 0x02 ∷ 0x01 ∷ 0x00 ∷ 0x07 ∷ 0x02 ∷ [])) ≡ 6
-  pub unread-last : acceptNumber (acceptOf (0x10 ∷ 0x02 ∷ 0x07 ∷ 0x01 ∷ [])) ≡ 3
-  pub unread-no-body : acceptNumber (acceptOf (0x10 ∷ 0x02 ∷ 0x07 ∷ [])) ≡ 5
+  pub unread_withholds : accept_of (0x10 ∷ 0x03 ∷ 0x07 ∷ 0x01 ∷ 0x01 ∷ 0x00 ∷ 0x03 ∷ 0x02 ∷ 0x03 ∷ 0x01 ∷ 0x1F ∷ 0x00 ∷ 0x01 ∷ []) ≡ Accepted 3 1 1 0
+  pub unread_twice : accept_of (0x10 ∷ 0x02 ∷ 0x07 ∷ 0x01 ∷ 0x07 ∷ 0x01 ∷ 0x01 ∷ 0x00 ∷ 0x02 ∷ 0x01 ∷ 0x1F ∷ 0x00 ∷ 0x01 ∷ []) ≡ Accepted 2 1 0 0
+  pub unread_late : accept_number (accept_of (0x10 ∷ 0x02 ∷ 0x01 ∷ 0x00 ∷ 0x07 ∷ 0x01 ∷ [])) ≡ 56
+  pub unread_too_high_first : accept_number (accept_of (0x10 ∷ 0x02 ∷ 0x01 ∷ 0x00 ∷ 0x07 ∷ 0x02 ∷ [])) ≡ 6
+  pub unread_last : accept_number (accept_of (0x10 ∷ 0x02 ∷ 0x07 ∷ 0x01 ∷ [])) ≡ 3
+  pub unread_no_body : accept_number (accept_of (0x10 ∷ 0x02 ∷ 0x07 ∷ [])) ≡ 5
 
 pub files : Files
-unfolding acceptOf exceptions constraintFacts exception constraintFact fileQuestions itemsAt front bodyLength item_of inForce withheld
+unfolding accept_of exceptions constraint_facts exception constraint_fact file_questions items_at front body_length item_of in_force withheld
 files =
     record {
       nothing = refl;
       no_more = refl;
       other-kind = refl;
-      second-count = refl;
+      second_count = refl;
       no_body = refl;
-      fact-too-high = refl;
-      no-rule = refl;
-      wrong-count = refl;
-      one-byte-more = refl;
+      fact_too_high = refl;
+      no_rule = refl;
+      wrong_count = refl;
+      one_byte_more = refl;
       empty = refl;
-      two-exceptions = refl;
-      two-at-the-cap = refl;
-      twenty-five = refl;
-      a-constraint-more = refl;
-      too-high-first = refl;
-      no-rule-first = refl;
-      unread-withholds = refl;
-      unread-twice = refl;
-      unread-late = refl;
-      unread-too-high-first = refl;
-      unread-last = refl;
-      unread-no-body = refl;
+      two_exceptions = refl;
+      two_at_the_cap = refl;
+      twenty_five = refl;
+      a_constraint_more = refl;
+      too_high_first = refl;
+      no_rule_first = refl;
+      unread_withholds = refl;
+      unread_twice = refl;
+      unread_late = refl;
+      unread_too_high_first = refl;
+      unread_last = refl;
+      unread_no_body = refl;
     }

@@ -9,14 +9,14 @@ use Rattle.items.specs.declared.refusal.Refusal.{Refusal}
 use Rattle.reader.specs.declared.answer.Accept.TheVariants as accept
 use Rattle.reader.specs.declared.answer.FileCounts.{FileCounts}
 use Rattle.reader.specs.declared.answer.Asked.TheVariants.{Yes, No}
-use Rattle.reader.specs.Questions.{program_of, fileNo, exceptions, constraintFacts}
-use Rattle.reader.specs.Asked.{asked_of, countsOf, fileAsked}
+use Rattle.reader.specs.Questions.{program_of, file_no, exceptions, constraint_facts}
+use Rattle.reader.specs.Asked.{asked_of, counts_of, file_asked}
 use Rattle.reader.specs.Accepted.{Accepted}
-use Rattle.reader.specs.Accept.{acceptOf}
+use Rattle.reader.specs.Accept.{accept_of}
 
 -- A no is the answer, and nothing is promised of the tables.
-pub said-no : {o : Option Refusal} {A : Type 0} {r : Refusal} (counts : FileCounts) → o ≡ some r → (No r ≡ asked_of o counts) × (◌≡◌ {A = Option Refusal} o none → A)
-said-no {o} {A} {r} counts e = (sym (ap (λ (x : Option Refusal). asked_of x counts) e), λ h. absurd (never (sym e ∙ h)))
+pub said_no : {o : Option Refusal} {A : Type 0} {r : Refusal} (counts : FileCounts) → o ≡ some r → (No r ≡ asked_of o counts) × (◌≡◌ {A = Option Refusal} o none → A)
+said_no {o} {A} {r} counts e = (sym (ap (λ (x : Option Refusal). asked_of x counts) e), λ h. absurd (never (sym e ∙ h)))
   where
     never : ◌≡◌ {A = Option Refusal} (some r) none → ⊥
     never q = let z : ◌≡◌ {A = ℕ} 0 1 = cc in omega arith
@@ -33,8 +33,8 @@ asked-yes none counts told e = (refl, (cc))
 asked-yes (some n) counts told e = absurd (let z : ◌≡◌ {A = ℕ} 0 1 = cc in omega arith)
 
 -- the counts of an accepted file, told in one or one by one
-pub counts-told : (s : List ℕ) (counts : FileCounts) → ◌≡◌ {A = Option Refusal} (fileNo s) none → counts ≡ countsOf (program_of s) → Accepted s counts
-counts-told s counts a e =
+pub counts_told : (s : List ℕ) (counts : FileCounts) → ◌≡◌ {A = Option Refusal} (file_no s) none → counts ≡ counts_of (program_of s) → Accepted s counts
+counts_told s counts a e =
     record {
       accepted = a;
       facts = ap (λ (x : FileCounts). x.facts) e;
@@ -43,22 +43,22 @@ counts-told s counts a e =
       constrained = ap (λ (x : FileCounts). x.constrained) e;
     }
 
-pub told-counts : {s : List ℕ} {counts : FileCounts} → Accepted s counts → counts ≡ countsOf (program_of s)
+pub told-counts : {s : List ℕ} {counts : FileCounts} → Accepted s counts → counts ≡ counts_of (program_of s)
 told-counts a = λ j. record { facts = a.facts j; rules = a.rules j; exceptions = a.exceptions j; constrained = a.constrained j }
 
 module _ (s : List ℕ) where
-  pub file-no : (r : Refusal) → fileAsked s ≡ No r → fileNo s ≡ some r
-  file-no r e = asked-no (fileNo s) (countsOf (program_of s)) r e
+  pub file-no : (r : Refusal) → file_asked s ≡ No r → file_no s ≡ some r
+  file-no r e = asked-no (file_no s) (counts_of (program_of s)) r e
 
-  pub file-yes : (counts : FileCounts) → fileAsked s ≡ Yes counts → Accepted s counts
-  file-yes counts e =
-      let t = asked-yes (fileNo s) (countsOf (program_of s)) counts e in
-      counts-told s counts t.0 (sym t.1)
+  pub file_yes : (counts : FileCounts) → file_asked s ≡ Yes counts → Accepted s counts
+  file_yes counts e =
+      let t = asked-yes (file_no s) (counts_of (program_of s)) counts e in
+      counts_told s counts t.0 (sym t.1)
 
-  pub refused-answer : (r : Refusal) → fileNo s ≡ some r → accept.Refused r ≡ acceptOf s
-  unfolding acceptOf
-  refused-answer r e = rw (e, acceptOf)
+  pub refused-answer : (r : Refusal) → file_no s ≡ some r → accept.Refused r ≡ accept_of s
+  unfolding accept_of
+  refused-answer r e = rw (e, accept_of)
 
-  pub accepted-answer : (f r e k : ℕ) → ◌≡◌ {A = Option Refusal} (fileNo s) none → f ≡ (program_of s).facts → r ≡ count (program_of s) → e ≡ exceptions (program_of s) → k ≡ constraintFacts (program_of s) → accept.Accepted f r e k ≡ acceptOf s
-  unfolding acceptOf
-  accepted-answer f r e k q a b c d = rw (q, acceptOf, a, b, c, d)
+  pub accepted_answer : (f r e k : ℕ) → ◌≡◌ {A = Option Refusal} (file_no s) none → f ≡ (program_of s).facts → r ≡ count (program_of s) → e ≡ exceptions (program_of s) → k ≡ constraint_facts (program_of s) → accept.Accepted f r e k ≡ accept_of s
+  unfolding accept_of
+  accepted_answer f r e k q a b c d = rw (q, accept_of, a, b, c, d)

@@ -24,27 +24,27 @@ same_item : {r : Read} {j i : Item} {d d' : Cursor} → r ≡ Found j d → r �
 same_item e q = cc
 
 module _ {facts : ℕ} {s : List ℕ} {c₀ : Cursor} {T marks : List ℕ} {c : Cursor} (w : Scanning facts s c₀ T marks c unopened) (d : Cursor) where
-  pub taken-at-refusal : {r : Refusal} → next_at s c ≡ Refused r d → UnreadTaken facts s c₀ T marks c
-  taken-at-refusal e = record { scanned = w; rest-late = λ i d' q f is z. never cc }
+  pub taken-at_refusal : {r : Refusal} → next_at s c ≡ Refused r d → UnreadTaken facts s c₀ T marks c
+  taken-at_refusal e = record { scanned = w; rest_late = λ i d' q f is z. never cc }
 
-  pub taken-at-end : next_at s c ≡ Ended d → UnreadTaken facts s c₀ T marks c
-  taken-at-end e = record { scanned = w; rest-late = λ i d' q f is z. never cc }
+  pub taken-at_end : next_at s c ≡ Ended d → UnreadTaken facts s c₀ T marks c
+  taken-at_end e = record { scanned = w; rest_late = λ i d' q f is z. never cc }
 
-  pub taken-at-other : {j : Item} → next_at s c ≡ Found j d → Tagged (0 ∷ 1 ∷ 2 ∷ 3 ∷ 4 ∷ 5 ∷ 6 ∷ []) j → UnreadTaken facts s c₀ T marks c
-  taken-at-other {j} e k =
+  pub taken-at_other : {j : Item} → next_at s c ≡ Found j d → Tagged (0 ∷ 1 ∷ 2 ∷ 3 ∷ 4 ∷ 5 ∷ 6 ∷ []) j → UnreadTaken facts s c₀ T marks c
+  taken-at_other {j} e k =
       record {
         scanned = w;
-        rest-late = λ i d' q f is z.
+        rest_late = λ i d' q f is z.
             let said : (class_of j).unread ≡ some f = ap (λ (x : Item). (class_of x).unread) (same_item e q ∙ is) in
             let none_said : ◌≡◌ {A = Option FactId} (class_of j).unread none = unsaid (by_tags j).unread (0 ∷ 1 ∷ 2 ∷ 3 ∷ 4 ∷ 5 ∷ 6 ∷ []) (tt, tt) k in
             never cc;
       }
 
-  pub taken-at-high : {f : FactId} → next_at s c ≡ Found (Unread f) d → facts ≤ f.0 → UnreadTaken facts s c₀ T marks c
-  taken-at-high {f} e high =
+  pub taken-at_high : {f : FactId} → next_at s c ≡ Found (Unread f) d → facts ≤ f.0 → UnreadTaken facts s c₀ T marks c
+  taken-at_high {f} e high =
       record {
         scanned = w;
-        rest-late = λ i d' q g is z.
+        rest_late = λ i d' q g is z.
             let named : Unread f ≡ Unread g = same_item e q ∙ is in
             let same : f ≡ g = cc in
             rw same at high;

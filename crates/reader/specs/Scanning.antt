@@ -1,17 +1,17 @@
 -- Internal: what the scan has done where it stands at an item of the body: its verdict, its tables, its counts, and what is unread.
 use Rattle.std.specs.Prelude.{ℕ, zero, suc, ◌+◌, ◌*◌, ◌<◌, ◌≤◌, ◌≡◌, Bool, false, cond, not, ◌&&◌, ◌||◌, List, [], ◌∷◌, ◌++◌, length, get_or, drop, eqb, leb}
-use Rattle.theory.specs.Rule.{any, mem, howMany, up_to, Rule, FactSet, blank, null}
+use Rattle.theory.specs.Rule.{any, mem, how_many, up_to, Rule, FactSet, blank, null}
 use Rattle.items.specs.declared.item.FactId.{FactId}
 use Rattle.items.specs.declared.item.Item.{Item}
 use Rattle.items.specs.declared.item.Item.TheVariants.{Unread}
 use Rattle.cursors.specs.declared.cursor.Cursor.{Cursor}
 use Rattle.cursors.specs.declared.cursor.Row.TheVariants.{Body}
 use Rattle.cursors.specs.declared.cursor.Read.TheVariants.{Found}
-use Rattle.items.specs.Item.{narrow, maxFacts, maxRules, maxRuleItems, maxBytes, has}
-use Rattle.items.specs.Question.{firstNo}
-use Rattle.cursors.specs.Cursor.{Token, next_at, itemsAt}
-use Rattle.stores.specs.Stores.{isUnread}
-use Rattle.tables.specs.Layout.{tableCells, unreadIn, withheldIn, conclusionIn, place_in, premiseStart, constraintStart, premiseAt, constraintAt, span}
+use Rattle.items.specs.Item.{narrow, max_facts, max_rules, max_rule_items, max_bytes, has}
+use Rattle.items.specs.Question.{first_no}
+use Rattle.cursors.specs.Cursor.{Token, next_at, items_at}
+use Rattle.stores.specs.Stores.{is_unread}
+use Rattle.tables.specs.Layout.{table_cells, unread_in, withheld_in, conclusion_in, place_in, premise_start, constraint_start, premise_at, constraint_at, span}
 use Rattle.reader.specs.declared.answer.Asked.{Asked}
 use Rattle.reader.specs.declared.answer.Asked.TheVariants.{Yes, No}
 use Rattle.reader.specs.declared.answer.FileCounts.{FileCounts}
@@ -20,10 +20,10 @@ use Rattle.items.specs.declared.refusal.Refusal.TheVariants.{FactTooHigh, NoRule
 use Rattle.reader.specs.declared.step.Progress.{Progress}
 use Rattle.reader.specs.declared.step.Step.{Step}
 use Rattle.reader.specs.declared.step.Step.TheVariants.{On, Ended, Refused}
-use Rattle.reader.specs.Questions.{premisesOf, constraintsOf, rulesOf, behindRules, unreadOf, bodyQuestions, Scan}
-use Rattle.reader.specs.Asked.{asked_of, countsOf}
+use Rattle.reader.specs.Questions.{premises_of, constraints_of, rules_of, behind_rules, unread_of, body_questions, Scan}
+use Rattle.reader.specs.Asked.{asked_of, counts_of}
 use Rattle.reader.specs.Scanned.{RuleAt}
-use Rattle.reader.specs.BodyScanned.{programFrom, bodyNo, BodyScanned}
+use Rattle.reader.specs.BodyScanned.{program_from, body_no, BodyScanned}
 
 -- The count of facts, the rules opened so far, and the premises and constraints of the last of them.
 abbrev pub seen : ℕ → ℕ → ℕ → Scan
@@ -32,11 +32,11 @@ seen facts n own = record { facts = facts; rules = n; own = own }
 -- A walk along the body: what is to come gives the first no of the whole.
 pub record Along (s : List ℕ) (c₀ : Cursor) (facts : ℕ) (c : Cursor) (n own : ℕ) : Type 0 where
   pub body : c.row ≡ Body
-  pub same : bodyNo facts s c₀ ≡ firstNo (bodyQuestions (seen facts n own) (itemsAt s c))
+  pub same : body_no facts s c₀ ≡ first_no (body_questions (seen facts n own) (items_at s c))
 
 -- What a premise or a constraint gets where none is allowed: no rule is opened, or the last of n rules has as many as it may.
-abbrev pub noneAllowed : ℕ → Refusal
-noneAllowed n = cond (eqb n 0) NoRuleOpened RuleTooLong
+abbrev pub none_allowed : ℕ → Refusal
+none_allowed n = cond (eqb n 0) NoRuleOpened RuleTooLong
 
 -- One row of the tables, the premises of all rules or their constraints: the parts of the rules before the last are whole, and what is read of the
 -- last goes on with what is ahead.
@@ -44,26 +44,26 @@ pub record Filled (part : ℕ → List ℕ) (start row : ℕ → ℕ) (n at : �
   pub low : (i : ℕ) → i + 1 < n → start i ≤ start (i + 1)
   pub high : (i : ℕ) → i + 1 < n → start (i + 1) ≤ at
   pub done : (i : ℕ) → i + 1 < n → span row (start i) (start (i + 1)) ≡ part i
-  pub last-low : (i : ℕ) → i + 1 ≡ n → start i ≤ at
+  pub last_low : (i : ℕ) → i + 1 ≡ n → start i ≤ at
   pub last : (i : ℕ) → i + 1 ≡ n → span row (start i) at ++ ahead ≡ part i
 
 -- The rule numbered i of those from a cursor on.
-abbrev pub ruleFrom : List ℕ → Cursor → ℕ → Rule
-ruleFrom s c i = get_or (rulesOf (itemsAt s c)) i blank
+abbrev pub rule_from : List ℕ → Cursor → ℕ → Rule
+rule_from s c i = get_or (rules_of (items_at s c)) i blank
 
 pub record Storing (s : List ℕ) (c₀ c : Cursor) (T : List ℕ) (n allowance filled barred : ℕ) : Type 0 where
   -- the rules to come, and what stands behind the opening item of each
-  pub passed : drop n (rulesOf (itemsAt s c₀)) ≡ rulesOf (itemsAt s c)
-  pub behind : drop n (behindRules (itemsAt s c₀)) ≡ behindRules (itemsAt s c)
-  pub total : length (rulesOf (itemsAt s c₀)) ≡ n + length (rulesOf (itemsAt s c))
-  pub few : n ≤ maxRules
-  pub size : length T ≡ tableCells
-  pub conclusions : (i : ℕ) → i < n → conclusionIn T i ≡ (ruleFrom s c₀ i).conclusion
+  pub passed : drop n (rules_of (items_at s c₀)) ≡ rules_of (items_at s c)
+  pub behind : drop n (behind_rules (items_at s c₀)) ≡ behind_rules (items_at s c)
+  pub total : length (rules_of (items_at s c₀)) ≡ n + length (rules_of (items_at s c))
+  pub few : n ≤ max_rules
+  pub size : length T ≡ table_cells
+  pub conclusions : (i : ℕ) → i < n → conclusion_in T i ≡ (rule_from s c₀ i).conclusion
   pub places : (i : ℕ) → i < n → RuleAt s c₀ (place_in T i) i
-  pub premises : Filled (λ i. (ruleFrom s c₀ i).premises) (premiseStart T) (premiseAt T) n filled (premisesOf (itemsAt s c))
-  pub constraints : Filled (λ i. (ruleFrom s c₀ i).constraints) (constraintStart T) (constraintAt T) n barred (constraintsOf (itemsAt s c))
+  pub premises : Filled (λ i. (rule_from s c₀ i).premises) (premise_start T) (premise_at T) n filled (premises_of (items_at s c))
+  pub constraints : Filled (λ i. (rule_from s c₀ i).constraints) (constraint_start T) (constraint_at T) n barred (constraints_of (items_at s c))
   -- the last rule may have so many more
-  pub within : filled + barred + allowance ≤ maxRuleItems * n
+  pub within : filled + barred + allowance ≤ max_rule_items * n
 
 -- k is a constraint of some of the rules
 abbrev pub constrained : List Rule → ℕ → Bool
@@ -71,9 +71,9 @@ constrained [] k = false
 constrained (r ∷ rs) k = mem k r.constraints || constrained rs k
 
 -- how many of the rules have a constraint
-abbrev pub withConstraint : List Rule → ℕ
-withConstraint [] = 0
-withConstraint (r ∷ rs) = cond (not (null r.constraints)) (suc (withConstraint rs)) (withConstraint rs)
+abbrev pub with_constraint : List Rule → ℕ
+with_constraint [] = 0
+with_constraint (r ∷ rs) = cond (not (null r.constraints)) (suc (with_constraint rs)) (with_constraint rs)
 
 -- the constraints ahead, once a rule is opened that has them
 abbrev pub owned_by : ℕ → List ℕ → List ℕ
@@ -81,34 +81,34 @@ owned_by zero fs = []
 owned_by (suc n) fs = fs
 
 -- k is a constraint that is to come, of the last of n rules or of a later one
-abbrev pub toCome : ℕ → List Token → ℕ → Bool
-toCome n ts k = mem k (owned_by n (constraintsOf ts)) || constrained (rulesOf ts) k
+abbrev pub to_come : ℕ → List Token → ℕ → Bool
+to_come n ts k = mem k (owned_by n (constraints_of ts)) || constrained (rules_of ts) k
 
 -- What is counted where so many facts are unread: a fact that is marked is read and a constraint of some rule, withheld or not.
 pub record Counting (facts : ℕ) (s : List ℕ) (c₀ c : Cursor) (unread : FactSet) (marks : List ℕ) (n exceptions plain : ℕ) : Type 0 where
-  pub rules : withConstraint (rulesOf (itemsAt s c₀)) ≡ exceptions + (cond (null (owned_by n (constraintsOf (itemsAt s c)))) 0 plain + withConstraint (rulesOf (itemsAt s c)))
+  pub rules : with_constraint (rules_of (items_at s c₀)) ≡ exceptions + (cond (null (owned_by n (constraints_of (items_at s c)))) 0 plain + with_constraint (rules_of (items_at s c)))
   pub few : exceptions + plain ≤ n
-  pub size : length marks ≡ maxFacts narrow
-  pub marks-show : (k : ℕ) → not (unread k) && constrained (rulesOf (itemsAt s c₀)) k ≡ has marks k || not (unread k) && toCome n (itemsAt s c) k
-  pub unread-shown : (k : ℕ) → k < maxFacts narrow → isUnread marks k ≡ unread k
-  pub none-marked : n ≡ 0 → (k : ℕ) → has marks k ≡ false
+  pub size : length marks ≡ max_facts narrow
+  pub marks_show : (k : ℕ) → not (unread k) && constrained (rules_of (items_at s c₀)) k ≡ has marks k || not (unread k) && to_come n (items_at s c) k
+  pub unread_shown : (k : ℕ) → k < max_facts narrow → is_unread marks k ≡ unread k
+  pub none_marked : n ≡ 0 → (k : ℕ) → has marks k ≡ false
 
 -- What is told of the unread facts, and of the rules that are withheld, of n rules opened.
 pub record Holding (facts : ℕ) (s : List ℕ) (c₀ c : Cursor) (T : List ℕ) (n : ℕ) : Type 0 where
   -- those marked, and those to come, are all that the file names
-  pub named : (f : ℕ) → mem f (unreadOf (itemsAt s c₀)) ≡ unreadIn T facts f || mem f (unreadOf (itemsAt s c))
+  pub named : (f : ℕ) → mem f (unread_of (items_at s c₀)) ≡ unread_in T facts f || mem f (unread_of (items_at s c))
   -- each rule before the last, the last with the constraints ahead of it, and those that are not opened yet
-  pub done : (i : ℕ) → i + 1 < n → withheldIn T i ≡ any (unreadIn T facts) (ruleFrom s c₀ i).constraints
-  pub last : (i : ℕ) → i + 1 ≡ n → withheldIn T i || any (unreadIn T facts) (constraintsOf (itemsAt s c)) ≡ any (unreadIn T facts) (ruleFrom s c₀ i).constraints
-  pub later : (i : ℕ) → n ≤ i → i < maxRules → withheldIn T i ≡ false
+  pub done : (i : ℕ) → i + 1 < n → withheld_in T i ≡ any (unread_in T facts) (rule_from s c₀ i).constraints
+  pub last : (i : ℕ) → i + 1 ≡ n → withheld_in T i || any (unread_in T facts) (constraints_of (items_at s c)) ≡ any (unread_in T facts) (rule_from s c₀ i).constraints
+  pub later : (i : ℕ) → n ≤ i → i < max_rules → withheld_in T i ≡ false
 
 pub record Scanning (facts : ℕ) (s : List ℕ) (c₀ : Cursor) (T marks : List ℕ) (c : Cursor) (p : Progress) : Type 0 where
   -- the premises and constraints that the rule last opened has so far
   pub own : ℕ
-  pub left : (p.rules ≡ 0 → ⊥) → own + p.allowance ≡ maxRuleItems
+  pub left : (p.rules ≡ 0 → ⊥) → own + p.allowance ≡ max_rule_items
   pub verdict : Along s c₀ facts c p.rules own
   pub tables : Storing s c₀ c T p.rules p.allowance p.filled p.barred
-  pub counts : Counting facts s c₀ c (unreadIn T facts) marks p.rules p.exceptions p.plain
+  pub counts : Counting facts s c₀ c (unread_in T facts) marks p.rules p.exceptions p.plain
   pub withheld : Holding facts s c₀ c T p.rules
 
 -- No rule is opened yet.
@@ -119,38 +119,38 @@ unopened = record { rules = 0; allowance = 0; filled = 0; barred = 0; exceptions
 abbrev pub Late : ℕ → Item → Progress → Type 0
 Late facts i p = (f : FactId) → i ≡ Unread f → p.rules ≡ 0 → facts ≤ f.0
 
-abbrev pub lateNo : ℕ → FactId → Refusal
-lateNo facts f = cond (leb facts f.0) FactTooHigh UnreadAfterRule
+abbrev pub late_no : ℕ → FactId → Refusal
+late_no facts f = cond (leb facts f.0) FactTooHigh UnreadAfterRule
 
 -- The unread facts from c₀ up to c are taken, and no more are to come before a rule.
 pub record UnreadTaken (facts : ℕ) (s : List ℕ) (c₀ : Cursor) (T marks : List ℕ) (c : Cursor) : Type 0 where
   pub scanned : Scanning facts s c₀ T marks c unopened
-  pub rest-late : (i : Item) (d : Cursor) → next_at s c ≡ Found i d → Late facts i unopened
+  pub rest_late : (i : Item) (d : Cursor) → next_at s c ≡ Found i d → Late facts i unopened
 
 -- What the scan of the body promises.
 abbrev pub Answered : ℕ → List ℕ → Cursor → List ℕ → Asked → Type 0
-Answered facts s c₀ T r = (r ≡ asked_of (bodyNo facts s c₀) (countsOf (programFrom facts s c₀))) × BodyScanned facts s c₀ T
+Answered facts s c₀ T r = (r ≡ asked_of (body_no facts s c₀) (counts_of (program_from facts s c₀))) × BodyScanned facts s c₀ T
 
 -- The counts of a file that ends where so much is read, and so many facts are marked.
-abbrev pub countsRead : ℕ → List ℕ → Progress → FileCounts
-countsRead facts marks p = record { facts = facts; rules = p.rules; exceptions = p.exceptions; constrained = howMany (has marks) (up_to facts) }
+abbrev pub counts_read : ℕ → List ℕ → Progress → FileCounts
+counts_read facts marks p = record { facts = facts; rules = p.rules; exceptions = p.exceptions; constrained = how_many (has marks) (up_to facts) }
 
 -- An item is scanned: the scan stands at the next one, or it is over. p is what was read before.
 pub record Stepped (facts : ℕ) (s : List ℕ) (c₀ : Cursor) (T marks : List ℕ) (d : Cursor) (p : Progress) (r : Step) : Type 0 where
   pub on : (q : Progress) → r ≡ On q → Scanning facts s c₀ T marks d q
   pub opened : (q : Progress) → r ≡ On q → q.rules ≡ 0 → ⊥
-  pub ended : r ≡ Ended → Answered facts s c₀ T (Yes (countsRead facts marks p))
+  pub ended : r ≡ Ended → Answered facts s c₀ T (Yes (counts_read facts marks p))
   pub refused : (n : Refusal) → r ≡ Refused n → Answered facts s c₀ T (No n)
 
 -- So it is in every file that has the item where the scan stands. T and marks are those before, T' and marks' those after.
 abbrev pub Scans : ℕ → List ℕ → Item → Cursor → Progress → List ℕ → List ℕ → List ℕ → List ℕ → Step → Type 0
 Scans facts s i d p T marks T' marks' r =
-    (c₀ c : Cursor) → length s ≤ maxBytes → facts < maxFacts narrow → Scanning facts s c₀ T marks c p → next_at s c ≡ Found i d → Stepped facts s c₀ T' marks' d p r
+    (c₀ c : Cursor) → length s ≤ max_bytes → facts < max_facts narrow → Scanning facts s c₀ T marks c p → next_at s c ≡ Found i d → Stepped facts s c₀ T' marks' d p r
 
 -- There is room for what an item stores that ends at d.
 pub record Room (facts : ℕ) (d : Cursor) (p : Progress) : Type 0 where
-  pub small : facts < maxFacts narrow
-  pub place : d.at ≤ maxBytes
-  pub within : p.filled + p.barred + p.allowance ≤ maxRuleItems * p.rules
-  pub rules : p.rules ≤ maxRules
+  pub small : facts < max_facts narrow
+  pub place : d.at ≤ max_bytes
+  pub within : p.filled + p.barred + p.allowance ≤ max_rule_items * p.rules
+  pub rules : p.rules ≤ max_rules
   pub exceptions : p.exceptions + p.plain ≤ p.rules

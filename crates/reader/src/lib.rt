@@ -1,6 +1,6 @@
 // Asks of a rule file whether it is accepted, and fills the tables of its program.
 ghost use Rattle.std.specs.Prelude.{◌≡◌};
-ghost use Rattle.reader.specs.Accept.{acceptOf, AcceptNumbers};
+ghost use Rattle.reader.specs.Accept.{accept_of, AcceptNumbers};
 
 pub mod answer;
 pub mod scan;
@@ -13,7 +13,7 @@ use tables::layout::TABLE_CELLS;
 
 // Is the file accepted? If so, how many facts, rules, exception rules and constraint facts does it have?
 pub fn accept(file: &[u8]) -> Accept
-    ensures value { result ≡ acceptOf file.now }
+    ensures value { result ≡ accept_of file.now }
     ensures accept_numbers { AcceptNumbers file.now result }
 {
     if unread::begins_unread(file) {
@@ -34,7 +34,7 @@ pub fn accept(file: &[u8]) -> Accept
 // The same of a file that may have unread facts: its constraint facts are counted from its tables. The other files need no tables here, and the compiler leaves them
 // out. Internal.
 fn accept_unread(file: &[u8]) -> Accept
-    ensures { result ≡ acceptOf file.now }
+    ensures { result ≡ accept_of file.now }
 {
     let mut tables = [0u16; TABLE_CELLS];
     match scan::scan(file, &mut tables) {

@@ -3,11 +3,11 @@
 ghost use Rattle.std.specs.Prelude.{◌≡◌, ◌<◌, ◌≤◌, length};
 ghost use Rattle.cursors.specs.declared.cursor.Row.TheVariants.{Body};
 ghost use Rattle.cursors.specs.declared.cursor.Cursor.{Cursor};
-ghost use Rattle.items.specs.Item.{narrow, maxFacts, maxBytes};
-ghost use Rattle.reader.specs.Asked.{asked_of, countsOf, fileAsked};
+ghost use Rattle.items.specs.Item.{narrow, max_facts, max_bytes};
+ghost use Rattle.reader.specs.Asked.{asked_of, counts_of, file_asked};
 ghost use Rattle.reader.specs.Scanned.{Scanned};
 ghost use Rattle.reader.specs.Scanning.{Scanning, Answered, unopened, UnreadTaken};
-ghost use Rattle.reader.specs.BodyScanned.{programFrom, bodyNo, BodyScanned, Cleared, Unmarked};
+ghost use Rattle.reader.specs.BodyScanned.{program_from, body_no, BodyScanned, Cleared, Unmarked};
 
 use crate::answer::{Asked, FileCounts};
 use crate::step::{Progress, Step, scan_item};
@@ -26,7 +26,7 @@ fn scan_unread(
     tables: &mut [u16; TABLE_CELLS],
     marks: &mut [u8; MAX_FACTS],
 ) -> Cursor
-    requires { (from.row ≡ Body) × (facts < maxFacts narrow) × Cleared tables.old × Unmarked marks.old }
+    requires { (from.row ≡ Body) × (facts < max_facts narrow) × Cleared tables.old × Unmarked marks.old }
     ensures { UnreadTaken facts file.now from tables.new marks.new result }
 {
     let mut cursor = from;
@@ -56,7 +56,7 @@ fn scan_rules(
     tables: &mut [u16; TABLE_CELLS],
     marks: &mut [u8; MAX_FACTS],
 ) -> Asked
-    requires { (length file.now ≤ maxBytes) × (facts < maxFacts narrow) × ((c₀ : Cursor) × UnreadTaken facts file.now c₀ tables.old marks.old from) }
+    requires { (length file.now ≤ max_bytes) × (facts < max_facts narrow) × ((c₀ : Cursor) × UnreadTaken facts file.now c₀ tables.old marks.old from) }
     ensures { (c₀ : Cursor) → Scanning facts file.now c₀ tables.old marks.old from unopened → Answered facts file.now c₀ tables.new result }
 {
     let mut cursor = from;
@@ -101,8 +101,8 @@ fn scan_body(
     tables: &mut [u16; TABLE_CELLS],
     marks: &mut [u8; MAX_FACTS],
 ) -> Asked
-    requires { (from.row ≡ Body) × (length file.now ≤ maxBytes) × (facts < maxFacts narrow) × Cleared tables.old × Unmarked marks.old }
-    ensures value { result ≡ asked_of (bodyNo facts file.now from) (countsOf (programFrom facts file.now from)) }
+    requires { (from.row ≡ Body) × (length file.now ≤ max_bytes) × (facts < max_facts narrow) × Cleared tables.old × Unmarked marks.old }
+    ensures value { result ≡ asked_of (body_no facts file.now from) (counts_of (program_from facts file.now from)) }
     ensures body_scanned { BodyScanned facts file.now from tables.new }
 {
     let start = scan_unread(file, from, facts, tables, marks);
@@ -112,7 +112,7 @@ fn scan_body(
 // Questions 1 to 10, 51 and 56.
 pub fn scan(file: &[u8], tables: &mut [u16; TABLE_CELLS]) -> Asked
     requires { Cleared tables.old }
-    ensures value { result ≡ fileAsked file.now }
+    ensures value { result ≡ file_asked file.now }
     ensures scanned { Scanned file.now tables.new }
 {
     if MAX_BYTES < file.len() {

@@ -1,7 +1,7 @@
 // One item of the body of a file: its questions in their order, then what is stored of it. Internal: `tables` and `marks` are those of the scan.
 ghost use Rattle.std.specs.Prelude.{ℕ, ◌≡◌, List, length};
 ghost use Rattle.items.specs.declared.item.Item.TheVariants.{Opens, Premise, Constraint, Rules};
-ghost use Rattle.reader.specs.Scanning.{noneAllowed, lateNo, Late, Room, Scans};
+ghost use Rattle.reader.specs.Scanning.{none_allowed, late_no, Late, Room, Scans};
 
 use cursors::cursor::Cursor;
 use items::item::{FactId, Item, MAX_FACTS, MAX_RULE_ITEMS, MAX_RULES};
@@ -31,7 +31,7 @@ pub enum Step {
 
 // Questions 7 and 51, of a premise or a constraint where none is allowed: one test of each such item asks both.
 fn none_allowed(rules: usize) -> Refusal
-    ensures { result ≡ noneAllowed rules }
+    ensures { result ≡ none_allowed rules }
 {
     if rules == 0 {
         Refusal::NoRuleOpened
@@ -132,7 +132,7 @@ fn take_constraint(
 
 // Questions 6 and 56, of an unread fact that is too high or follows a rule: the others are taken before the first rule.
 fn refuse_unread(f: FactId, facts: u16) -> Refusal
-    ensures { result ≡ lateNo facts f }
+    ensures { result ≡ late_no facts f }
 {
     if facts <= f.0 {
         Refusal::FactTooHigh

@@ -14,24 +14,24 @@ use Rattle.generator.specs.declared.answer.Loaded.{Loaded}
 use Rattle.generator.specs.Outcome as loaded
 use Rattle.replies.specs.declared.Count.{Count}
 use Rattle.replies.specs.declared.RunCounts.{RunCounts}
-use Rattle.replies.specs.Reply.{countsOfRan, countsOfSearched, RunReply, runReply, SearchReply, searchReply, countOfGrounds, GroundsReply, groundsReply, countOfLayered, LayeredReply, layeredReply, countOfLoaded, LoadReply, loadReply}
+use Rattle.replies.specs.Reply.{counts_of_ran, counts_of_searched, RunReply, run_reply, SearchReply, search_reply, count_of_grounds, GroundsReply, grounds_reply, count_of_layered, LayeredReply, layered_reply, count_of_loaded, LoadReply, load_reply}
 
-pub run-replied : (a : Ran) (r : RunCounts) (facts rules steps : List ℕ) (o : ran.RunOutcome) → r ≡ countsOfRan a → ◌≡◌ {A = ran.RunOutcome} (record { answer = a; fact-marks = facts; rule-marks = rules; steps = steps }) o → ◌≡◌ {A = RunReply} (record { reply = r; fact-marks = facts; rule-marks = rules; steps = steps }) (runReply o)
-unfolding runReply
-run-replied a r facts rules steps o said left = rw (said, ← left, runReply)
+pub run-replied : (a : Ran) (r : RunCounts) (facts rules steps : List ℕ) (o : ran.RunOutcome) → r ≡ counts_of_ran a → ◌≡◌ {A = ran.RunOutcome} (record { answer = a; fact-marks = facts; rule-marks = rules; steps = steps }) o → ◌≡◌ {A = RunReply} (record { reply = r; fact-marks = facts; rule-marks = rules; steps = steps }) (run_reply o)
+unfolding run_reply
+run-replied a r facts rules steps o said left = rw (said, ← left, run_reply)
 
-pub search-replied : (a : Searched) (r : RunCounts) (facts rules steps order : List ℕ) (o : searched.SearchOutcome) → r ≡ countsOfSearched a → ◌≡◌ {A = searched.SearchOutcome} (record { answer = a; fact-marks = facts; rule-marks = rules; steps = steps; order = order }) o → ◌≡◌ {A = SearchReply} (record { reply = r; fact-marks = facts; rule-marks = rules; steps = steps; order = order }) (searchReply o)
-unfolding searchReply
-search-replied a r facts rules steps order o said left = rw (said, ← left, searchReply)
+pub search-replied : (a : Searched) (r : RunCounts) (facts rules steps order : List ℕ) (o : searched.SearchOutcome) → r ≡ counts_of_searched a → ◌≡◌ {A = searched.SearchOutcome} (record { answer = a; fact-marks = facts; rule-marks = rules; steps = steps; order = order }) o → ◌≡◌ {A = SearchReply} (record { reply = r; fact-marks = facts; rule-marks = rules; steps = steps; order = order }) (search_reply o)
+unfolding search_reply
+search-replied a r facts rules steps order o said left = rw (said, ← left, search_reply)
 
-pub grounds-replied : (a : Grounds) (r : Count) (facts rules steps : List ℕ) (o : grounds.GroundsOutcome) → r ≡ countOfGrounds a → ◌≡◌ {A = grounds.GroundsOutcome} (record { answer = a; fact-marks = facts; rule-marks = rules; steps = steps }) o → ◌≡◌ {A = GroundsReply} (record { reply = r; fact-marks = facts; rule-marks = rules; steps = steps }) (groundsReply o)
-unfolding groundsReply
-grounds-replied a r facts rules steps o said left = rw (said, ← left, groundsReply)
+pub grounds-replied : (a : Grounds) (r : Count) (facts rules steps : List ℕ) (o : grounds.GroundsOutcome) → r ≡ count_of_grounds a → ◌≡◌ {A = grounds.GroundsOutcome} (record { answer = a; fact-marks = facts; rule-marks = rules; steps = steps }) o → ◌≡◌ {A = GroundsReply} (record { reply = r; fact-marks = facts; rule-marks = rules; steps = steps }) (grounds_reply o)
+unfolding grounds_reply
+grounds-replied a r facts rules steps o said left = rw (said, ← left, grounds_reply)
 
-pub layered-replied : (a : Layered) (r : Count) (order : List ℕ) (o : layered.LayeredOutcome) → r ≡ countOfLayered a → ◌≡◌ {A = layered.LayeredOutcome} (record { answer = a; order = order }) o → ◌≡◌ {A = LayeredReply} (record { reply = r; order = order }) (layeredReply o)
-unfolding layeredReply
-layered-replied a r order o said left = rw (said, ← left, layeredReply)
+pub layered-replied : (a : Layered) (r : Count) (order : List ℕ) (o : layered.LayeredOutcome) → r ≡ count_of_layered a → ◌≡◌ {A = layered.LayeredOutcome} (record { answer = a; order = order }) o → ◌≡◌ {A = LayeredReply} (record { reply = r; order = order }) (layered_reply o)
+unfolding layered_reply
+layered-replied a r order o said left = rw (said, ← left, layered_reply)
 
-pub load-replied : (a : Loaded) (r : Count) (out : List ℕ) (o : loaded.LoadOutcome) → r ≡ countOfLoaded a → ◌≡◌ {A = loaded.LoadOutcome} (record { answer = a; out = out }) o → ◌≡◌ {A = LoadReply} (record { reply = r; out = out }) (loadReply o)
-unfolding loadReply
-load-replied a r out o said left = rw (said, ← left, loadReply)
+pub load-replied : (a : Loaded) (r : Count) (out : List ℕ) (o : loaded.LoadOutcome) → r ≡ count_of_loaded a → ◌≡◌ {A = loaded.LoadOutcome} (record { answer = a; out = out }) o → ◌≡◌ {A = LoadReply} (record { reply = r; out = out }) (load_reply o)
+unfolding load_reply
+load-replied a r out o said left = rw (said, ← left, load_reply)

@@ -2,7 +2,7 @@
 use Rattle.std.specs.Prelude.{ℕ, List}
 use Rattle.reader.specs.declared.answer.Accept.{Accept}
 use Rattle.reader.specs.declared.answer.Accept.TheVariants.{Accepted, Refused}
-use Rattle.items.specs.Item.{narrow, stepWidth}
+use Rattle.items.specs.Item.{narrow, step_width}
 use Rattle.reader.specs.Accept as accept
 use Rattle.run.specs.declared.answer.Ran.{Ran}
 use Rattle.run.specs.Outcome as ran
@@ -23,55 +23,55 @@ use Rattle.replies.specs.declared.Count.{Count}
 use Rattle.replies.specs.declared.FileReply.{FileReply}
 use Rattle.replies.specs.declared.RunCounts.{RunCounts}
 use Rattle.replies.specs.declared.Verdict.{Verdict}
-use Rattle.reader.specs.Accept.{acceptNumber}
-use Rattle.run.specs.Outcome.{runNumber, runStages, runSteps}
-use Rattle.judge.specs.Judged.{judgedNumber, judgedVerdict}
-use Rattle.proofcheck.specs.Checked.{checkedNumber, checkedVerdict}
-use Rattle.search.specs.Outcome.{searchNumber, searchStages, searchSteps}
-use Rattle.keeping.specs.Outcome.{groundsCount, groundsNumber}
-use Rattle.layers.specs.Outcome.{layeredCount, layeredNumber}
-use Rattle.generator.specs.Outcome.{loadCount, loadNumber}
-use Rattle.better.specs.Outcome.{choiceNumber}
+use Rattle.reader.specs.Accept.{accept_number}
+use Rattle.run.specs.Outcome.{run_number, run_stages, run_steps}
+use Rattle.judge.specs.Judged.{judged_number, judged_verdict}
+use Rattle.proofcheck.specs.Checked.{checked_number, checked_verdict}
+use Rattle.search.specs.Outcome.{search_number, search_stages, search_steps}
+use Rattle.keeping.specs.Outcome.{grounds_count, grounds_number}
+use Rattle.layers.specs.Outcome.{layered_count, layered_number}
+use Rattle.generator.specs.Outcome.{load_count, load_number}
+use Rattle.better.specs.Outcome.{choice_number}
 
 -- The bytes of one step.
-abbrev pub bytesOfStep : Accept → ℕ
-bytesOfStep (Accepted f r e k) = stepWidth narrow
-bytesOfStep (Refused r) = 0
+abbrev pub bytes_of_step : Accept → ℕ
+bytes_of_step (Accepted f r e k) = step_width narrow
+bytes_of_step (Refused r) = 0
 
-unfoldable pub fileOf : Accept → FileReply
-fileOf a =
+unfoldable pub file_of : Accept → FileReply
+file_of a =
     record {
-      refusal = acceptNumber a;
+      refusal = accept_number a;
       facts = accept.facts a;
       rules = accept.rules a;
-      exceptions = accept.exceptionRules a;
+      exceptions = accept.exception_rules a;
       constraints = accept.constraints a;
-      step_bytes = bytesOfStep a;
+      step_bytes = bytes_of_step a;
     }
 
-unfoldable pub countsOfRan : Ran → RunCounts
-countsOfRan a = record { refusal = runNumber a; stages = runStages a; steps = runSteps a }
+unfoldable pub counts_of_ran : Ran → RunCounts
+counts_of_ran a = record { refusal = run_number a; stages = run_stages a; steps = run_steps a }
 
-unfoldable pub countsOfSearched : Searched → RunCounts
-countsOfSearched a = record { refusal = searchNumber a; stages = searchStages a; steps = searchSteps a }
+unfoldable pub counts_of_searched : Searched → RunCounts
+counts_of_searched a = record { refusal = search_number a; stages = search_stages a; steps = search_steps a }
 
-unfoldable pub verdictOfJudged : Judged → Verdict
-verdictOfJudged a = record { refusal = judgedNumber a; verdict = judgedVerdict a }
+unfoldable pub verdict_of_judged : Judged → Verdict
+verdict_of_judged a = record { refusal = judged_number a; verdict = judged_verdict a }
 
-unfoldable pub verdictOfChecked : Checked → Verdict
-verdictOfChecked a = record { refusal = checkedNumber a; verdict = checkedVerdict a }
+unfoldable pub verdict_of_checked : Checked → Verdict
+verdict_of_checked a = record { refusal = checked_number a; verdict = checked_verdict a }
 
-unfoldable pub countOfGrounds : Grounds → Count
-countOfGrounds a = record { refusal = groundsNumber a; count = groundsCount a }
+unfoldable pub count_of_grounds : Grounds → Count
+count_of_grounds a = record { refusal = grounds_number a; count = grounds_count a }
 
-unfoldable pub countOfLayered : Layered → Count
-countOfLayered a = record { refusal = layeredNumber a; count = layeredCount a }
+unfoldable pub count_of_layered : Layered → Count
+count_of_layered a = record { refusal = layered_number a; count = layered_count a }
 
-unfoldable pub countOfLoaded : Loaded → Count
-countOfLoaded a = record { refusal = loadNumber a; count = loadCount a }
+unfoldable pub count_of_loaded : Loaded → Count
+count_of_loaded a = record { refusal = load_number a; count = load_count a }
 
-unfoldable pub replyOfChoice : Choice → ChoiceReply
-replyOfChoice a = record { refusal = choiceNumber a; which = better.which a }
+unfoldable pub reply_of_choice : Choice → ChoiceReply
+reply_of_choice a = record { refusal = choice_number a; which = better.which a }
 
 -- The reply of a run and the three buffers, from the run's outcome.
 pub record RunReply : Type 0 where
@@ -80,10 +80,10 @@ pub record RunReply : Type 0 where
   pub rule-marks : List ℕ
   pub steps : List ℕ
 
-unfoldable pub runReply : ran.RunOutcome → RunReply
-runReply o =
+unfoldable pub run_reply : ran.RunOutcome → RunReply
+run_reply o =
     record {
-      reply = countsOfRan o.answer;
+      reply = counts_of_ran o.answer;
       fact-marks = o.fact-marks;
       rule-marks = o.rule-marks;
       steps = o.steps;
@@ -96,10 +96,10 @@ pub record GroundsReply : Type 0 where
   pub rule-marks : List ℕ
   pub steps : List ℕ
 
-unfoldable pub groundsReply : grounds.GroundsOutcome → GroundsReply
-groundsReply o =
+unfoldable pub grounds_reply : grounds.GroundsOutcome → GroundsReply
+grounds_reply o =
     record {
-      reply = countOfGrounds o.answer;
+      reply = count_of_grounds o.answer;
       fact-marks = o.fact-marks;
       rule-marks = o.rule-marks;
       steps = o.steps;
@@ -113,10 +113,10 @@ pub record SearchReply : Type 0 where
   pub steps : List ℕ
   pub order : List ℕ
 
-unfoldable pub searchReply : searched.SearchOutcome → SearchReply
-searchReply o =
+unfoldable pub search_reply : searched.SearchOutcome → SearchReply
+search_reply o =
     record {
-      reply = countsOfSearched o.answer;
+      reply = counts_of_searched o.answer;
       fact-marks = o.fact-marks;
       rule-marks = o.rule-marks;
       steps = o.steps;
@@ -128,13 +128,13 @@ pub record LayeredReply : Type 0 where
   pub reply : Count
   pub order : List ℕ
 
-unfoldable pub layeredReply : layered.LayeredOutcome → LayeredReply
-layeredReply o = record { reply = countOfLayered o.answer; order = o.order }
+unfoldable pub layered_reply : layered.LayeredOutcome → LayeredReply
+layered_reply o = record { reply = count_of_layered o.answer; order = o.order }
 
 -- The reply of making a test load and the buffer, from its outcome.
 pub record LoadReply : Type 0 where
   pub reply : Count
   pub out : List ℕ
 
-unfoldable pub loadReply : loaded.LoadOutcome → LoadReply
-loadReply o = record { reply = countOfLoaded o.answer; out = o.out }
+unfoldable pub load_reply : loaded.LoadOutcome → LoadReply
+load_reply o = record { reply = count_of_loaded o.answer; out = o.out }

@@ -1,6 +1,6 @@
 // The replies to callers in C and Rust, in plain numbers, and each answer as a reply. A refusal has its number and 0 for every other value. Internal.
 ghost use Rattle.std.specs.Prelude.{◌≡◌};
-ghost use Rattle.replies.specs.Reply.{fileOf, countsOfRan, countsOfSearched, verdictOfJudged, verdictOfChecked, countOfGrounds, countOfLayered, countOfLoaded, replyOfChoice};
+ghost use Rattle.replies.specs.Reply.{file_of, counts_of_ran, counts_of_searched, verdict_of_judged, verdict_of_checked, count_of_grounds, count_of_layered, count_of_loaded, reply_of_choice};
 
 use better::answer::Choice;
 use generator::answer::Loaded;
@@ -59,7 +59,7 @@ pub struct ChoiceReply {
 }
 
 pub fn of_accept(a: Accept) -> FileReply
-    ensures { result ≡ fileOf a }
+    ensures { result ≡ file_of a }
 {
     match a {
         Accept::Accepted {
@@ -87,7 +87,7 @@ pub fn of_accept(a: Accept) -> FileReply
 }
 
 pub fn of_ran(a: Ran) -> RunCounts
-    ensures { result ≡ countsOfRan a }
+    ensures { result ≡ counts_of_ran a }
 {
     match a {
         Ran::Done { stages, steps } => RunCounts {
@@ -104,7 +104,7 @@ pub fn of_ran(a: Ran) -> RunCounts
 }
 
 pub fn of_searched(a: Searched) -> RunCounts
-    ensures { result ≡ countsOfSearched a }
+    ensures { result ≡ counts_of_searched a }
 {
     match a {
         Searched::Found { stages, steps } => RunCounts {
@@ -121,7 +121,7 @@ pub fn of_searched(a: Searched) -> RunCounts
 }
 
 pub fn of_judged(a: Judged) -> Verdict
-    ensures { result ≡ verdictOfJudged a }
+    ensures { result ≡ verdict_of_judged a }
 {
     match a {
         Judged::Stable => Verdict {
@@ -140,7 +140,7 @@ pub fn of_judged(a: Judged) -> Verdict
 }
 
 pub fn of_checked(a: Checked) -> Verdict
-    ensures { result ≡ verdictOfChecked a }
+    ensures { result ≡ verdict_of_checked a }
 {
     match a {
         Checked::Yes => Verdict {
@@ -159,7 +159,7 @@ pub fn of_checked(a: Checked) -> Verdict
 }
 
 pub fn of_grounds(a: Grounds) -> Count
-    ensures { result ≡ countOfGrounds a }
+    ensures { result ≡ count_of_grounds a }
 {
     match a {
         Grounds::Given { steps } => Count {
@@ -174,7 +174,7 @@ pub fn of_grounds(a: Grounds) -> Count
 }
 
 pub fn of_layered(a: Layered) -> Count
-    ensures { result ≡ countOfLayered a }
+    ensures { result ≡ count_of_layered a }
 {
     match a {
         Layered::Ordered { rules } => Count {
@@ -189,7 +189,7 @@ pub fn of_layered(a: Layered) -> Count
 }
 
 pub fn of_loaded(a: Loaded) -> Count
-    ensures { result ≡ countOfLoaded a }
+    ensures { result ≡ count_of_loaded a }
 {
     match a {
         Loaded::Written { bytes } => Count {
@@ -204,7 +204,7 @@ pub fn of_loaded(a: Loaded) -> Count
 }
 
 pub fn of_choice(a: Choice) -> ChoiceReply
-    ensures { result ≡ replyOfChoice a }
+    ensures { result ≡ reply_of_choice a }
 {
     match a {
         Choice::First => ChoiceReply {

@@ -1,11 +1,11 @@
 // The steps that a run writes. Internal.
 ghost use Rattle.std.specs.Prelude.{ℕ, ◌*◌, ◌≤◌, ◌<◌, ◌≡◌, map, length, get_or, take};
 ghost use Rattle.theory.specs.Rule.{count as count_of};
-ghost use Rattle.theory.specs.Derive.{stepBy};
-ghost use Rattle.items.specs.Item.{narrow, maxFacts, stepWidth};
+ghost use Rattle.theory.specs.Derive.{step_by};
+ghost use Rattle.items.specs.Item.{narrow, max_facts, step_width};
 ghost use Rattle.items.specs.Write.{over};
-ghost use Rattle.tables.specs.Layout.{programIn, WellFormed};
-ghost use Rattle.closure.specs.Steps.{stepBytes};
+ghost use Rattle.tables.specs.Layout.{program_in, WellFormed};
+ghost use Rattle.closure.specs.Steps.{step_bytes};
 
 use items::item::{MAX_FACTS, RuleId};
 use items::lengths::STEP_WIDTH;
@@ -19,9 +19,9 @@ pub fn write_steps(
     out: &mut [u8],
 )
     requires well_formed { WellFormed tables.now }
-    requires count_in_bounds { (count ≤ length fired.now) × (length fired.now ≡ maxFacts narrow) × (stepWidth narrow * count ≤ length out.old) }
-    requires by_index { (k : ℕ) → k < count → get_or fired.now k 0 < count_of (programIn tables.now) }
-    ensures { out.new ≡ over (stepBytes narrow (map (stepBy (programIn tables.now)) (take count fired.now))) out.old }
+    requires count_in_bounds { (count ≤ length fired.now) × (length fired.now ≡ max_facts narrow) × (step_width narrow * count ≤ length out.old) }
+    requires by_index { (k : ℕ) → k < count → get_or fired.now k 0 < count_of (program_in tables.now) }
+    ensures { out.new ≡ over (step_bytes narrow (map (step_by (program_in tables.now)) (take count fired.now))) out.old }
 {
     let mut k: usize = 0;
     while k < count {

@@ -1,13 +1,13 @@
 // Everything that a run writes. Internal.
 ghost use Rattle.std.specs.Prelude.{◌≡◌, map, length, take};
-ghost use Rattle.theory.specs.Rule.{mem, inForce};
-ghost use Rattle.theory.specs.Derive.{stepBy};
-ghost use Rattle.theory.specs.Run.{Stand, rejected, factMarks, ruleMarks};
+ghost use Rattle.theory.specs.Rule.{mem, in_force};
+ghost use Rattle.theory.specs.Derive.{step_by};
+ghost use Rattle.theory.specs.Run.{Stand, rejected, marks_of_facts, marks_of_rules};
 ghost use Rattle.items.specs.Item.{narrow, has};
 ghost use Rattle.items.specs.Write.{over};
-ghost use Rattle.tables.specs.Layout.{programIn, WellFormed};
-ghost use Rattle.marking.specs.Marks.{barredIn};
-ghost use Rattle.closure.specs.Steps.{stepBytes};
+ghost use Rattle.tables.specs.Layout.{program_in, WellFormed};
+ghost use Rattle.marking.specs.Marks.{barred_in};
+ghost use Rattle.closure.specs.Steps.{step_bytes};
 ghost use Rattle.results.specs.Writable.{Writable};
 
 use crate::marks::{write_fact_marks, write_rule_marks};
@@ -27,10 +27,10 @@ pub fn write_results(
     steps: &mut [u8],
 )
     requires well_formed { WellFormed tables.now }
-    requires writable { Writable (programIn tables.now) marks.now row.now count (length fact_marks.old) (length rule_marks.old) (length steps.old) }
-    ensures fact_marks_after { (s : Stand) → has marks.now ≡ s.derived → barredIn marks.now ≡ rejected (programIn tables.now) s.applied → fact_marks.new ≡ over (factMarks (programIn tables.now) s) fact_marks.old }
-    ensures rule_marks_after { (s : Stand) → has marks.now ≡ s.derived → has applied.now ≡ (λ i. mem i s.applied) → rule_marks.new ≡ over (ruleMarks (programIn tables.now) (inForce (programIn tables.now)) s) rule_marks.old }
-    ensures steps_after { steps.new ≡ over (stepBytes narrow (map (stepBy (programIn tables.now)) (take count row.now))) steps.old }
+    requires writable { Writable (program_in tables.now) marks.now row.now count (length fact_marks.old) (length rule_marks.old) (length steps.old) }
+    ensures fact_marks_after { (s : Stand) → has marks.now ≡ s.derived → barred_in marks.now ≡ rejected (program_in tables.now) s.applied → fact_marks.new ≡ over (marks_of_facts (program_in tables.now) s) fact_marks.old }
+    ensures rule_marks_after { (s : Stand) → has marks.now ≡ s.derived → has applied.now ≡ (λ i. mem i s.applied) → rule_marks.new ≡ over (marks_of_rules (program_in tables.now) (in_force (program_in tables.now)) s) rule_marks.old }
+    ensures steps_after { steps.new ≡ over (step_bytes narrow (map (step_by (program_in tables.now)) (take count row.now))) steps.old }
 {
     let facts = facts_of(tables);
     write_fact_marks(marks, facts, fact_marks);

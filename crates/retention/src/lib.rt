@@ -1,24 +1,24 @@
 // The operations for callers in C and Rust: plain numbers by value, and no type of the engine. Each is the operation of the same name below,
 // with its answer as numbers.
 ghost use Rattle.std.specs.Prelude.{◌≡◌, length};
-ghost use Rattle.reader.specs.Accept.{acceptOf};
-ghost use Rattle.run.specs.Outcome.{runOutcome};
+ghost use Rattle.reader.specs.Accept.{accept_of};
+ghost use Rattle.run.specs.Outcome.{run_outcome};
 ghost use Rattle.judge.specs.Judged.{judged};
 ghost use Rattle.proofcheck.specs.Checked.{checked};
-ghost use Rattle.search.specs.Outcome.{searchOutcome};
-ghost use Rattle.keeping.specs.Outcome.{groundsOutcome};
-ghost use Rattle.layers.specs.Outcome.{layeredOutcome};
-ghost use Rattle.generator.specs.Outcome.{loadOutcome};
+ghost use Rattle.search.specs.Outcome.{search_outcome};
+ghost use Rattle.keeping.specs.Outcome.{grounds_outcome};
+ghost use Rattle.layers.specs.Outcome.{layered_outcome};
+ghost use Rattle.generator.specs.Outcome.{load_outcome};
 ghost use Rattle.better.specs.Outcome.{choice_of};
-ghost use Rattle.panel_lines.specs.Text.{panelText, shown};
-ghost use Rattle.replies.specs.Reply.{fileOf, verdictOfJudged, verdictOfChecked, RunReply, runReply, SearchReply, searchReply, GroundsReply, groundsReply, LayeredReply, layeredReply, LoadReply, loadReply, replyOfChoice};
+ghost use Rattle.panel_lines.specs.Text.{panel_text, shown};
+ghost use Rattle.replies.specs.Reply.{file_of, verdict_of_judged, verdict_of_checked, RunReply, run_reply, SearchReply, search_reply, GroundsReply, grounds_reply, LayeredReply, layered_reply, LoadReply, load_reply, reply_of_choice};
 
 use replies::{ChoiceReply, Count, FileReply, RunCounts, Verdict};
 
 // Is the file accepted, and what does it count?
 #[unsafe(no_mangle)]
 pub extern "C" fn retention_accept(file: &[u8]) -> FileReply
-    ensures { result ≡ fileOf (acceptOf file.now) }
+    ensures { result ≡ file_of (accept_of file.now) }
 {
     replies::of_accept(reader::accept(file))
 }
@@ -32,7 +32,7 @@ pub extern "C" fn retention_run(
     rule_marks: &mut [u8],
     steps: &mut [u8],
 ) -> RunCounts
-    ensures { ◌≡◌ {A = RunReply} (record { reply = result; fact-marks = fact_marks.new; rule-marks = rule_marks.new; steps = steps.new }) (runReply (runOutcome file.now order.now fact_marks.old rule_marks.old steps.old)) }
+    ensures { ◌≡◌ {A = RunReply} (record { reply = result; fact-marks = fact_marks.new; rule-marks = rule_marks.new; steps = steps.new }) (run_reply (run_outcome file.now order.now fact_marks.old rule_marks.old steps.old)) }
 {
     replies::of_ran(run::run(file, order, fact_marks, rule_marks, steps))
 }
@@ -47,7 +47,7 @@ pub extern "C" fn retention_grounds(
     rule_marks: &mut [u8],
     steps: &mut [u8],
 ) -> Count
-    ensures { ◌≡◌ {A = GroundsReply} (record { reply = result; fact-marks = fact_marks.new; rule-marks = rule_marks.new; steps = steps.new }) (groundsReply (groundsOutcome file.now order.now fact fact_marks.old rule_marks.old steps.old)) }
+    ensures { ◌≡◌ {A = GroundsReply} (record { reply = result; fact-marks = fact_marks.new; rule-marks = rule_marks.new; steps = steps.new }) (grounds_reply (grounds_outcome file.now order.now fact fact_marks.old rule_marks.old steps.old)) }
 {
     replies::of_grounds(keeping::grounds(file, order, fact, fact_marks, rule_marks, steps))
 }
@@ -55,7 +55,7 @@ pub extern "C" fn retention_grounds(
 // Is a set stable for a file less some listed exception rules?
 #[unsafe(no_mangle)]
 pub extern "C" fn retention_judge(file: &[u8], list: &[u8], set: &[u8]) -> Verdict
-    ensures { result ≡ verdictOfJudged (judged file.now list.now set.now) }
+    ensures { result ≡ verdict_of_judged (judged file.now list.now set.now) }
 {
     replies::of_judged(judge::judge(file, list, set))
 }
@@ -63,7 +63,7 @@ pub extern "C" fn retention_judge(file: &[u8], list: &[u8], set: &[u8]) -> Verdi
 // Is a row of steps a proof of a fact that a set admits?
 #[unsafe(no_mangle)]
 pub extern "C" fn retention_check(file: &[u8], set: &[u8], fact: u32, proof: &[u8]) -> Verdict
-    ensures { result ≡ verdictOfChecked (checked file.now set.now fact proof.now) }
+    ensures { result ≡ verdict_of_checked (checked file.now set.now fact proof.now) }
 {
     replies::of_checked(proofcheck::check(file, set, fact, proof))
 }
@@ -77,7 +77,7 @@ pub extern "C" fn retention_search(
     steps: &mut [u8],
     order: &mut [u8],
 ) -> RunCounts
-    ensures { ◌≡◌ {A = SearchReply} (record { reply = result; fact-marks = fact_marks.new; rule-marks = rule_marks.new; steps = steps.new; order = order.new }) (searchReply (searchOutcome file.now fact_marks.old rule_marks.old steps.old order.old)) }
+    ensures { ◌≡◌ {A = SearchReply} (record { reply = result; fact-marks = fact_marks.new; rule-marks = rule_marks.new; steps = steps.new; order = order.new }) (search_reply (search_outcome file.now fact_marks.old rule_marks.old steps.old order.old)) }
 {
     replies::of_searched(search::search(file, fact_marks, rule_marks, steps, order))
 }
@@ -85,7 +85,7 @@ pub extern "C" fn retention_search(
 // The order by rank of a layered file.
 #[unsafe(no_mangle)]
 pub extern "C" fn retention_layered(file: &[u8], order: &mut [u8]) -> Count
-    ensures { ◌≡◌ {A = LayeredReply} (record { reply = result; order = order.new }) (layeredReply (layeredOutcome file.now order.old)) }
+    ensures { ◌≡◌ {A = LayeredReply} (record { reply = result; order = order.new }) (layered_reply (layered_outcome file.now order.old)) }
 {
     replies::of_layered(layers::layered(file, order))
 }
@@ -93,7 +93,7 @@ pub extern "C" fn retention_layered(file: &[u8], order: &mut [u8]) -> Count
 // Which of two orders sets aside fewer rules in the run of a file. A reference cannot be handed to a caller in C, so it is told which of the two is handed back.
 #[unsafe(no_mangle)]
 pub extern "C" fn retention_better(file: &[u8], first: &[u8], second: &[u8]) -> ChoiceReply
-    ensures { result ≡ replyOfChoice (choice_of file.now first.now second.now) }
+    ensures { result ≡ reply_of_choice (choice_of file.now first.now second.now) }
 {
     replies::of_choice(better::choose(file, first, second))
 }
@@ -101,7 +101,7 @@ pub extern "C" fn retention_better(file: &[u8], first: &[u8], second: &[u8]) -> 
 // A test load: a file of so many rules over so many facts, drawn from a start.
 #[unsafe(no_mangle)]
 pub extern "C" fn retention_load(start: u32, facts: u32, rules: u32, out: &mut [u8]) -> Count
-    ensures { ◌≡◌ {A = LoadReply} (record { reply = result; out = out.new }) (loadReply (loadOutcome start facts rules out.old)) }
+    ensures { ◌≡◌ {A = LoadReply} (record { reply = result; out = out.new }) (load_reply (load_outcome start facts rules out.old)) }
 {
     replies::of_loaded(generator::load(start, facts, rules, out))
 }
@@ -109,7 +109,7 @@ pub extern "C" fn retention_load(start: u32, facts: u32, rules: u32, out: &mut [
 // The panel's text for a file, written where it fits. Answers its length.
 #[unsafe(no_mangle)]
 pub extern "C" fn retention_panel(file: &[u8], out: &mut [u8]) -> u32
-    ensures { (result ≡ length (panelText file.now)) × (out.new ≡ shown (panelText file.now) out.old) }
+    ensures { (result ≡ length (panel_text file.now)) × (out.new ≡ shown (panel_text file.now) out.old) }
 {
     panel_text::render(file, out) as u32
 }

@@ -4,33 +4,33 @@ use mathlib.Core.Path.{◌≡◌}
 use mathlib.Core.List.{List}
 use native.Mathlib.Omega.{arith}
 use lib.ListN.{length, get_or}
-use Rattle.theory.specs.Rule.{Program, inForce, count}
-use Rattle.theory.specs.Run.{Stand, run, stageCount}
-use Rattle.items.specs.Item.{narrow, maxFacts}
-use Rattle.tables.specs.Layout.{programIn, WellFormed}
+use Rattle.theory.specs.Rule.{Program, in_force, count}
+use Rattle.theory.specs.Run.{Stand, run, stage_count}
+use Rattle.items.specs.Item.{narrow, max_facts}
+use Rattle.tables.specs.Layout.{program_in, WellFormed}
 use Rattle.tables.proofs.ProgramHeld.{facts_below}
 use Rattle.results.specs.Writable.{Writable}
 use Rattle.stage.specs.Memory.{Holds}
 use Rattle.run.specs.Stands.{Held, RunCounted, MayRun}
 use Rattle.run.proofs.FewSteps.{Paced, run-paced}
-use Rattle.run.proofs.StandsKept.{steps-counted}
+use Rattle.run.proofs.StandsKept.{steps_counted}
 
-pub run-counted : {T : List ℕ} → WellFormed T → (order : List ℕ) {marks fired applied : List ℕ} {stages n : ℕ} → Held (programIn T) (run (programIn T) (inForce (programIn T)) order) marks fired applied n → stages ≡ stageCount (run (programIn T) (inForce (programIn T)) order) → RunCounted (run (programIn T) (inForce (programIn T)) order) stages n
+pub run-counted : {T : List ℕ} → WellFormed T → (order : List ℕ) {marks fired applied : List ℕ} {stages n : ℕ} → Held (program_in T) (run (program_in T) (in_force (program_in T)) order) marks fired applied n → stages ≡ stage_count (run (program_in T) (in_force (program_in T)) order) → RunCounted (run (program_in T) (in_force (program_in T)) order) stages n
 run-counted {T} wf order {stages = stages} {n = n} h e =
-    let few : (programIn T).facts < maxFacts narrow = facts_below wf in
-    let steps : n ≡ length (run (programIn T) (inForce (programIn T)) order).trace = steps-counted few h.holds in
-    let p : Paced (programIn T) (run (programIn T) (inForce (programIn T)) order) = run-paced (programIn T) wf.in_bounds (inForce (programIn T)) order in
-    record { stages-counted = e; steps-counted = steps; few-stages = omega (arith, p.staged, p.room); few-steps = omega (arith, h.holds.fits) }
+    let few : (program_in T).facts < max_facts narrow = facts_below wf in
+    let steps : n ≡ length (run (program_in T) (in_force (program_in T)) order).trace = steps_counted few h.holds in
+    let p : Paced (program_in T) (run (program_in T) (in_force (program_in T)) order) = run-paced (program_in T) wf.in_bounds (in_force (program_in T)) order in
+    record { stages_counted = e; steps_counted = steps; few_stages = omega (arith, p.staged, p.room); few_steps = omega (arith, h.holds.fits) }
 
 -- The rules of a row, no more than the run has steps, may be written as steps beside its marks.
-pub may_write : {P : Program} {s : Stand} {marks fired order : List ℕ} {n facts rules steps : ℕ} → P.facts < maxFacts narrow → Holds P s marks fired n → MayRun P order facts rules steps → (row : List ℕ) (m : ℕ) → length row ≡ maxFacts narrow → m ≤ n → ((k : ℕ) → k < m → get_or row k 0 < count P) → Writable P marks row m facts rules steps
+pub may_write : {P : Program} {s : Stand} {marks fired order : List ℕ} {n facts rules steps : ℕ} → P.facts < max_facts narrow → Holds P s marks fired n → MayRun P order facts rules steps → (row : List ℕ) (m : ℕ) → length row ≡ max_facts narrow → m ≤ n → ((k : ℕ) → k < m → get_or row k 0 < count P) → Writable P marks row m facts rules steps
 may_write few h may row m places less known =
     record {
-      marks-places = omega (arith, h.marks-places);
-      row-places = places;
+      marks_places = omega (arith, h.marks_places);
+      row_places = places;
       few = omega (arith, h.fits);
       known = known;
-      facts-fit = may.facts-fit;
-      rules-fit = may.rules-fit;
-      steps-fit = omega (arith, h.fits, may.steps-fit);
+      facts_fit = may.facts_fit;
+      rules_fit = may.rules_fit;
+      steps_fit = omega (arith, h.fits, may.steps_fit);
     }

@@ -9,19 +9,19 @@ use borrow.Author.Tests.{lt-ltb}
 use lib.ListN.{length, get_or, take, set, length-set, length-append, length-map}
 use lib.Seq.{slice, length-slice, length-take-le, get_or-take}
 use lib.Dec.{ltb}
-use Rattle.theory.specs.Rule.{mem, Program, FactSet, nothing, inForce, count, plainRules}
+use Rattle.theory.specs.Rule.{mem, Program, FactSet, nothing, in_force, count, plain_rules}
 use Rattle.theory.specs.Conditions.{Bounded}
 use Rattle.theory.specs.Walk.{after}
-use Rattle.theory.specs.Derive.{conclude, stepBy, Fresh, fired as firedFrom, derive}
-use Rattle.theory.specs.Run.{Stand, stage, start, run, stageCount, stepCount}
-use Rattle.theory.proofs.Lists.{all_of, getD-mem, mem-cases}
+use Rattle.theory.specs.Derive.{conclude, step_by, Fresh, fired as fired_from, derive}
+use Rattle.theory.specs.Run.{Stand, stage, start, run, stage_count, step_count}
+use Rattle.theory.proofs.Lists.{all_of, get_or-mem, mem-cases}
 use Rattle.theory.proofs.Derive.{missing, fired-fresh, fired-known}
 use Rattle.theory.proofs.Run.{Eligible, exception-known, picked}
 use Rattle.theory.proofs.Stages.{finish, run-finish, finish-some, finish-none}
-use Rattle.items.specs.Item.{narrow, maxFacts, maxRules, has}
+use Rattle.items.specs.Item.{narrow, max_facts, max_rules, has}
 use Rattle.items.specs.Write.{over}
 use Rattle.bits.specs.Flags.{Flags}
-use Rattle.closure.specs.Steps.{stepBytes}
+use Rattle.closure.specs.Steps.{step_bytes}
 use Rattle.premises.specs.Premises.{Places, in_row, ripe, roused, Asked, Counted}
 use Rattle.premises.specs.Filling.{Listed}
 use Rattle.premises.specs.Waking.{Span}
@@ -43,15 +43,15 @@ pub record Standing (P : Program) (row order asks marks missing fired applied la
   pub looking : Looking P row order marks missing fired n awake at places
   pub asked : Asked P (in_row order) asks
   pub lacking : Counted P (in_row order) at.derived lacks
-  pub applied-shown : has applied ≡ (λ i. mem i at.applied)
-  pub applied-places : length applied ≡ maxRules
-  pub counted : stages ≡ stageCount at
+  pub applied_shown : has applied ≡ (λ i. mem i at.applied)
+  pub applied_places : length applied ≡ max_rules
+  pub counted : stages ≡ stage_count at
   pub paced : Paced P at
-  pub onward : finish P (inForce P) order at ≡ run P (inForce P) order
+  pub onward : finish P (in_force P) order at ≡ run P (in_force P) order
 
 -- An order that was read into a row.
-pub order-read : {P : Program} {row order : List ℕ} {names : ℕ} → take names row ≡ order → names ≡ length order → length row ≡ maxRules → NamesOnly P order → length order ≤ maxRules → Ordered P row names
-order-read e n l only few = record { places = l; few = omega (arith, n, few); names-only = rw e only }
+pub order-read : {P : Program} {row order : List ℕ} {names : ℕ} → take names row ≡ order → names ≡ length order → length row ≡ max_rules → NamesOnly P order → length order ≤ max_rules → Ordered P row names
+order-read e n l only few = record { places = l; few = omega (arith, n, few); names_only = rw e only }
 
 -- An order in a row is a row of rules, and its front is the order.
 module _ {P : Program} {row : List ℕ} {names : ℕ} (w : Ordered P row names) where
@@ -60,53 +60,53 @@ module _ {P : Program} {row : List ℕ} {names : ℕ} (w : Ordered P row names) 
       record {
         places = w.places;
         few = w.few;
-        known = all_of (λ i. ltb i (count P)) (take names row) (λ i m. lt-ltb i (count P) (exception-known P (inForce P) i (w.names-only i m)));
+        known = all_of (λ i. ltb i (count P)) (take names row) (λ i m. lt-ltb i (count P) (exception-known P (in_force P) i (w.names_only i m)));
       }
 
-  pub order-in-row : take (length (take names row)) row ≡ take names row
-  order-in-row = ap (λ (n : ℕ). take n row) (length-take-le names row (omega (arith, w.places, w.few)))
+  pub order-in_row : take (length (take names row)) row ≡ take names row
+  order-in_row = ap (λ (n : ℕ). take n row) (length-take-le names row (omega (arith, w.places, w.few)))
 
 -- What a stand that is held tells of its steps.
-module _ {P : Program} {s : Stand} {marks fired : List ℕ} {n : ℕ} (few : P.facts < maxFacts narrow) (w : Holds P s marks fired n) where
+module _ {P : Program} {s : Stand} {marks fired : List ℕ} {n : ℕ} (few : P.facts < max_facts narrow) (w : Holds P s marks fired n) where
   inside : n ≤ length fired
-  inside = omega (arith, w.fits, w.fired-places)
+  inside = omega (arith, w.fits, w.fired_places)
 
-  pub steps-counted : n ≡ stepCount s
-  steps-counted = sym (ap length w.traced ∙ length-map (take n fired) (stepBy P) ∙ length-take-le n fired inside)
+  pub steps_counted : n ≡ step_count s
+  steps_counted = sym (ap length w.traced ∙ length-map (take n fired) (step_by P) ∙ length-take-le n fired inside)
 
-  pub steps-there : (row : List ℕ) {row' : List ℕ} → row' ≡ over (stepBytes narrow (map (stepBy P) (take n fired))) row → row' ≡ over (stepBytes narrow s.trace) row
+  pub steps-there : (row : List ℕ) {row' : List ℕ} → row' ≡ over (step_bytes narrow (map (step_by P) (take n fired))) row → row' ≡ over (step_bytes narrow s.trace) row
   steps-there row e = rw w.traced e
 
   pub fired-below : (k : ℕ) → k < n → get_or fired k 0 < count P
   fired-below k h =
       w.known (get_or fired k 0)
-      (ap (λ (i : ℕ). mem i (take n fired)) (sym (get_or-take n fired k 0 h)) ∙ getD-mem (take n fired) k (omega (arith, length-take-le n fired inside)))
+      (ap (λ (i : ℕ). mem i (take n fired)) (sym (get_or-take n fired k 0 h)) ∙ get_or-mem (take n fired) k (omega (arith, length-take-le n fired inside)))
 
 -- The start: D is closed, and the places whose premises are in D are awake.
-module _ {P : Program} {index marks missing fired : List ℕ} {n : ℕ} (few : P.facts < maxFacts narrow) (g : Began P index marks missing fired n) where
+module _ {P : Program} {index marks missing fired : List ℕ} {n : ℕ} (few : P.facts < max_facts narrow) (g : Began P index marks missing fired n) where
   pub start-span : Span P fired 0 n
   start-span =
       record {
-        places = g.holds.fired-places;
+        places = g.holds.fired_places;
         low = omega arith;
         high = omega (arith, g.holds.fits);
         known = all_of (λ i. ltb i (count P)) (slice 0 n fired) (λ i m. lt-ltb i (count P) (g.holds.known i m));
       }
 
-  same_set : after (conclude P) nothing (slice 0 n fired) ≡ (start P (inForce P)).derived
+  same_set : after (conclude P) nothing (slice 0 n fired) ≡ (start P (in_force P)).derived
   unfolding derive
   same_set = ap (after (conclude P) nothing) g.rules
 
-  pub standing-start : {row order asks applied lacks awake lacks' awake' : List ℕ} → Bounded P → take (length order) row ≡ order → NamesOnly P order → Asked P (in_row order) asks → Counted P (in_row order) nothing lacks → Flags (ripe P (in_row order) nothing) awake → Wakes P asks fired 0 n lacks awake lacks' awake' → has applied ≡ (λ i. mem i []) → length applied ≡ maxRules → Standing P row order asks marks missing fired applied lacks' awake' 0 n
-  standing-start {order = order} b in-row only asked counts flags wakes shown places =
-      let woken = wakes (in_row order) nothing (ripe P (in_row order) nothing) asked counts flags (rw g.rules (fired-fresh P (plainRules P (inForce P)) nothing)) in
+  pub standing_start : {row order asks applied lacks awake lacks' awake' : List ℕ} → Bounded P → take (length order) row ≡ order → NamesOnly P order → Asked P (in_row order) asks → Counted P (in_row order) nothing lacks → Flags (ripe P (in_row order) nothing) awake → Wakes P asks fired 0 n lacks awake lacks' awake' → has applied ≡ (λ i. mem i []) → length applied ≡ max_rules → Standing P row order asks marks missing fired applied lacks' awake' 0 n
+  standing_start {order = order} b in-row only asked counts flags wakes shown places =
+      let woken = wakes (in_row order) nothing (ripe P (in_row order) nothing) asked counts flags (rw g.rules (fired-fresh P (plain_rules P (in_force P)) nothing)) in
       record {
-        at = start P (inForce P);
-        places = roused P (in_row order) nothing (start P (inForce P)).derived (ripe P (in_row order) nothing);
+        at = start P (in_force P);
+        places = roused P (in_row order) nothing (start P (in_force P)).derived (ripe P (in_row order) nothing);
         looking =
             record {
               in-row = in-row;
-              names-only = only;
+              names_only = only;
               holds = g.holds;
               rests = g.rests;
               flags = rw same_set at woken.1;
@@ -114,64 +114,64 @@ module _ {P : Program} {index marks missing fired : List ℕ} {n : ℕ} (few : P
             };
         asked = asked;
         lacking = rw same_set at woken.0;
-        applied-shown = shown;
-        applied-places = places;
+        applied_shown = shown;
+        applied_places = places;
         counted = refl;
-        paced = start-paced P b (inForce P);
-        onward = sym (run-finish P (inForce P) order);
+        paced = start-paced P b (in_force P);
+        onward = sym (run-finish P (in_force P) order);
       }
 
 module _ {P : Program} {row order asks marks missing fired applied lacks awake : List ℕ} {stages n : ℕ} (w : Standing P row order asks marks missing fired applied lacks awake stages n) where
-  pub few-stages : stages ≤ P.facts
-  few-stages = omega (arith, w.paced.room, w.paced.staged, w.counted)
+  pub few_stages : stages ≤ P.facts
+  few_stages = omega (arith, w.paced.room, w.paced.staged, w.counted)
 
   pub stands : Stands P row marks missing fired n awake
   stands = record { order = order; at = w.at; places = w.places; looking = w.looking }
 
   -- without an eligible rule the run has ended
   module _ {marks' fired' : List ℕ} (ended : Ended P order w.at n marks' fired') where
-    ended_at : w.at ≡ run P (inForce P) order
-    ended_at = sym (finish-none P (inForce P) order w.at ended.none_left) ∙ w.onward
+    ended_at : w.at ≡ run P (in_force P) order
+    ended_at = sym (finish-none P (in_force P) order w.at ended.none_left_lem) ∙ w.onward
 
-    pub ended_held : Held P (run P (inForce P) order) marks' fired' applied n
-    ended_held = rw (← ended_at) (record { holds = ended.holds; applied-shown = w.applied-shown; applied-places = w.applied-places })
+    pub ended_held : Held P (run P (in_force P) order) marks' fired' applied n
+    ended_held = rw (← ended_at) (record { holds = ended.holds; applied_shown = w.applied_shown; applied_places = w.applied_places })
 
-    pub ended-stages : stages ≡ stageCount (run P (inForce P) order)
-    ended-stages = w.counted ∙ ap stageCount ended_at
+    pub ended-stages : stages ≡ stage_count (run P (in_force P) order)
+    ended-stages = w.counted ∙ ap stage_count ended_at
 
   -- rule i is taken
-  module _ (few : P.facts < maxFacts narrow) {i m : ℕ} {marks' missing' fired' awake' : List ℕ} (taken : Taken P order w.at n i marks' missing' fired' awake' m) where
+  module _ (few : P.facts < max_facts narrow) {i m : ℕ} {marks' missing' fired' awake' : List ℕ} (taken : Taken P order w.at n i marks' missing' fired' awake' m) where
     abbrev next : Stand
-    next = stage P (inForce P) w.at i
+    next = stage P (in_force P) w.at i
 
-    chosen : Eligible P (inForce P) w.at i
-    chosen = picked P (inForce P) order w.at i taken.first
+    chosen : Eligible P (in_force P) w.at i
+    chosen = picked P (in_force P) order w.at i taken.first
 
-    pub rule-known : i < count P
-    rule-known = exception-known P (inForce P) i chosen.excepted
+    pub rule_known : i < count P
+    rule_known = exception-known P (in_force P) i chosen.excepted
 
     last-inside : m ≤ length fired'
-    last-inside = omega (arith, taken.holds.fits, taken.holds.fired-places)
+    last-inside = omega (arith, taken.holds.fits, taken.holds.fired_places)
 
     -- a stage takes at least one step
     more-steps : n < m
     more-steps = omega (arith, length-slice n m fired' last-inside, ap length taken.added)
 
     fresh : Fresh P w.at.derived (slice n m fired')
-    fresh = rw taken.added (rule-known, chosen.conclusion-out, fired-fresh P (plainRules P (inForce P)) (conclude P w.at.derived i))
+    fresh = rw taken.added (rule_known, chosen.conclusion_out, fired-fresh P (plain_rules P (in_force P)) (conclude P w.at.derived i))
 
-    added-known : (j : ℕ) → mem j (slice n m fired') ≡ true → j < count P
-    added-known j u =
-        ⊎_elim (λ q. rw q rule-known) (fired-known P (plainRules P (inForce P)) (conclude P w.at.derived i) j)
-        (mem-cases j i (firedFrom P (plainRules P (inForce P)) (conclude P w.at.derived i)) (ap (mem j) (sym taken.added) ∙ u))
+    added_known : (j : ℕ) → mem j (slice n m fired') ≡ true → j < count P
+    added_known j u =
+        ⊎_elim (λ q. rw q rule_known) (fired-known P (plain_rules P (in_force P)) (conclude P w.at.derived i) j)
+        (mem-cases j i (fired_from P (plain_rules P (in_force P)) (conclude P w.at.derived i)) (ap (mem j) (sym taken.added) ∙ u))
 
     pub stage-span : Span P fired' n m
     stage-span =
         record {
-          places = taken.holds.fired-places;
+          places = taken.holds.fired_places;
           low = omega (arith, more-steps);
           high = omega (arith, taken.holds.fits);
-          known = all_of (λ j. ltb j (count P)) (slice n m fired') (λ j u. lt-ltb j (count P) (added-known j u));
+          known = all_of (λ j. ltb j (count P)) (slice n m fired') (λ j u. lt-ltb j (count P) (added_known j u));
         }
 
     same_next : after (conclude P) w.at.derived (slice n m fired') ≡ next.derived
@@ -179,7 +179,7 @@ module _ {P : Program} {row order asks marks missing fired applied lacks awake :
     same_next = ap (after (conclude P) w.at.derived) taken.added
 
     -- the facts of the stage entered: the run stands one stage further on
-    module _ (b : Bounded P) (small : count P ≤ maxRules) {lacks' awake'' : List ℕ} (wakes : Wakes P asks fired' n m lacks awake' lacks' awake'') where
+    module _ (b : Bounded P) (small : count P ≤ max_rules) {lacks' awake'' : List ℕ} (wakes : Wakes P asks fired' n m lacks awake' lacks' awake'') where
       pub standing_on : Standing P row order asks marks' missing' fired' (set applied i 1) lacks' awake'' (stages + 1) m
       standing_on =
           let woken = wakes (in_row order) w.at.derived taken.places w.asked w.lacking taken.flags fresh in
@@ -189,7 +189,7 @@ module _ {P : Program} {row order asks marks missing fired applied lacks awake :
             looking =
                 record {
                   in-row = w.looking.in-row;
-                  names-only = w.looking.names-only;
+                  names_only = w.looking.names_only;
                   holds = taken.holds;
                   rests = taken.rests;
                   flags = rw same_next at woken.1;
@@ -197,11 +197,11 @@ module _ {P : Program} {row order asks marks missing fired applied lacks awake :
                 };
             asked = w.asked;
             lacking = rw same_next at woken.0;
-            applied-shown = more-applied applied w.at.applied i (omega (arith, rule-known, w.applied-places)) w.applied-shown;
-            applied-places = length-set applied i 1 ∙ w.applied-places;
+            applied_shown = more-applied applied w.at.applied i (omega (arith, rule_known, w.applied_places)) w.applied_shown;
+            applied_places = length-set applied i 1 ∙ w.applied_places;
             counted = omega (arith, w.counted, length-append w.at.applied (i ∷ []));
-            paced = stage-paced P b (inForce P) w.at i chosen w.paced;
-            onward = sym (finish-some P (inForce P) order w.at i taken.first) ∙ w.onward;
+            paced = stage-paced P b (in_force P) w.at i chosen w.paced;
+            onward = sym (finish-some P (in_force P) order w.at i taken.first) ∙ w.onward;
           }
 
       pub stage-closer : P.facts - m < P.facts - n

@@ -1,16 +1,16 @@
 -- What a run answers and leaves in the buffers lent to it (document 01, "The run").
 use Rattle.std.specs.Prelude.{ℕ, ◌≡◌, List, length}
 use Rattle.std.proofs.Math.Option.{Option, none, some}
-use Rattle.theory.specs.Rule.{Program, inForce}
-use Rattle.theory.specs.Run.{Stand, factMarks, ruleMarks, stageCount, stepCount}
+use Rattle.theory.specs.Rule.{Program, in_force}
+use Rattle.theory.specs.Run.{Stand, marks_of_facts, marks_of_rules, stage_count, step_count}
 use Rattle.items.specs.declared.refusal.Refusal.{Refusal}
 use Rattle.items.specs.Question as refusal
-use Rattle.items.specs.Question.{noNumber}
+use Rattle.items.specs.Question.{no_number}
 use Rattle.reader.specs.Questions.{program_of}
-use Rattle.questions.specs.Questions.{runNo, run_of}
+use Rattle.questions.specs.Questions.{run_no, run_of}
 use Rattle.items.specs.Write.{over}
 use Rattle.items.specs.Item.{narrow}
-use Rattle.closure.specs.Steps.{stepBytes}
+use Rattle.closure.specs.Steps.{step_bytes}
 use Rattle.run.specs.declared.answer.Ran.{Ran}
 use Rattle.run.specs.declared.answer.Ran.TheVariants.{Done, Refused}
 
@@ -22,38 +22,38 @@ pub record RunOutcome : Type 0 where
   pub steps : List ℕ
 
 -- What a run that ends at s answers, and writes over the front of each buffer.
-unfoldable pub runWritten : Program → Stand → List ℕ → List ℕ → List ℕ → RunOutcome
-runWritten P s facts rules steps =
+unfoldable pub run_written : Program → Stand → List ℕ → List ℕ → List ℕ → RunOutcome
+run_written P s facts rules steps =
     record {
-      answer = Done (stageCount s) (stepCount s);
-      fact-marks = over (factMarks P s) facts;
-      rule-marks = over (ruleMarks P (inForce P) s) rules;
-      steps = over (stepBytes narrow s.trace) steps;
+      answer = Done (stage_count s) (step_count s);
+      fact-marks = over (marks_of_facts P s) facts;
+      rule-marks = over (marks_of_rules P (in_force P) s) rules;
+      steps = over (step_bytes narrow s.trace) steps;
     }
 
 -- What a run answers and leaves. A refusal alters no byte.
-unfoldable pub runOutcome : List ℕ → List ℕ → List ℕ → List ℕ → List ℕ → RunOutcome
-runOutcome file order facts rules steps =
-    elim (runNo file order (length facts) (length rules) (length steps)) [
-      | none ↦ runWritten (program_of file) (run_of file order) facts rules steps
+unfoldable pub run_outcome : List ℕ → List ℕ → List ℕ → List ℕ → List ℕ → RunOutcome
+run_outcome file order facts rules steps =
+    elim (run_no file order (length facts) (length rules) (length steps)) [
+      | none ↦ run_written (program_of file) (run_of file order) facts rules steps
       | some r ↦ record { answer = Refused r; fact-marks = facts; rule-marks = rules; steps = steps }
     ]
 
 -- The answer's number, 0 where there is a result, and its counts, 0 on a refusal.
-abbrev pub runNumber : Ran → ℕ
-runNumber (Done stages steps) = 0
-runNumber (Refused r) = refusal.number r
+abbrev pub run_number : Ran → ℕ
+run_number (Done stages steps) = 0
+run_number (Refused r) = refusal.number r
 
-abbrev pub runStages : Ran → ℕ
-runStages (Done n m) = n
-runStages (Refused r) = 0
+abbrev pub run_stages : Ran → ℕ
+run_stages (Done n m) = n
+run_stages (Refused r) = 0
 
-abbrev pub runSteps : Ran → ℕ
-runSteps (Done n m) = m
-runSteps (Refused r) = 0
+abbrev pub run_steps : Ran → ℕ
+run_steps (Done n m) = m
+run_steps (Refused r) = 0
 
 -- The answer in numbers, from the first no to the run's questions: its number, and the counts of the run.
 pub record RunNumbers (file order : List ℕ) (no : Option Refusal) (r : Ran) : Type 0 where
-  pub numbered : runNumber r ≡ noNumber no
-  pub stages-counted : ◌≡◌ {A = Option Refusal} no none → runStages r ≡ stageCount (run_of file order)
-  pub steps-counted : ◌≡◌ {A = Option Refusal} no none → runSteps r ≡ stepCount (run_of file order)
+  pub numbered : run_number r ≡ no_number no
+  pub stages_counted : ◌≡◌ {A = Option Refusal} no none → run_stages r ≡ stage_count (run_of file order)
+  pub steps_counted : ◌≡◌ {A = Option Refusal} no none → run_steps r ≡ step_count (run_of file order)

@@ -1,7 +1,7 @@
 // The run: stages of forward chaining along an order of the exception rules.
 ghost use Rattle.std.specs.Prelude.{◌≡◌, length};
-ghost use Rattle.run.specs.Outcome.{RunOutcome, runOutcome, RunNumbers};
-ghost use Rattle.questions.specs.Questions.{runNo};
+ghost use Rattle.run.specs.Outcome.{RunOutcome, run_outcome, RunNumbers};
+ghost use Rattle.questions.specs.Questions.{run_no};
 
 pub mod answer;
 pub mod stages;
@@ -20,8 +20,8 @@ pub fn run(
     rule_marks: &mut [u8],
     steps: &mut [u8],
 ) -> Ran
-    ensures fact { ◌≡◌ {A = RunOutcome} (record { answer = result; fact-marks = fact_marks.new; rule-marks = rule_marks.new; steps = steps.new }) (runOutcome file.now order.now fact_marks.old rule_marks.old steps.old) }
-    ensures run_numbers { RunNumbers file.now order.now (runNo file.now order.now (length fact_marks.old) (length rule_marks.old) (length steps.old)) result }
+    ensures fact { ◌≡◌ {A = RunOutcome} (record { answer = result; fact-marks = fact_marks.new; rule-marks = rule_marks.new; steps = steps.new }) (run_outcome file.now order.now fact_marks.old rule_marks.old steps.old) }
+    ensures run_numbers { RunNumbers file.now order.now (run_no file.now order.now (length fact_marks.old) (length rule_marks.old) (length steps.old)) result }
 {
     let mut tables = [0u16; TABLE_CELLS];
     match reader::scan::scan(file, &mut tables) {

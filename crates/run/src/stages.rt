@@ -1,14 +1,14 @@
 // The stages of a run on the tables of an accepted file, under an accepted order. Internal.
 ghost use Rattle.std.specs.Prelude.{◌≡◌, length, take};
-ghost use Rattle.theory.specs.Rule.{inForce};
-ghost use Rattle.theory.specs.Run.{run, stageCount};
-ghost use Rattle.items.specs.Item.{maxRules};
-ghost use Rattle.tables.specs.Layout.{programIn, WellFormed};
+ghost use Rattle.theory.specs.Rule.{in_force};
+ghost use Rattle.theory.specs.Run.{run, stage_count};
+ghost use Rattle.items.specs.Item.{max_rules};
+ghost use Rattle.tables.specs.Layout.{program_in, WellFormed};
 ghost use Rattle.questions.specs.Questions.{named_in};
 ghost use Rattle.premises.specs.Plain.{Zeroed};
 ghost use Rattle.stage.specs.Memory.{Holds};
-ghost use Rattle.run.specs.Outcome.{RunOutcome, runWritten};
-ghost use Rattle.run.specs.Stands.{outset, Began, Held, Ordered, RunCounted, MayOrder, MayRun, runIn};
+ghost use Rattle.run.specs.Outcome.{RunOutcome, run_written};
+ghost use Rattle.run.specs.Stands.{outset, Began, Held, Ordered, RunCounted, MayOrder, MayRun, run_in};
 
 use crate::answer::Ran;
 use bits::matrix::MATRIX_WORDS;
@@ -42,9 +42,9 @@ fn begin(
     missing: &mut [u16; MAX_RULES],
     fired: &mut [u16; MAX_FACTS],
 ) -> usize
-    requires well_formed { WellFormed tables.now × Zeroed index.old × (length missing.old ≡ maxRules) }
-    requires holds { Holds (programIn tables.now) outset marks.old fired.old 0 }
-    ensures { Began (programIn tables.now) index.new marks.new missing.new fired.new result }
+    requires well_formed { WellFormed tables.now × Zeroed index.old × (length missing.old ≡ max_rules) }
+    requires holds { Holds (program_in tables.now) outset marks.old fired.old 0 }
+    ensures { Began (program_in tables.now) index.new marks.new missing.new fired.new result }
 {
     let mut plain = [0u8; MAX_RULES];
     mark_plain(tables, &mut plain);
@@ -65,10 +65,10 @@ fn all_stages(
     applied: &mut [u8; MAX_RULES],
 ) -> RunCounts
     requires well_formed { WellFormed tables.now }
-    requires ordered { Ordered (programIn tables.now) row.now names }
-    requires held { Held (programIn tables.now) outset marks.old fired.old applied.old 0 }
-    ensures held_2 { Held (programIn tables.now) (run (programIn tables.now) (inForce (programIn tables.now)) (take names row.now)) marks.new fired.new applied.new result.steps }
-    ensures stages_value { result.stages ≡ stageCount (run (programIn tables.now) (inForce (programIn tables.now)) (take names row.now)) }
+    requires ordered { Ordered (program_in tables.now) row.now names }
+    requires held { Held (program_in tables.now) outset marks.old fired.old applied.old 0 }
+    ensures held_2 { Held (program_in tables.now) (run (program_in tables.now) (in_force (program_in tables.now)) (take names row.now)) marks.new fired.new applied.new result.steps }
+    ensures stages_value { result.stages ≡ stage_count (run (program_in tables.now) (in_force (program_in tables.now)) (take names row.now)) }
 {
     let mut asks = [0u64; MATRIX_WORDS];
     let mut lacks = [0u16; MAX_RULES];
@@ -117,10 +117,10 @@ pub fn run_in_memory(
     applied: &mut [u8; MAX_RULES],
 ) -> RunCounts
     requires well_formed { WellFormed tables.now }
-    requires may_order { MayOrder (programIn tables.now) (named_in order.now) }
-    requires held { Held (programIn tables.now) outset marks.old fired.old applied.old 0 }
-    ensures held_2 { Held (programIn tables.now) (runIn tables.now order.now) marks.new fired.new applied.new result.steps }
-    ensures run_counted { RunCounted (runIn tables.now order.now) result.stages result.steps }
+    requires may_order { MayOrder (program_in tables.now) (named_in order.now) }
+    requires held { Held (program_in tables.now) outset marks.old fired.old applied.old 0 }
+    ensures held_2 { Held (program_in tables.now) (run_in tables.now order.now) marks.new fired.new applied.new result.steps }
+    ensures run_counted { RunCounted (run_in tables.now order.now) result.stages result.steps }
 {
     let mut row = [0u16; MAX_RULES];
     let names = order_row(order, &mut row);
@@ -136,8 +136,8 @@ pub fn run_tabled(
     steps: &mut [u8],
 ) -> Ran
     requires well_formed { WellFormed tables.now }
-    requires may_run { MayRun (programIn tables.now) (named_in order.now) (length fact_marks.old) (length rule_marks.old) (length steps.old) }
-    ensures { ◌≡◌ {A = RunOutcome} (record { answer = result; fact-marks = fact_marks.new; rule-marks = rule_marks.new; steps = steps.new }) (runWritten (programIn tables.now) (runIn tables.now order.now) fact_marks.old rule_marks.old steps.old) }
+    requires may_run { MayRun (program_in tables.now) (named_in order.now) (length fact_marks.old) (length rule_marks.old) (length steps.old) }
+    ensures { ◌≡◌ {A = RunOutcome} (record { answer = result; fact-marks = fact_marks.new; rule-marks = rule_marks.new; steps = steps.new }) (run_written (program_in tables.now) (run_in tables.now order.now) fact_marks.old rule_marks.old steps.old) }
 {
     let mut marks = [0u8; MAX_FACTS];
     let mut fired = [0u16; MAX_FACTS];

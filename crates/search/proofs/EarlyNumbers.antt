@@ -7,17 +7,17 @@ use mathlib.Core.Option.{some}
 use Rattle.items.specs.declared.refusal.Refusal.{Refusal}
 use Rattle.items.specs.Question as refusal
 use Rattle.items.specs.Item.{narrow}
-use Rattle.reader.specs.Questions.{program_of, fileQuestions}
+use Rattle.reader.specs.Questions.{program_of, file_questions}
 use Rattle.reader.proofs.FileRefusals.{each_first, each_append, FileRefusals, each-file}
-use Rattle.questions.specs.Questions.{bufferQuestions, limitQuestions, earlyQuestions}
-use Rattle.questions.specs.Parts.{earlyNo}
+use Rattle.questions.specs.Questions.{buffer_questions, limit_questions, early_questions}
+use Rattle.questions.specs.Parts.{early_no}
 
 -- a number, and not that of the last question
 abbrev pub Early : Refusal → Type 0
 Early r = (0 < refusal.number r) × (refusal.number r ≡ 41 → ⊥)
 
-file-early : FileRefusals Early
-file-early =
+file_early : FileRefusals Early
+file_early =
     record {
       one = (omega arith, λ e. omega arith);
       two = (omega arith, λ e. omega arith);
@@ -29,16 +29,16 @@ file-early =
       eight = (omega arith, λ e. omega arith);
       nine = (omega arith, λ e. omega arith);
       ten = (omega arith, λ e. omega arith);
-      fifty-one = (omega arith, λ e. omega arith);
-      fifty-six = (omega arith, λ e. omega arith);
+      fifty_one = (omega arith, λ e. omega arith);
+      fifty_six = (omega arith, λ e. omega arith);
     }
 
-pub early-numbers : (file : List ℕ) (facts rules steps order : ℕ) (r : Refusal) → earlyNo file facts rules steps order ≡ some r → Early r
-unfolding earlyQuestions bufferQuestions limitQuestions
-early-numbers file facts rules steps order r e =
-    each_first Early (earlyQuestions file facts rules steps order) r
-    (each_append Early (fileQuestions file) _ (each-file Early file-early file)
-    (each_append Early (bufferQuestions narrow (program_of file) facts rules steps) (limitQuestions (program_of file) order)
+pub early_numbers : (file : List ℕ) (facts rules steps order : ℕ) (r : Refusal) → early_no file facts rules steps order ≡ some r → Early r
+unfolding early_questions buffer_questions limit_questions
+early_numbers file facts rules steps order r e =
+    each_first Early (early_questions file facts rules steps order) r
+    (each_append Early (file_questions file) _ (each-file Early file_early file)
+    (each_append Early (buffer_questions narrow (program_of file) facts rules steps) (limit_questions (program_of file) order)
     ((omega arith, λ e. omega arith), ((omega arith, λ e. omega arith), ((omega arith, λ e. omega arith), tt)))
     ((omega arith, λ e. omega arith), ((omega arith, λ e. omega arith), tt))))
     e

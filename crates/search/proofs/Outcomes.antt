@@ -5,57 +5,57 @@ use mathlib.Core.Bool.{Bool, true, false}
 use mathlib.Core.List.{List, [], ◌∷◌}
 use mathlib.Core.Option.{Option, none, some}
 use lib.ListN.{length}
-use Rattle.theory.specs.Rule.{FactSet, inForce}
+use Rattle.theory.specs.Rule.{FactSet, in_force}
 use Rattle.theory.specs.Search.{search}
 use Rattle.theory.proofs.Bools.{never}
 use Rattle.items.specs.declared.refusal.Refusal.{Refusal}
 use Rattle.items.specs.declared.refusal.Refusal.TheVariants.{NoStableSet}
 use Rattle.items.specs.Item.{has}
 use Rattle.reader.specs.Questions.{program_of}
-use Rattle.questions.specs.Questions.{someStable, stableQuestion, earlyQuestions, searchQuestions, searchNo}
-use Rattle.questions.specs.Parts.{earlyNo}
+use Rattle.questions.specs.Questions.{some_stable, stable_question, early_questions, search_questions, search_no}
+use Rattle.questions.specs.Parts.{early_no}
 use Rattle.earliest.specs.Root.{Shown}
-use Rattle.items.specs.Question.{firstNo}
+use Rattle.items.specs.Question.{first_no}
 use Rattle.items.proofs.FirstNo.{first-no, first-yes}
-use Rattle.search.specs.Outcome.{SearchOutcome, found_at, refusedWith, takenSet, searchOutcome}
+use Rattle.search.specs.Outcome.{SearchOutcome, found_at, refused_with, taken_set, search_outcome}
 
 module _ (file facts rules steps order : List ℕ) where
   -- by the first no of all questions
-  searched-no : (r : Refusal) → searchNo file (length facts) (length rules) (length steps) (length order) ≡ some r → ◌≡◌ {A = SearchOutcome} (refusedWith r facts rules steps order) (searchOutcome file facts rules steps order)
-  unfolding searchOutcome
-  searched-no r e = sym (rw (e, searchOutcome))
+  searched_no : (r : Refusal) → search_no file (length facts) (length rules) (length steps) (length order) ≡ some r → ◌≡◌ {A = SearchOutcome} (refused_with r facts rules steps order) (search_outcome file facts rules steps order)
+  unfolding search_outcome
+  searched_no r e = sym (rw (e, search_outcome))
 
-  pub searched-refused : (r : Refusal) → earlyNo file (length facts) (length rules) (length steps) (length order) ≡ some r → ◌≡◌ {A = SearchOutcome} (refusedWith r facts rules steps order) (searchOutcome file facts rules steps order)
-  unfolding searchQuestions
-  searched-refused r e = searched-no r (first-no (earlyQuestions file (length facts) (length rules) (length steps) (length order)) _ r e)
+  pub searched_refused : (r : Refusal) → early_no file (length facts) (length rules) (length steps) (length order) ≡ some r → ◌≡◌ {A = SearchOutcome} (refused_with r facts rules steps order) (search_outcome file facts rules steps order)
+  unfolding search_questions
+  searched_refused r e = searched_no r (first-no (early_questions file (length facts) (length rules) (length steps) (length order)) _ r e)
 
-  module _ (e : ◌≡◌ {A = Option Refusal} (earlyNo file (length facts) (length rules) (length steps) (length order)) none) where
+  module _ (e : ◌≡◌ {A = Option Refusal} (early_no file (length facts) (length rules) (length steps) (length order)) none) where
     -- what is left is the last question
-    last-asked : searchNo file (length facts) (length rules) (length steps) (length order) ≡ firstNo (stableQuestion (program_of file) ∷ [])
-    unfolding searchQuestions
-    last-asked = first-yes (earlyQuestions file (length facts) (length rules) (length steps) (length order)) _ e
+    last-asked : search_no file (length facts) (length rules) (length steps) (length order) ≡ first_no (stable_question (program_of file) ∷ [])
+    unfolding search_questions
+    last-asked = first-yes (early_questions file (length facts) (length rules) (length steps) (length order)) _ e
 
-    pub searched-without : ◌≡◌ {A = Option FactSet} (search (program_of file) (inForce (program_of file))) none → ◌≡◌ {A = SearchOutcome} (refusedWith NoStableSet facts rules steps order) (searchOutcome file facts rules steps order)
-    unfolding someStable
-    searched-without q = searched-no NoStableSet (last-asked ∙ rw (q, someStable))
+    pub searched_without : ◌≡◌ {A = Option FactSet} (search (program_of file) (in_force (program_of file))) none → ◌≡◌ {A = SearchOutcome} (refused_with NoStableSet facts rules steps order) (search_outcome file facts rules steps order)
+    unfolding some_stable
+    searched_without q = searched_no NoStableSet (last-asked ∙ rw (q, some_stable))
 
-    pub searched-with : (M : FactSet) → search (program_of file) (inForce (program_of file)) ≡ some M → ◌≡◌ {A = SearchOutcome} (found_at (program_of file) M facts rules steps order) (searchOutcome file facts rules steps order)
-    unfolding someStable searchOutcome takenSet
-    searched-with M q =
-        let all_yes : ◌≡◌ {A = Option Refusal} (searchNo file (length facts) (length rules) (length steps) (length order)) none = last-asked ∙ rw (q, someStable) in
-        sym (rw (all_yes, searchOutcome, q, takenSet))
+    pub searched_with : (M : FactSet) → search (program_of file) (in_force (program_of file)) ≡ some M → ◌≡◌ {A = SearchOutcome} (found_at (program_of file) M facts rules steps order) (search_outcome file facts rules steps order)
+    unfolding some_stable search_outcome taken_set
+    searched_with M q =
+        let all_yes : ◌≡◌ {A = Option Refusal} (search_no file (length facts) (length rules) (length steps) (length order)) none = last-asked ∙ rw (q, some_stable) in
+        sym (rw (all_yes, search_outcome, q, taken_set))
 
     -- by the answer whether there is a set, and the set that the bytes show
-    pub searched-none : (bytes : List ℕ) (r : Bool) → r ≡ false → Shown (search (program_of file) (inForce (program_of file))) r bytes → ◌≡◌ {A = SearchOutcome} (refusedWith NoStableSet facts rules steps order) (searchOutcome file facts rules steps order)
-    searched-none bytes r f s = go (search (program_of file) (inForce (program_of file))) refl s
+    pub searched_none : (bytes : List ℕ) (r : Bool) → r ≡ false → Shown (search (program_of file) (in_force (program_of file))) r bytes → ◌≡◌ {A = SearchOutcome} (refused_with NoStableSet facts rules steps order) (search_outcome file facts rules steps order)
+    searched_none bytes r f s = go (search (program_of file) (in_force (program_of file))) refl s
       where
-        go : (o : Option FactSet) → search (program_of file) (inForce (program_of file)) ≡ o → Shown o r bytes → ◌≡◌ {A = SearchOutcome} (refusedWith NoStableSet facts rules steps order) (searchOutcome file facts rules steps order)
-        go none q w = searched-without q
+        go : (o : Option FactSet) → search (program_of file) (in_force (program_of file)) ≡ o → Shown o r bytes → ◌≡◌ {A = SearchOutcome} (refused_with NoStableSet facts rules steps order) (search_outcome file facts rules steps order)
+        go none q w = searched_without q
         go (some M) q w = never w.0 f
 
-    pub searched-found : (bytes : List ℕ) (r : Bool) → r ≡ true → Shown (search (program_of file) (inForce (program_of file))) r bytes → ◌≡◌ {A = SearchOutcome} (found_at (program_of file) (has bytes) facts rules steps order) (searchOutcome file facts rules steps order)
-    searched-found bytes r t s = go (search (program_of file) (inForce (program_of file))) refl s
+    pub searched_found : (bytes : List ℕ) (r : Bool) → r ≡ true → Shown (search (program_of file) (in_force (program_of file))) r bytes → ◌≡◌ {A = SearchOutcome} (found_at (program_of file) (has bytes) facts rules steps order) (search_outcome file facts rules steps order)
+    searched_found bytes r t s = go (search (program_of file) (in_force (program_of file))) refl s
       where
-        go : (o : Option FactSet) → search (program_of file) (inForce (program_of file)) ≡ o → Shown o r bytes → ◌≡◌ {A = SearchOutcome} (found_at (program_of file) (has bytes) facts rules steps order) (searchOutcome file facts rules steps order)
+        go : (o : Option FactSet) → search (program_of file) (in_force (program_of file)) ≡ o → Shown o r bytes → ◌≡◌ {A = SearchOutcome} (found_at (program_of file) (has bytes) facts rules steps order) (search_outcome file facts rules steps order)
         go none q w = never t w
-        go (some M) q w = ap (λ (N : FactSet). found_at (program_of file) N facts rules steps order) w.1 ∙ searched-with M q
+        go (some M) q w = ap (λ (N : FactSet). found_at (program_of file) N facts rules steps order) w.1 ∙ searched_with M q

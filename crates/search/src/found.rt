@@ -1,15 +1,15 @@
 // The search of an accepted file. Internal.
 ghost use Rattle.std.specs.Prelude.{◌≤◌, ◌≡◌, length};
 ghost use Rattle.std.proofs.Math.Option.{none};
-ghost use Rattle.theory.specs.Rule.{inForce};
+ghost use Rattle.theory.specs.Rule.{in_force};
 ghost use Rattle.theory.specs.Search.{search};
-ghost use Rattle.items.specs.Item.{narrow, maxFacts, has, maxGuessed};
-ghost use Rattle.tables.specs.Layout.{programIn, WellFormed};
-ghost use Rattle.reader.specs.Questions.{program_of, constraintFacts};
+ghost use Rattle.items.specs.Item.{narrow, max_facts, has, max_guessed};
+ghost use Rattle.tables.specs.Layout.{program_in, WellFormed};
+ghost use Rattle.reader.specs.Questions.{program_of, constraint_facts};
 ghost use Rattle.reader.specs.Scanned.{Tabled};
-ghost use Rattle.questions.specs.Parts.{earlyNo};
+ghost use Rattle.questions.specs.Parts.{early_no};
 ghost use Rattle.earliest.specs.Root.{Shown};
-ghost use Rattle.search.specs.Outcome.{SearchOutcome, found_at, searchOutcome};
+ghost use Rattle.search.specs.Outcome.{SearchOutcome, found_at, search_outcome};
 
 use crate::answer::Searched;
 use items::item::MAX_FACTS;
@@ -29,7 +29,7 @@ fn run_to(
     steps: &mut [u8],
     order: &mut [u8],
 ) -> Searched
-    requires order_value { earlyNo file.now (length fact_marks.old) (length rule_marks.old) (length steps.old) (length order.old) ≡ none }
+    requires order_value { early_no file.now (length fact_marks.old) (length rule_marks.old) (length steps.old) (length order.old) ≡ none }
     requires tabled { Tabled file.now tables.now }
     ensures { ◌≡◌ {A = SearchOutcome} (record { answer = result; fact-marks = fact_marks.new; rule-marks = rule_marks.new; steps = steps.new; order = order.new }) (found_at (program_of file.now) (has set.now) fact_marks.old rule_marks.old steps.old order.old) }
 {
@@ -48,8 +48,8 @@ fn run_to(
 
 // Looks for the earliest stable set of a program with few constraint facts. Answers whether there is one, and then marks its facts.
 fn find_set(tables: &[u16; TABLE_CELLS], set: &mut [u8; MAX_FACTS]) -> bool
-    requires { WellFormed tables.now × (constraintFacts (programIn tables.now) ≤ maxGuessed) × (length set.old ≡ maxFacts narrow) }
-    ensures { Shown (search (programIn tables.now) (inForce (programIn tables.now))) result set.new }
+    requires { WellFormed tables.now × (constraint_facts (program_in tables.now) ≤ max_guessed) × (length set.old ≡ max_facts narrow) }
+    ensures { Shown (search (program_in tables.now) (in_force (program_in tables.now))) result set.new }
 {
     let mut marks = [0u8; MAX_FACTS];
     marking::marks::mark_constraint_facts(tables, &mut marks);
@@ -70,9 +70,9 @@ pub fn search_accepted(
     steps: &mut [u8],
     order: &mut [u8],
 ) -> Searched
-    requires order_value { earlyNo file.now (length fact_marks.old) (length rule_marks.old) (length steps.old) (length order.old) ≡ none }
+    requires order_value { early_no file.now (length fact_marks.old) (length rule_marks.old) (length steps.old) (length order.old) ≡ none }
     requires tabled { Tabled file.now tables.now }
-    ensures { ◌≡◌ {A = SearchOutcome} (record { answer = result; fact-marks = fact_marks.new; rule-marks = rule_marks.new; steps = steps.new; order = order.new }) (searchOutcome file.now fact_marks.old rule_marks.old steps.old order.old) }
+    ensures { ◌≡◌ {A = SearchOutcome} (record { answer = result; fact-marks = fact_marks.new; rule-marks = rule_marks.new; steps = steps.new; order = order.new }) (search_outcome file.now fact_marks.old rule_marks.old steps.old order.old) }
 {
     let mut set = [0u8; MAX_FACTS];
     if !find_set(tables, &mut set) {

@@ -2,8 +2,8 @@
 ghost use Rattle.std.specs.Prelude.{◌≡◌, length};
 ghost use Rattle.reader.specs.Accepted.{Accepted};
 ghost use Rattle.reader.specs.Scanned.{Tabled};
-ghost use Rattle.questions.specs.Questions.{searchNo};
-ghost use Rattle.search.specs.Outcome.{SearchOutcome, searchOutcome, SearchMeans};
+ghost use Rattle.questions.specs.Questions.{search_no};
+ghost use Rattle.search.specs.Outcome.{SearchOutcome, search_outcome, SearchMeans};
 
 pub mod answer;
 mod asked;
@@ -23,8 +23,8 @@ pub fn search(
     steps: &mut [u8],
     order: &mut [u8],
 ) -> Searched
-    ensures fact { ◌≡◌ {A = SearchOutcome} (record { answer = result; fact-marks = fact_marks.new; rule-marks = rule_marks.new; steps = steps.new; order = order.new }) (searchOutcome file.now fact_marks.old rule_marks.old steps.old order.old) }
-    ensures search_means { SearchMeans file.now (searchNo file.now (length fact_marks.old) (length rule_marks.old) (length steps.old) (length order.old)) (record { answer = result; fact-marks = fact_marks.new; rule-marks = rule_marks.new; steps = steps.new; order = order.new }) }
+    ensures fact { ◌≡◌ {A = SearchOutcome} (record { answer = result; fact-marks = fact_marks.new; rule-marks = rule_marks.new; steps = steps.new; order = order.new }) (search_outcome file.now fact_marks.old rule_marks.old steps.old order.old) }
+    ensures search_means { SearchMeans file.now (search_no file.now (length fact_marks.old) (length rule_marks.old) (length steps.old) (length order.old)) (record { answer = result; fact-marks = fact_marks.new; rule-marks = rule_marks.new; steps = steps.new; order = order.new }) }
 {
     let mut tables = [0u16; TABLE_CELLS];
     match reader::scan::scan(file, &mut tables) {
@@ -46,7 +46,7 @@ fn search_scanned(
     order: &mut [u8],
 ) -> Searched
     requires { Accepted file.now counts × Tabled file.now tables.now }
-    ensures { ◌≡◌ {A = SearchOutcome} (record { answer = result; fact-marks = fact_marks.new; rule-marks = rule_marks.new; steps = steps.new; order = order.new }) (searchOutcome file.now fact_marks.old rule_marks.old steps.old order.old) }
+    ensures { ◌≡◌ {A = SearchOutcome} (record { answer = result; fact-marks = fact_marks.new; rule-marks = rule_marks.new; steps = steps.new; order = order.new }) (search_outcome file.now fact_marks.old rule_marks.old steps.old order.old) }
 {
     let answer = asked::ask_search(
         tables,

@@ -1,9 +1,9 @@
 // The first eligible rule of an order, and its stage. Internal.
 ghost use Rattle.std.specs.Prelude.{ℕ, ◌≡◌, Bool, List};
-ghost use Rattle.theory.specs.Rule.{inForce, plainRules};
+ghost use Rattle.theory.specs.Rule.{in_force, plain_rules};
 ghost use Rattle.theory.specs.Run.{Stand};
-ghost use Rattle.tables.specs.Layout.{programIn, WellFormed};
-ghost use Rattle.premises.specs.Plain.{maskIn, PlainIndexed};
+ghost use Rattle.tables.specs.Layout.{program_in, WellFormed};
+ghost use Rattle.premises.specs.Plain.{mask_in, PlainIndexed};
 ghost use Rattle.stage.specs.Look.{Looking, Stands, Looked};
 
 use crate::staged::Staged;
@@ -29,9 +29,9 @@ pub fn first_eligible(
     awake: &mut [u64; ROW_WORDS],
 ) -> Staged
     requires well_formed { WellFormed tables.now }
-    requires plain_indexed { PlainIndexed (programIn tables.now) index.now × (maskIn index.now ≡ plainRules (programIn tables.now) (inForce (programIn tables.now))) }
-    requires stands { Stands (programIn tables.now) row.now marks.old missing.old fired.old count awake.old }
-    ensures { (order : List ℕ) (s : Stand) (p : ℕ → Bool) → Looking (programIn tables.now) row.now order marks.old missing.old fired.old count awake.old s p → Looked (programIn tables.now) order s count result marks.new missing.new fired.new awake.new }
+    requires plain_indexed { PlainIndexed (program_in tables.now) index.now × (mask_in index.now ≡ plain_rules (program_in tables.now) (in_force (program_in tables.now))) }
+    requires stands { Stands (program_in tables.now) row.now marks.old missing.old fired.old count awake.old }
+    ensures { (order : List ℕ) (s : Stand) (p : ℕ → Bool) → Looking (program_in tables.now) row.now order marks.old missing.old fired.old count awake.old s p → Looked (program_in tables.now) order s count result marks.new missing.new fired.new awake.new }
 {
     let found = 'rules: loop {
         let lowest = take(awake);

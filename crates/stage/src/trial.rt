@@ -1,10 +1,10 @@
 // The trial of a rule. Internal.
 ghost use Rattle.std.specs.Prelude.{◌<◌, ◌≡◌, true, false, length};
-ghost use Rattle.theory.specs.Rule.{all, clear, count as count_of, exception, inForce, plainRules, rule as ruleOf};
+ghost use Rattle.theory.specs.Rule.{all, clear, count as count_of, exception, in_force, plain_rules, rule as rule_of};
 ghost use Rattle.theory.specs.Run.{Stand};
-ghost use Rattle.items.specs.Item.{narrow, maxFacts, has};
-ghost use Rattle.tables.specs.Layout.{programIn, WellFormed};
-ghost use Rattle.premises.specs.Plain.{maskIn, PlainIndexed};
+ghost use Rattle.items.specs.Item.{narrow, max_facts, has};
+ghost use Rattle.tables.specs.Layout.{program_in, WellFormed};
+ghost use Rattle.premises.specs.Plain.{mask_in, PlainIndexed};
 ghost use Rattle.closure.specs.Deriving.{AtRest};
 ghost use Rattle.closure.specs.Room.{Room};
 ghost use Rattle.stage.specs.Memory.{Holds, Tried};
@@ -31,12 +31,12 @@ pub fn trial(
     fired: &mut [u16; MAX_FACTS],
     count: usize,
 ) -> Derivation
-    requires well_formed { WellFormed tables.now × (rule.0 < count_of (programIn tables.now)) }
-    requires plain_indexed { PlainIndexed (programIn tables.now) index.now × (maskIn index.now ≡ plainRules (programIn tables.now) (inForce (programIn tables.now))) }
-    requires room { Room (programIn tables.now) marks.old count × (length fired.old ≡ maxFacts narrow) }
-    requires rule_value { (has marks.old (ruleOf (programIn tables.now) rule.0).conclusion ≡ false) × (clear (has marks.old) (ruleOf (programIn tables.now) rule.0).constraints ≡ true) }
-    requires at_rest { AtRest (programIn tables.now) (maskIn index.now) (has marks.old) missing.old }
-    ensures { (s : Stand) → Holds (programIn tables.now) s marks.old fired.old count → all s.derived (ruleOf (programIn tables.now) rule.0).premises ≡ true → exception (programIn tables.now) rule.0 ≡ true → inForce (programIn tables.now) rule.0 ≡ true → Tried (programIn tables.now) s rule.0 fired.old count result marks.new missing.new fired.new }
+    requires well_formed { WellFormed tables.now × (rule.0 < count_of (program_in tables.now)) }
+    requires plain_indexed { PlainIndexed (program_in tables.now) index.now × (mask_in index.now ≡ plain_rules (program_in tables.now) (in_force (program_in tables.now))) }
+    requires room { Room (program_in tables.now) marks.old count × (length fired.old ≡ max_facts narrow) }
+    requires rule_value { (has marks.old (rule_of (program_in tables.now) rule.0).conclusion ≡ false) × (clear (has marks.old) (rule_of (program_in tables.now) rule.0).constraints ≡ true) }
+    requires at_rest { AtRest (program_in tables.now) (mask_in index.now) (has marks.old) missing.old }
+    ensures { (s : Stand) → Holds (program_in tables.now) s marks.old fired.old count → all s.derived (rule_of (program_in tables.now) rule.0).premises ≡ true → exception (program_in tables.now) rule.0 ≡ true → in_force (program_in tables.now) rule.0 ≡ true → Tried (program_in tables.now) s rule.0 fired.old count result marks.new missing.new fired.new }
 {
     let mut set = *marks;
     mark_own(tables, rule, BARRED, &mut set);

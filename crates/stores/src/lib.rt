@@ -1,8 +1,8 @@
 // What the scan of a file stores: rules, counts and unread facts in the tables, and marks of facts in its scratch memory. Internal.
 ghost use Rattle.std.specs.Prelude.{◌≡◌, ◌<◌, ◌≤◌, set};
-ghost use Rattle.items.specs.Item.{narrow, maxFacts, maxRules, maxBytes};
-ghost use Rattle.tables.specs.Layout.{maxOwn};
-ghost use Rattle.stores.specs.Stores.{withStarts, withRule, withCounts, withUnread, withholding, unreadMark, isUnread, withMark};
+ghost use Rattle.items.specs.Item.{narrow, max_facts, max_rules, max_bytes};
+ghost use Rattle.tables.specs.Layout.{max_own};
+ghost use Rattle.stores.specs.Stores.{with_starts, with_rule, with_counts, with_unread, withholding, unread_mark, is_unread, with_mark};
 
 use items::item::MAX_FACTS;
 use tables::layout::{
@@ -12,8 +12,8 @@ use tables::layout::{
 
 // Where the premises and the constraints of a rule start; past the last rule, where they end.
 fn store_starts(tables: &mut [u16; TABLE_CELLS], rule: usize, premises: usize, constraints: usize)
-    requires { (rule ≤ maxRules) × (premises ≤ maxOwn) × (constraints ≤ maxOwn) }
-    ensures { tables.new ≡ withStarts tables.old rule premises constraints }
+    requires { (rule ≤ max_rules) × (premises ≤ max_own) × (constraints ≤ max_own) }
+    ensures { tables.new ≡ with_starts tables.old rule premises constraints }
 {
     tables[PREMISE_STARTS + rule] = premises as u16;
     tables[CONSTRAINT_STARTS + rule] = constraints as u16;
@@ -28,8 +28,8 @@ pub fn store_rule(
     premises: usize,
     constraints: usize,
 )
-    requires { (rule < maxRules) × (place ≤ maxBytes) × (premises ≤ maxOwn) × (constraints ≤ maxOwn) }
-    ensures { tables.new ≡ withRule tables.old rule conclusion place premises constraints }
+    requires { (rule < max_rules) × (place ≤ max_bytes) × (premises ≤ max_own) × (constraints ≤ max_own) }
+    ensures { tables.new ≡ with_rule tables.old rule conclusion place premises constraints }
 {
     tables[CONCLUSIONS + rule] = conclusion;
     tables[PLACES + rule] = place as u16;
@@ -44,8 +44,8 @@ pub fn store_counts(
     premises: usize,
     constraints: usize,
 )
-    requires { (rules ≤ maxRules) × (premises ≤ maxOwn) × (constraints ≤ maxOwn) }
-    ensures { tables.new ≡ withCounts tables.old facts rules premises constraints }
+    requires { (rules ≤ max_rules) × (premises ≤ max_own) × (constraints ≤ max_own) }
+    ensures { tables.new ≡ with_counts tables.old facts rules premises constraints }
 {
     store_starts(tables, rules as usize, premises, constraints);
     tables[FACTS_CELL] = facts;
@@ -59,9 +59,9 @@ const UNREAD_FACT: u8 = 2;
 
 // A fact that is unread.
 pub fn store_unread(tables: &mut [u16; TABLE_CELLS], marks: &mut [u8; MAX_FACTS], fact: u16)
-    requires { fact < maxFacts narrow }
-    ensures tables_after { tables.new ≡ withUnread tables.old fact }
-    ensures marks_after { marks.new ≡ set marks.old fact unreadMark }
+    requires { fact < max_facts narrow }
+    ensures tables_after { tables.new ≡ with_unread tables.old fact }
+    ensures marks_after { marks.new ≡ set marks.old fact unread_mark }
 {
     let number = fact as usize;
     tables[UNREAD + number] = 1;
@@ -75,9 +75,9 @@ pub fn mark_constraint(
     rules: usize,
     fact: u16,
 )
-    requires { (0 < rules) × (rules ≤ maxRules) × (fact < maxFacts narrow) }
-    ensures tables_after { tables.new ≡ withholding tables.old rules (isUnread marks.old fact) }
-    ensures marks_after { marks.new ≡ withMark marks.old fact }
+    requires { (0 < rules) × (rules ≤ max_rules) × (fact < max_facts narrow) }
+    ensures tables_after { tables.new ≡ withholding tables.old rules (is_unread marks.old fact) }
+    ensures marks_after { marks.new ≡ with_mark marks.old fact }
 {
     let number = fact as usize;
     if marks[number] == UNREAD_FACT {

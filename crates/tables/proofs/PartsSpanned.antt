@@ -12,8 +12,8 @@ use lib.Dec.{ltb}
 use Rattle.theory.specs.Rule.{all, mem, Rule, Program, count, rule, null, exception}
 use Rattle.theory.proofs.Bools.{either}
 use Rattle.theory.proofs.Lists.{all-elem, mem-here, mem-there}
-use Rattle.theory.proofs.ListWalks.{Decides, whole-decides, not_tested, all_pass, one-fails, one_passes}
-use Rattle.tables.specs.Layout.{premiseStart, constraintStart, premiseAt, constraintAt, listed, span, ruleIn, programIn, Spanned, WellFormed}
+use Rattle.theory.proofs.ListWalks.{Decides, whole-decides, not_tested, all_pass, one_fails, one_passes}
+use Rattle.tables.specs.Layout.{premise_start, constraint_start, premise_at, constraint_at, listed, span, rule_in, program_in, Spanned, WellFormed}
 use Rattle.tables.proofs.ProgramHeld.{rule-held, known}
 
 pub span-cons : (row : ℕ → ℕ) (a b : ℕ) → a < b → span row a b ≡ row a ∷ span row (a + 1) b
@@ -55,39 +55,39 @@ in_span row a b j low high = go (b - a) a low (omega arith)
             let same : j ≡ a = omega arith in
             rw same (mem-here (row a) (listed row (suc a) n))
 
-module _ {T : List ℕ} (w : WellFormed T) {i : ℕ} (h : i < count (programIn T)) where
-  pub conclusion-is : (rule (programIn T) i).conclusion ≡ (ruleIn T i).conclusion
-  conclusion-is = ap (λ (r : Rule). r.conclusion) (rule-held T i (known w h))
+module _ {T : List ℕ} (w : WellFormed T) {i : ℕ} (h : i < count (program_in T)) where
+  pub conclusion_is : (rule (program_in T) i).conclusion ≡ (rule_in T i).conclusion
+  conclusion_is = ap (λ (r : Rule). r.conclusion) (rule-held T i (known w h))
 
-  premises-are : (rule (programIn T) i).premises ≡ span (premiseAt T) (premiseStart T i) (premiseStart T (i + 1))
-  unfolding ruleIn
-  premises-are = ap (λ (r : Rule). r.premises) (rule-held T i (known w h))
+  premises_are : (rule (program_in T) i).premises ≡ span (premise_at T) (premise_start T i) (premise_start T (i + 1))
+  unfolding rule_in
+  premises_are = ap (λ (r : Rule). r.premises) (rule-held T i (known w h))
 
-  constraints-are : (rule (programIn T) i).constraints ≡ span (constraintAt T) (constraintStart T i) (constraintStart T (i + 1))
-  unfolding ruleIn
+  constraints-are : (rule (program_in T) i).constraints ≡ span (constraint_at T) (constraint_start T i) (constraint_start T (i + 1))
+  unfolding rule_in
   constraints-are = ap (λ (r : Rule). r.constraints) (rule-held T i (known w h))
 
-  below : (row : ℕ → ℕ) (a b : ℕ) → all (λ f. ltb f (programIn T).facts) (span row a b) ≡ true → (j : ℕ) → a ≤ j → j < b → row j < (programIn T).facts
-  below row a b e j l g = ltb-true (row j) (programIn T).facts (all-elem (λ f. ltb f (programIn T).facts) (span row a b) e (row j) (in_span row a b j l g))
+  below : (row : ℕ → ℕ) (a b : ℕ) → all (λ f. ltb f (program_in T).facts) (span row a b) ≡ true → (j : ℕ) → a ≤ j → j < b → row j < (program_in T).facts
+  below row a b e j l g = ltb-true (row j) (program_in T).facts (all-elem (λ f. ltb f (program_in T).facts) (span row a b) e (row j) (in_span row a b j l g))
 
-  pub premises-spanned : (from end : ℕ) → from ≡ premiseStart T i → end ≡ premiseStart T (i + 1) → Spanned (programIn T).facts (premiseAt T) (rule (programIn T) i).premises from end
-  premises-spanned from end a b =
+  pub premises_spanned : (from end : ℕ) → from ≡ premise_start T i → end ≡ premise_start T (i + 1) → Spanned (program_in T).facts (premise_at T) (rule (program_in T) i).premises from end
+  premises_spanned from end a b =
       rw (a, b)
       (record {
-        is = premises-are;
-        low = w.premise-spans.low i (known w h);
-        high = w.premise-spans.high i (known w h);
-        facts_below = below (premiseAt T) _ _ (rw premises-are at (w.in_bounds.premises-below i h));
+        is = premises_are;
+        low = w.premise_spans.low i (known w h);
+        high = w.premise_spans.high i (known w h);
+        facts_below = below (premise_at T) _ _ (rw premises_are at (w.in_bounds.premises_below i h));
       })
 
-  pub constraints-spanned : (from end : ℕ) → from ≡ constraintStart T i → end ≡ constraintStart T (i + 1) → Spanned (programIn T).facts (constraintAt T) (rule (programIn T) i).constraints from end
+  pub constraints-spanned : (from end : ℕ) → from ≡ constraint_start T i → end ≡ constraint_start T (i + 1) → Spanned (program_in T).facts (constraint_at T) (rule (program_in T) i).constraints from end
   constraints-spanned from end a b =
       rw (a, b)
       (record {
         is = constraints-are;
-        low = w.constraint-spans.low i (known w h);
-        high = w.constraint-spans.high i (known w h);
-        facts_below = below (constraintAt T) _ _ (rw constraints-are at (w.in_bounds.constraints-below i h));
+        low = w.constraint_spans.low i (known w h);
+        high = w.constraint_spans.high i (known w h);
+        facts_below = below (constraint_at T) _ _ (rw constraints-are at (w.in_bounds.constraints_below i h));
       })
 
 -- An exception rule has a constraint.
@@ -109,16 +109,16 @@ pub record Testing (p : ℕ → Bool) (elements : List ℕ) (row : ℕ → ℕ) 
   pub inside : j ≤ end
   pub decides : Decides p elements (span row j end)
 
-pub none-tested : {facts : ℕ} {row : ℕ → ℕ} {elements : List ℕ} {from end : ℕ} (p : ℕ → Bool) → Spanned facts row elements from end → Testing p elements row from end from
-none-tested p s = record { reached = omega arith; inside = s.low; decides = not_tested (whole-decides _ _) _ s.is }
+pub none_tested : {facts : ℕ} {row : ℕ → ℕ} {elements : List ℕ} {from end : ℕ} (p : ℕ → Bool) → Spanned facts row elements from end → Testing p elements row from end from
+none_tested p s = record { reached = omega arith; inside = s.low; decides = not_tested (whole-decides _ _) _ s.is }
 
 module _ {p : ℕ → Bool} {elements : List ℕ} {row : ℕ → ℕ} {from end j : ℕ} (w : Testing p elements row from end j) where
   pub all_tested : end ≤ j → true ≡ all p elements
   all_tested h = all_pass w.decides (span-end row j end h)
 
   module _ (h : j < end) where
-    pub test-fails : p (row j) ≡ false → false ≡ all p elements
-    test-fails e = one-fails w.decides (row j) _ (span-cons row j end h) e
+    pub test_fails : p (row j) ≡ false → false ≡ all p elements
+    test_fails e = one_fails w.decides (row j) _ (span-cons row j end h) e
 
-    pub test-passes : p (row j) ≡ true → Testing p elements row from end (j + 1)
-    test-passes e = record { reached = omega (arith, w.reached); inside = omega arith; decides = one_passes w.decides (row j) _ (span-cons row j end h) e }
+    pub test_passes : p (row j) ≡ true → Testing p elements row from end (j + 1)
+    test_passes e = record { reached = omega (arith, w.reached); inside = omega arith; decides = one_passes w.decides (row j) _ (span-cons row j end h) e }

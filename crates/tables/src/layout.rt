@@ -1,7 +1,7 @@
 // Where each part of the tables begins, and their counts.
 ghost use Rattle.std.specs.Prelude.{◌≡◌};
 ghost use Rattle.theory.specs.Rule.{count};
-ghost use Rattle.tables.specs.Layout.{programIn};
+ghost use Rattle.tables.specs.Layout.{program_in};
 
 use items::item::{MAX_FACTS, MAX_RULE_ITEMS, MAX_RULES};
 
@@ -41,14 +41,14 @@ pub fn wide(number: u16) -> usize
 
 // The count of facts.
 pub fn facts_of(tables: &[u16; TABLE_CELLS]) -> usize
-    ensures { result ≡ (programIn tables.now).facts }
+    ensures { result ≡ (program_in tables.now).facts }
 {
     wide(tables[FACTS_CELL])
 }
 
 // The count of rules.
 pub fn rules_of(tables: &[u16; TABLE_CELLS]) -> usize
-    ensures { result ≡ count (programIn tables.now) }
+    ensures { result ≡ count (program_in tables.now) }
 {
     wide(tables[RULES_CELL])
 }

@@ -1,7 +1,7 @@
 // Where the premises and the constraints of a rule stand.
 ghost use Rattle.std.specs.Prelude.{◌<◌, ◌≡◌};
-ghost use Rattle.theory.specs.Rule.{count, rule as ruleOf};
-ghost use Rattle.tables.specs.Layout.{maxOwn, premiseAt, constraintAt, programIn, Spanned, WellFormed};
+ghost use Rattle.theory.specs.Rule.{count, rule as rule_of};
+ghost use Rattle.tables.specs.Layout.{max_own, premise_at, constraint_at, program_in, Spanned, WellFormed};
 
 use crate::layout::{CONSTRAINT_STARTS, LAST_CELL, OWN, PREMISE_STARTS, TABLE_CELLS, wide};
 use items::item::RuleId;
@@ -15,8 +15,8 @@ pub struct Span {
 
 // The places of its premises.
 pub fn premise_span(tables: &[u16; TABLE_CELLS], rule: RuleId) -> Span
-    requires { WellFormed tables.now × (rule.0 < count (programIn tables.now)) }
-    ensures { Spanned (programIn tables.now).facts (premiseAt tables.now) (ruleOf (programIn tables.now) rule.0).premises result.from result.end }
+    requires { WellFormed tables.now × (rule.0 < count (program_in tables.now)) }
+    ensures { Spanned (program_in tables.now).facts (premise_at tables.now) (rule_of (program_in tables.now) rule.0).premises result.from result.end }
 {
     let number = rule.0 as usize;
     let next = number + 1;
@@ -27,8 +27,8 @@ pub fn premise_span(tables: &[u16; TABLE_CELLS], rule: RuleId) -> Span
 
 // The places of its constraints.
 pub fn constraint_span(tables: &[u16; TABLE_CELLS], rule: RuleId) -> Span
-    requires { WellFormed tables.now × (rule.0 < count (programIn tables.now)) }
-    ensures { Spanned (programIn tables.now).facts (constraintAt tables.now) (ruleOf (programIn tables.now) rule.0).constraints result.from result.end }
+    requires { WellFormed tables.now × (rule.0 < count (program_in tables.now)) }
+    ensures { Spanned (program_in tables.now).facts (constraint_at tables.now) (rule_of (program_in tables.now) rule.0).constraints result.from result.end }
 {
     let number = rule.0 as usize;
     let next = number + 1;
@@ -39,16 +39,16 @@ pub fn constraint_span(tables: &[u16; TABLE_CELLS], rule: RuleId) -> Span
 
 // The premise at a place.
 pub fn premise_at(tables: &[u16; TABLE_CELLS], place: usize) -> usize
-    requires { place < maxOwn }
-    ensures { result ≡ premiseAt tables.now place }
+    requires { place < max_own }
+    ensures { result ≡ premise_at tables.now place }
 {
     wide(tables[OWN + place])
 }
 
 // The constraint at a place.
 pub fn constraint_at(tables: &[u16; TABLE_CELLS], place: usize) -> usize
-    requires { place < maxOwn }
-    ensures { result ≡ constraintAt tables.now place }
+    requires { place < max_own }
+    ensures { result ≡ constraint_at tables.now place }
 {
     wide(tables[LAST_CELL - place])
 }

@@ -1,8 +1,8 @@
 // What a rule says, and what it says of a set.
 ghost use Rattle.std.specs.Prelude.{◌<◌, ◌≤◌, ◌≡◌, length};
-ghost use Rattle.theory.specs.Rule.{all, clear, count, exception, withheld, rule as ruleOf};
-ghost use Rattle.items.specs.Item.{factId, has};
-ghost use Rattle.tables.specs.Layout.{programIn, WellFormed};
+ghost use Rattle.theory.specs.Rule.{all, clear, count, exception, withheld, rule as rule_of};
+ghost use Rattle.items.specs.Item.{fact_id, has};
+ghost use Rattle.tables.specs.Layout.{program_in, WellFormed};
 
 use crate::layout::{CONCLUSIONS, TABLE_CELLS, WITHHELD};
 use crate::own::{constraint_at, constraint_span, premise_at, premise_span};
@@ -10,8 +10,8 @@ use items::item::{FactId, RuleId};
 
 // The conclusion.
 pub fn conclusion(tables: &[u16; TABLE_CELLS], rule: RuleId) -> FactId
-    requires { WellFormed tables.now × (rule.0 < count (programIn tables.now)) }
-    ensures { result ≡ factId (ruleOf (programIn tables.now) rule.0).conclusion }
+    requires { WellFormed tables.now × (rule.0 < count (program_in tables.now)) }
+    ensures { result ≡ fact_id (rule_of (program_in tables.now) rule.0).conclusion }
 {
     let number = rule.0 as usize;
     FactId(tables[CONCLUSIONS + number])
@@ -19,9 +19,9 @@ pub fn conclusion(tables: &[u16; TABLE_CELLS], rule: RuleId) -> FactId
 
 // Is its conclusion in the set?
 pub fn conclusion_in(tables: &[u16; TABLE_CELLS], rule: RuleId, set: &[u8]) -> bool
-    requires well_formed { WellFormed tables.now × (rule.0 < count (programIn tables.now)) }
-    requires tables_in_bounds { (programIn tables.now).facts ≤ length set.now }
-    ensures { result ≡ has set.now (ruleOf (programIn tables.now) rule.0).conclusion }
+    requires well_formed { WellFormed tables.now × (rule.0 < count (program_in tables.now)) }
+    requires tables_in_bounds { (program_in tables.now).facts ≤ length set.now }
+    ensures { result ≡ has set.now (rule_of (program_in tables.now) rule.0).conclusion }
 {
     let fact = conclusion(tables, rule);
     let number = fact.0 as usize;
@@ -30,8 +30,8 @@ pub fn conclusion_in(tables: &[u16; TABLE_CELLS], rule: RuleId, set: &[u8]) -> b
 
 // Is it an exception rule?
 pub fn is_exception(tables: &[u16; TABLE_CELLS], rule: RuleId) -> bool
-    requires { WellFormed tables.now × (rule.0 < count (programIn tables.now)) }
-    ensures { result ≡ exception (programIn tables.now) rule.0 }
+    requires { WellFormed tables.now × (rule.0 < count (program_in tables.now)) }
+    ensures { result ≡ exception (program_in tables.now) rule.0 }
 {
     let own = constraint_span(tables, rule);
     own.from < own.end
@@ -39,8 +39,8 @@ pub fn is_exception(tables: &[u16; TABLE_CELLS], rule: RuleId) -> bool
 
 // Is it withheld?
 pub fn is_withheld(tables: &[u16; TABLE_CELLS], rule: RuleId) -> bool
-    requires { WellFormed tables.now × (rule.0 < count (programIn tables.now)) }
-    ensures { result ≡ withheld (programIn tables.now) rule.0 }
+    requires { WellFormed tables.now × (rule.0 < count (program_in tables.now)) }
+    ensures { result ≡ withheld (program_in tables.now) rule.0 }
 {
     let number = rule.0 as usize;
     tables[WITHHELD + number] == 1
@@ -48,9 +48,9 @@ pub fn is_withheld(tables: &[u16; TABLE_CELLS], rule: RuleId) -> bool
 
 // Are its premises in the set?
 pub fn premises_in(tables: &[u16; TABLE_CELLS], rule: RuleId, set: &[u8]) -> bool
-    requires well_formed { WellFormed tables.now × (rule.0 < count (programIn tables.now)) }
-    requires tables_in_bounds { (programIn tables.now).facts ≤ length set.now }
-    ensures { result ≡ all (has set.now) (ruleOf (programIn tables.now) rule.0).premises }
+    requires well_formed { WellFormed tables.now × (rule.0 < count (program_in tables.now)) }
+    requires tables_in_bounds { (program_in tables.now).facts ≤ length set.now }
+    ensures { result ≡ all (has set.now) (rule_of (program_in tables.now) rule.0).premises }
 {
     let own = premise_span(tables, rule);
     let end = own.end;
@@ -67,9 +67,9 @@ pub fn premises_in(tables: &[u16; TABLE_CELLS], rule: RuleId, set: &[u8]) -> boo
 
 // Are its constraints all outside the set?
 pub fn constraints_clear(tables: &[u16; TABLE_CELLS], rule: RuleId, set: &[u8]) -> bool
-    requires well_formed { WellFormed tables.now × (rule.0 < count (programIn tables.now)) }
-    requires tables_in_bounds { (programIn tables.now).facts ≤ length set.now }
-    ensures { result ≡ clear (has set.now) (ruleOf (programIn tables.now) rule.0).constraints }
+    requires well_formed { WellFormed tables.now × (rule.0 < count (program_in tables.now)) }
+    requires tables_in_bounds { (program_in tables.now).facts ≤ length set.now }
+    ensures { result ≡ clear (has set.now) (rule_of (program_in tables.now) rule.0).constraints }
 {
     let own = constraint_span(tables, rule);
     let end = own.end;

@@ -8,36 +8,36 @@ use mathlib.Core.List.{List}
 use mathlib.Core.Logic.{◌⊎◌, inl, inr, ⊎_elim}
 use borrow.Author.Tests.{lt-ltb, le-ltb}
 use lib.Dec.{eqb}
-use Rattle.theory.specs.Rule.{up_to, howMany, Program, Mask, count}
-use Rattle.theory.specs.Run.{setAside, ruleMark, ruleMarks, run}
-use Rattle.theory.specs.Better.{asideCount, secondPreferred, better, FewestOfThree}
-use Rattle.theory.proofs.Lists.{howMany-ext}
-use Rattle.theory.proofs.Counts.{howMany-map}
+use Rattle.theory.specs.Rule.{up_to, how_many, Program, Mask, count}
+use Rattle.theory.specs.Run.{set_aside, rule_mark, marks_of_rules, run}
+use Rattle.theory.specs.Better.{aside_count, second_preferred, better, FewestOfThree}
+use Rattle.theory.proofs.Lists.{how_many-ext}
+use Rattle.theory.proofs.Counts.{how_many-map}
 use Rattle.theory.proofs.Run.{run_sound}
-use Rattle.theory.proofs.Marks.{mark-aside}
+use Rattle.theory.proofs.Marks.{mark_aside}
 
-pub prefers-first : (first second : ℕ) → first ≤ second → secondPreferred first second ≡ false
-unfolding secondPreferred
-prefers-first first second l = le-ltb second first l
+pub prefers_first : (first second : ℕ) → first ≤ second → second_preferred first second ≡ false
+unfolding second_preferred
+prefers_first first second l = le-ltb second first l
 
-pub prefers-second : (first second : ℕ) → second < first → secondPreferred first second ≡ true
-unfolding secondPreferred
-prefers-second first second l = lt-ltb second first l
+pub prefers_second : (first second : ℕ) → second < first → second_preferred first second ≡ true
+unfolding second_preferred
+prefers_second first second l = lt-ltb second first l
 
 module _ {A : Type 0} (cost : A → ℕ) where
   -- Of any two, one costs at most as much as the other, and what costs at most as much as a second costs at most as much as what the second does.
-  pub cost-total : (x y : A) → (cost x ≤ cost y) ⊎ (cost y ≤ cost x)
-  cost-total x y = go (dec_lt (cost y) (cost x))
+  pub cost_total : (x y : A) → (cost x ≤ cost y) ⊎ (cost y ≤ cost x)
+  cost_total x y = go (dec_lt (cost y) (cost x))
     where
       go : Dec (cost y < cost x) → (cost x ≤ cost y) ⊎ (cost y ≤ cost x)
       go (yes l) = inr (omega arith)
       go (no h) = inl (omega arith)
 
   pub better-first : (x y : A) → cost x ≤ cost y → better cost x y ≡ x
-  better-first x y l = rw (prefers-first (cost x) (cost y) l)
+  better-first x y l = rw (prefers_first (cost x) (cost y) l)
 
   pub better-second : (x y : A) → cost y < cost x → better cost x y ≡ y
-  better-second x y l = rw (prefers-second (cost x) (cost y) l)
+  better-second x y l = rw (prefers_second (cost x) (cost y) l)
 
   -- What was chosen of two: by which of the two ways.
   pub better-ways : (x y : A) → ((cost x ≤ cost y) × (better cost x y ≡ x)) ⊎ ((cost y < cost x) × (better cost x y ≡ y))
@@ -47,8 +47,8 @@ module _ {A : Type 0} (cost : A → ℕ) where
       go (yes l) = inr (l, better-second x y l)
       go (no h) = let l : cost x ≤ cost y = omega arith in inl (l, better-first x y l)
 
-  pub better-one-of : (x y : A) → (better cost x y ≡ x) ⊎ (better cost x y ≡ y)
-  better-one-of x y = ⊎_elim (λ w. inl w.1) (λ w. inr w.1) (better-ways x y)
+  pub better-one_of : (x y : A) → (better cost x y ≡ x) ⊎ (better cost x y ≡ y)
+  better-one_of x y = ⊎_elim (λ w. inl w.1) (λ w. inr w.1) (better-ways x y)
 
   pub better-fewest : (x y : A) → (cost (better cost x y) ≤ cost x) × (cost (better cost x y) ≤ cost y)
   better-fewest x y =
@@ -63,10 +63,10 @@ module _ {A : Type 0} (cost : A → ℕ) where
       let two = better-fewest x y in
       let three = better-fewest (better cost x y) z in
       record {
-        one_of = ⊎_elim (λ e. ⊎_elim (λ f. inl (e ∙ f)) (λ f. inr (inl (e ∙ f))) (better-one-of x y)) (λ e. inr (inr e)) (better-one-of (better cost x y) z);
-        below-first = omega (arith, two.0, three.0);
-        below-second = omega (arith, two.1, three.0);
-        below-third = three.1;
+        one_of = ⊎_elim (λ e. ⊎_elim (λ f. inl (e ∙ f)) (λ f. inr (inl (e ∙ f))) (better-one_of x y)) (λ e. inr (inr e)) (better-one_of (better cost x y) z);
+        below_first = omega (arith, two.0, three.0);
+        below_second = omega (arith, two.1, three.0);
+        below_third = three.1;
       }
 
   -- The last two first: the same is chosen.
@@ -85,9 +85,9 @@ module _ {A : Type 0} (cost : A → ℕ) where
 
 -- The rules that an order sets aside are those with rule mark 2.
 module _ (P : Program) (on : Mask) (order : List ℕ) where
-  pub marked-aside : howMany (λ i. eqb (ruleMark P on (run P on order) i) 2) (up_to (count P)) ≡ asideCount P on order
-  unfolding asideCount
-  marked-aside = howMany-ext _ (setAside P on (run P on order).derived) (up_to (count P)) (λ i _. mark-aside P on (run P on order) (run_sound P on order) i)
+  pub marked-aside : how_many (λ i. eqb (rule_mark P on (run P on order) i) 2) (up_to (count P)) ≡ aside_count P on order
+  unfolding aside_count
+  marked-aside = how_many-ext _ (set_aside P on (run P on order).derived) (up_to (count P)) (λ i _. mark_aside P on (run P on order) (run_sound P on order) i)
 
-  pub run-asides : howMany (λ m. eqb m 2) (ruleMarks P on (run P on order)) ≡ asideCount P on order
-  run-asides = howMany-map (λ m. eqb m 2) (ruleMark P on (run P on order)) (up_to (count P)) ∙ marked-aside
+  pub run-asides : how_many (λ m. eqb m 2) (marks_of_rules P on (run P on order)) ≡ aside_count P on order
+  run-asides = how_many-map (λ m. eqb m 2) (rule_mark P on (run P on order)) (up_to (count P)) ∙ marked-aside

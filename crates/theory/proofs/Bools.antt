@@ -36,13 +36,13 @@ or_cases false b p = inr p
 pub or-false : (a b : Bool) → a ≡ false → b ≡ false → a || b ≡ false
 or-false a b p q = rw p q
 
-pub or-false-left : (a b : Bool) → a || b ≡ false → a ≡ false
-or-false-left true b p = p
-or-false-left false b p = refl
+pub or-false_left : (a b : Bool) → a || b ≡ false → a ≡ false
+or-false_left true b p = p
+or-false_left false b p = refl
 
-pub or-false-right : (a b : Bool) → a || b ≡ false → b ≡ false
-or-false-right true b p = never refl p
-or-false-right false b p = p
+pub or-false_right : (a b : Bool) → a || b ≡ false → b ≡ false
+or-false_right true b p = never refl p
+or-false_right false b p = p
 
 pub not_of_false : {a : Bool} → a ≡ false → not a ≡ true
 not_of_false p = rw p refl

@@ -5,7 +5,7 @@ use native.Mathlib.Nat.{zero-add}
 use mathlib.Core.Path.{◌≡◌, refl, sym, ap, ◌∙◌}
 use mathlib.Core.Bool.{Bool, true, false, cond}
 use mathlib.Core.List.{List, [], ◌∷◌}
-use Rattle.theory.specs.Rule.{all, range, up_to, howMany}
+use Rattle.theory.specs.Rule.{all, range, up_to, how_many}
 use Rattle.theory.proofs.Lists.{range_all, range_cons, range-end}
 
 -- A walk along a list with a test on each element: what is to come decides what the whole does.
@@ -20,8 +20,8 @@ module _ {p : ℕ → Bool} {xs rest : List ℕ} (w : Decides p xs rest) where
   not_tested more e = record { same = w.same ∙ ap (all p) e }
 
   module _ (x : ℕ) (more : List ℕ) (e : rest ≡ x ∷ more) where
-    pub one-fails : p x ≡ false → false ≡ all p xs
-    one-fails q =
+    pub one_fails : p x ≡ false → false ≡ all p xs
+    one_fails q =
         let here : all p (x ∷ more) ≡ false = rw q in
         sym (w.same ∙ ap (all p) e ∙ here)
 
@@ -37,32 +37,32 @@ whole-decides p xs = record { same = refl }
 pub record Counting (p : ℕ → Bool) (bound n i : ℕ) : Type 0 where
   pub inside : i ≤ bound
   pub few : n ≤ i
-  pub same : howMany p (up_to bound) ≡ n + howMany p (range i (bound - i))
+  pub same : how_many p (up_to bound) ≡ n + how_many p (range i (bound - i))
 
-pub none-counted : (p : ℕ → Bool) (bound : ℕ) → Counting p bound 0 0
-none-counted p bound =
+pub none_counted : (p : ℕ → Bool) (bound : ℕ) → Counting p bound 0 0
+none_counted p bound =
     record {
       inside = omega arith;
       few = omega arith;
-      same = ap (howMany p) (range_all bound) ∙ sym (zero-add (howMany p (range 0 (bound - 0))));
+      same = ap (how_many p) (range_all bound) ∙ sym (zero-add (how_many p (range 0 (bound - 0))));
     }
 
 module _ {p : ℕ → Bool} {bound n i : ℕ} (w : Counting p bound n i) where
-  pub all-counted : bound ≤ i → n ≡ howMany p (up_to bound)
+  pub all-counted : bound ≤ i → n ≡ how_many p (up_to bound)
   all-counted h =
-      let none : howMany p (range i (bound - i)) ≡ 0 = ap (howMany p) (range-end bound i h) in
+      let none : how_many p (range i (bound - i)) ≡ 0 = ap (how_many p) (range-end bound i h) in
       omega (arith, w.same)
 
   -- what number i gives, and those behind it
-  one_more : i < bound → (b : Bool) → p i ≡ b → howMany p (range i (bound - i)) ≡ cond b 1 0 + howMany p (range (i + 1) (bound - (i + 1)))
-  one_more h b e = ap (howMany p) (range_cons bound i h) ∙ bit b e
+  one_more : i < bound → (b : Bool) → p i ≡ b → how_many p (range i (bound - i)) ≡ cond b 1 0 + how_many p (range (i + 1) (bound - (i + 1)))
+  one_more h b e = ap (how_many p) (range_cons bound i h) ∙ bit b e
     where
-      bit : (b : Bool) → p i ≡ b → howMany p (i ∷ range (i + 1) (bound - (i + 1))) ≡ cond b 1 0 + howMany p (range (i + 1) (bound - (i + 1)))
+      bit : (b : Bool) → p i ≡ b → how_many p (i ∷ range (i + 1) (bound - (i + 1))) ≡ cond b 1 0 + how_many p (range (i + 1) (bound - (i + 1)))
       bit true e = rw e (omega arith)
       bit false e = rw e (omega arith)
 
-  pub one-counted : i < bound → p i ≡ true → Counting p bound (n + 1) (i + 1)
-  one-counted h e =
+  pub one_counted : i < bound → p i ≡ true → Counting p bound (n + 1) (i + 1)
+  one_counted h e =
       record { inside = omega arith; few = omega (arith, w.few); same = omega (arith, w.same, one_more h true e) }
 
   pub not-counted : i < bound → p i ≡ false → Counting p bound n (i + 1)

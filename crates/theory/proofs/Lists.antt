@@ -11,9 +11,9 @@ use mathlib.Core.Option.{Option, none, some}
 use borrow.Author.Tests.{eqb-true, eqb-false, eq-eqb, lt-ltb, le-ltb, ltb-true}
 use lib.ListN.{length, get_or, replicate, length-map}
 use lib.Dec.{eqb, ltb}
-use Rattle.theory.specs.Rule.{all, clear, any, mem, keep, range, up_to, howMany}
-use Rattle.theory.specs.Lists.{seek, downFrom}
-use Rattle.theory.proofs.Bools.{either, never, and_left, and_right, and_both, or_left, or_right, or_cases, or-false-left, or-false-right, not_of_false, false_of_not, false_of, both_ways}
+use Rattle.theory.specs.Rule.{all, clear, any, mem, keep, range, up_to, how_many}
+use Rattle.theory.specs.Lists.{seek, down_from}
+use Rattle.theory.proofs.Bools.{either, never, and_left, and_right, and_both, or_left, or_right, or_cases, or-false_left, or-false_right, not_of_false, false_of_not, false_of, both_ways}
 
 pub eqb-self : (n : ℕ) → eqb n n ≡ true
 eqb-self n = eq-eqb n n refl
@@ -207,20 +207,20 @@ mem-range a (suc n) x m =
     (λ e. let t : (suc a ≤ x) × (x < suc a + n) = mem-range (suc a) n x e in (omega arith, omega arith))
     (mem-cases x a (range (suc a) n) m)
 
-pub upTo-mem : (n x : ℕ) → x < n → mem x (up_to n) ≡ true
-upTo-mem n x l = range-mem 0 n x (omega arith) (omega arith)
+pub up_to-mem : (n x : ℕ) → x < n → mem x (up_to n) ≡ true
+up_to-mem n x l = range-mem 0 n x (omega arith) (omega arith)
 
-pub mem-upTo : (n x : ℕ) → mem x (up_to n) ≡ true → x < n
-mem-upTo n x m = let t : (0 ≤ x) × (x < 0 + n) = mem-range 0 n x m in omega arith
+pub mem-up_to : (n x : ℕ) → mem x (up_to n) ≡ true → x < n
+mem-up_to n x m = let t : (0 ≤ x) × (x < 0 + n) = mem-range 0 n x m in omega arith
 
-pub getD-mem : (xs : List ℕ) (k : ℕ) → k < length xs → mem (get_or xs k 0) xs ≡ true
-getD-mem [] k l = absurd (omega arith)
-getD-mem (x ∷ xs) zero l = mem-here x xs
-getD-mem (x ∷ xs) (suc k) l = mem-there _ x xs (getD-mem xs k (omega arith))
+pub get_or-mem : (xs : List ℕ) (k : ℕ) → k < length xs → mem (get_or xs k 0) xs ≡ true
+get_or-mem [] k l = absurd (omega arith)
+get_or-mem (x ∷ xs) zero l = mem-here x xs
+get_or-mem (x ∷ xs) (suc k) l = mem-there _ x xs (get_or-mem xs k (omega arith))
 
 -- an element of a list of which all are below a number
-pub element-below : (m : ℕ) (xs : List ℕ) (k : ℕ) → all (λ x. ltb x m) xs ≡ true → k < length xs → get_or xs k 0 < m
-element-below m xs k a l = ltb-true (get_or xs k 0) m (all-elem (λ x. ltb x m) xs a (get_or xs k 0) (getD-mem xs k l))
+pub element_below : (m : ℕ) (xs : List ℕ) (k : ℕ) → all (λ x. ltb x m) xs ≡ true → k < length xs → get_or xs k 0 < m
+element_below m xs k a l = ltb-true (get_or xs k 0) m (all-elem (λ x. ltb x m) xs a (get_or xs k 0) (get_or-mem xs k l))
 
 pub zeros : (n i : ℕ) → ◌≡◌ {A = ℕ} (get_or (replicate n 0) i 0) 0
 zeros zero i = refl
@@ -231,45 +231,45 @@ pub length-range : (a n : ℕ) → length (range a n) ≡ n
 length-range a zero = refl
 length-range a (suc n) = ap suc (length-range (suc a) n)
 
-pub howMany-le : (p : ℕ → Bool) (xs : List ℕ) → howMany p xs ≤ length xs
-howMany-le p [] = omega arith
-howMany-le p (x ∷ xs) = go (p x) (howMany-le p xs)
+pub how_many-le : (p : ℕ → Bool) (xs : List ℕ) → how_many p xs ≤ length xs
+how_many-le p [] = omega arith
+how_many-le p (x ∷ xs) = go (p x) (how_many-le p xs)
   where
-    go : (b : Bool) → howMany p xs ≤ length xs → cond b (suc (howMany p xs)) (howMany p xs) ≤ suc (length xs)
+    go : (b : Bool) → how_many p xs ≤ length xs → cond b (suc (how_many p xs)) (how_many p xs) ≤ suc (length xs)
     go true l = omega arith
     go false l = omega arith
 
-pub howMany-mono : (p q : ℕ → Bool) (xs : List ℕ) → ((x : ℕ) → q x ≡ true → p x ≡ true) → howMany q xs ≤ howMany p xs
-howMany-mono p q [] h = omega arith
-howMany-mono p q (x ∷ xs) h = go (q x) (p x) (h x) (howMany-mono p q xs h)
+pub how_many-mono : (p q : ℕ → Bool) (xs : List ℕ) → ((x : ℕ) → q x ≡ true → p x ≡ true) → how_many q xs ≤ how_many p xs
+how_many-mono p q [] h = omega arith
+how_many-mono p q (x ∷ xs) h = go (q x) (p x) (h x) (how_many-mono p q xs h)
   where
-    go : (a b : Bool) → (a ≡ true → b ≡ true) → howMany q xs ≤ howMany p xs → cond a (suc (howMany q xs)) (howMany q xs) ≤ cond b (suc (howMany p xs)) (howMany p xs)
+    go : (a b : Bool) → (a ≡ true → b ≡ true) → how_many q xs ≤ how_many p xs → cond a (suc (how_many q xs)) (how_many q xs) ≤ cond b (suc (how_many p xs)) (how_many p xs)
     go true true i l = omega arith
     go true false i l = never (i refl) refl
     go false true i l = omega arith
     go false false i l = l
 
 -- fewer pass a test that fails at one element more
-pub howMany-less : (p q : ℕ → Bool) (xs : List ℕ) → ((x : ℕ) → q x ≡ true → p x ≡ true) → (x : ℕ) → mem x xs ≡ true → p x ≡ true → q x ≡ false → howMany q xs < howMany p xs
-howMany-less p q [] h x m t f = never m refl
-howMany-less p q (y ∷ ys) h x m t f =
+pub how_many-less : (p q : ℕ → Bool) (xs : List ℕ) → ((x : ℕ) → q x ≡ true → p x ≡ true) → (x : ℕ) → mem x xs ≡ true → p x ≡ true → q x ≡ false → how_many q xs < how_many p xs
+how_many-less p q [] h x m t f = never m refl
+how_many-less p q (y ∷ ys) h x m t f =
     ⊎_elim
-    (λ e. here (rw e at t) (rw e at f) (howMany-mono p q ys h))
-    (λ e. there (q y) (p y) (h y) (howMany-less p q ys h x e t f))
+    (λ e. here (rw e at t) (rw e at f) (how_many-mono p q ys h))
+    (λ e. there (q y) (p y) (h y) (how_many-less p q ys h x e t f))
     (mem-cases x y ys m)
   where
-    here : p y ≡ true → q y ≡ false → howMany q ys ≤ howMany p ys → howMany q (y ∷ ys) < howMany p (y ∷ ys)
+    here : p y ≡ true → q y ≡ false → how_many q ys ≤ how_many p ys → how_many q (y ∷ ys) < how_many p (y ∷ ys)
     here a b l = rw (a, b) (omega arith)
 
-    there : (a b : Bool) → (a ≡ true → b ≡ true) → howMany q ys < howMany p ys → cond a (suc (howMany q ys)) (howMany q ys) < cond b (suc (howMany p ys)) (howMany p ys)
+    there : (a b : Bool) → (a ≡ true → b ≡ true) → how_many q ys < how_many p ys → cond a (suc (how_many q ys)) (how_many q ys) < cond b (suc (how_many p ys)) (how_many p ys)
     there true true i l = omega arith
     there true false i l = never (i refl) refl
     there false true i l = omega arith
     there false false i l = l
 
-pub howMany-ext : (p q : ℕ → Bool) (xs : List ℕ) → ((x : ℕ) → mem x xs ≡ true → p x ≡ q x) → howMany p xs ≡ howMany q xs
-howMany-ext p q [] h = refl
-howMany-ext p q (y ∷ ys) h = rw (h y (mem-here y ys), howMany-ext p q ys (λ x m. h x (mem-there x y ys m)))
+pub how_many-ext : (p q : ℕ → Bool) (xs : List ℕ) → ((x : ℕ) → mem x xs ≡ true → p x ≡ q x) → how_many p xs ≡ how_many q xs
+how_many-ext p q [] h = refl
+how_many-ext p q (y ∷ ys) h = rw (h y (mem-here y ys), how_many-ext p q ys (λ x m. h x (mem-there x y ys m)))
 
 pub mem-left : (x : ℕ) (xs ys : List ℕ) → mem x xs ≡ true → mem x (xs ++ ys) ≡ true
 mem-left x xs ys m = rw (mem-append x xs ys) (or_left _ _ m)
@@ -283,21 +283,21 @@ seek-append p (y ∷ xs) ys x h = go (p y) refl (seek-append p xs ys x)
     go true e r = rw (e, seek) (rw (e, seek) at h)
     go false e r = rw (e, seek) (r (rw (e, seek) at h))
 
-pub downFrom-mem : (n x : ℕ) → x < n → mem x (downFrom n) ≡ true
-downFrom-mem zero x l = absurd (omega arith)
-downFrom-mem (suc n) x l =
-    ⊎_elim (λ e. or_left (eqb x n) _ e) (λ e. or_right (eqb x n) _ (downFrom-mem n x (less e))) (either (eqb x n))
+pub down_from-mem : (n x : ℕ) → x < n → mem x (down_from n) ≡ true
+down_from-mem zero x l = absurd (omega arith)
+down_from-mem (suc n) x l =
+    ⊎_elim (λ e. or_left (eqb x n) _ e) (λ e. or_right (eqb x n) _ (down_from-mem n x (less e))) (either (eqb x n))
   where
     less : eqb x n ≡ false → x < n
     less e = let ne : x ≢ n = λ q. never (eq-eqb x n q) e in omega arith
 
-pub mem-downFrom : (n x : ℕ) → mem x (downFrom n) ≡ true → x < n
-mem-downFrom zero x m = never m refl
-mem-downFrom (suc n) x m =
+pub mem-down_from : (n x : ℕ) → mem x (down_from n) ≡ true → x < n
+mem-down_from zero x m = never m refl
+mem-down_from (suc n) x m =
     ⊎_elim
     (λ e. omega arith)
-    (λ e. let l : x < n = mem-downFrom n x e in omega arith)
-    (mem-cases x n (downFrom n) m)
+    (λ e. let l : x < n = mem-down_from n x e in omega arith)
+    (mem-cases x n (down_from n) m)
 
 -- one more, or not, on one side of a sum
 more_left : (b : Bool) (x y z : ℕ) → z ≡ x + y → cond b (suc z) z ≡ cond b (suc x) x + y
@@ -308,51 +308,51 @@ more-right : (b : Bool) (x y z : ℕ) → z ≡ x + y → cond b (suc z) z ≡ x
 more-right true x y z e = omega arith
 more-right false x y z e = e
 
-pub howMany-append : (p : ℕ → Bool) (xs ys : List ℕ) → howMany p (xs ++ ys) ≡ howMany p xs + howMany p ys
-howMany-append p [] ys = omega arith
-howMany-append p (x ∷ xs) ys = more_left (p x) _ _ _ (howMany-append p xs ys)
+pub how_many-append : (p : ℕ → Bool) (xs ys : List ℕ) → how_many p (xs ++ ys) ≡ how_many p xs + how_many p ys
+how_many-append p [] ys = omega arith
+how_many-append p (x ∷ xs) ys = more_left (p x) _ _ _ (how_many-append p xs ys)
 
 -- the elements that pass a test and a second, and those that pass it and not the second, are those that pass it
-pub howMany-split : (p a b : ℕ → Bool) (xs : List ℕ) → howMany p (keep a xs) ≡ howMany p (keep (λ x. a x && b x) xs ++ keep (λ x. a x && not (b x)) xs)
-howMany-split p a b xs = sum xs ∙ sym (howMany-append p (keep (λ x. a x && b x) xs) (keep (λ x. a x && not (b x)) xs))
+pub how_many-split : (p a b : ℕ → Bool) (xs : List ℕ) → how_many p (keep a xs) ≡ how_many p (keep (λ x. a x && b x) xs ++ keep (λ x. a x && not (b x)) xs)
+how_many-split p a b xs = sum xs ∙ sym (how_many-append p (keep (λ x. a x && b x) xs) (keep (λ x. a x && not (b x)) xs))
   where
-    sum : (ys : List ℕ) → howMany p (keep a ys) ≡ howMany p (keep (λ x. a x && b x) ys) + howMany p (keep (λ x. a x && not (b x)) ys)
+    sum : (ys : List ℕ) → how_many p (keep a ys) ≡ how_many p (keep (λ x. a x && b x) ys) + how_many p (keep (λ x. a x && not (b x)) ys)
     sum [] = refl
     sum (y ∷ ys) = go (a y) (b y) (keep a ys) (keep (λ x. a x && b x) ys) (keep (λ x. a x && not (b x)) ys) (sum ys)
       where
-        go : (c d : Bool) (us vs ws : List ℕ) → howMany p us ≡ howMany p vs + howMany p ws → howMany p (cond c (y ∷ us) us) ≡ howMany p (cond (c && d) (y ∷ vs) vs) + howMany p (cond (c && not d) (y ∷ ws) ws)
+        go : (c d : Bool) (us vs ws : List ℕ) → how_many p us ≡ how_many p vs + how_many p ws → how_many p (cond c (y ∷ us) us) ≡ how_many p (cond (c && d) (y ∷ vs) vs) + how_many p (cond (c && not d) (y ∷ ws) ws)
         go true true us vs ws e = more_left (p y) _ _ _ e
         go true false us vs ws e = more-right (p y) _ _ _ e
         go false d us vs ws e = e
 
-pub howMany-keep : (p a : ℕ → Bool) (xs : List ℕ) → howMany p (keep a xs) ≡ howMany (λ x. a x && p x) xs
-howMany-keep p a [] = refl
-howMany-keep p a (y ∷ ys) = go (a y) (howMany-keep p a ys)
+pub how_many-keep : (p a : ℕ → Bool) (xs : List ℕ) → how_many p (keep a xs) ≡ how_many (λ x. a x && p x) xs
+how_many-keep p a [] = refl
+how_many-keep p a (y ∷ ys) = go (a y) (how_many-keep p a ys)
   where
-    go : (c : Bool) → howMany p (keep a ys) ≡ howMany (λ x. a x && p x) ys → howMany p (cond c (y ∷ keep a ys) (keep a ys)) ≡ cond (c && p y) (suc (howMany (λ x. a x && p x) ys)) (howMany (λ x. a x && p x) ys)
+    go : (c : Bool) → how_many p (keep a ys) ≡ how_many (λ x. a x && p x) ys → how_many p (cond c (y ∷ keep a ys) (keep a ys)) ≡ cond (c && p y) (suc (how_many (λ x. a x && p x) ys)) (how_many (λ x. a x && p x) ys)
     go true e = ap (λ n. cond (p y) (suc n) n) e
     go false e = e
 
-pub howMany-every : (xs : List ℕ) → howMany (λ _. true) xs ≡ length xs
-howMany-every [] = refl
-howMany-every (x ∷ xs) = ap suc (howMany-every xs)
+pub how_many-every : (xs : List ℕ) → how_many (λ _. true) xs ≡ length xs
+how_many-every [] = refl
+how_many-every (x ∷ xs) = ap suc (how_many-every xs)
 
-pub howMany-none : (p : ℕ → Bool) (xs : List ℕ) → any p xs ≡ false → howMany p xs ≡ 0
-howMany-none p [] e = refl
-howMany-none p (x ∷ xs) e = rw (or-false-left (p x) _ e) (howMany-none p xs (or-false-right (p x) _ e))
+pub how_many-none : (p : ℕ → Bool) (xs : List ℕ) → any p xs ≡ false → how_many p xs ≡ 0
+how_many-none p [] e = refl
+how_many-none p (x ∷ xs) e = rw (or-false_left (p x) _ e) (how_many-none p xs (or-false_right (p x) _ e))
 
-pub howMany-range : (a n x : ℕ) → a ≤ x → x < a + n → howMany (eqb x) (range a n) ≡ 1
-howMany-range a zero x l u = absurd (omega arith)
-howMany-range a (suc n) x l u = go (eqb x a) refl (howMany-range (suc a) n x)
+pub how_many-range : (a n x : ℕ) → a ≤ x → x < a + n → how_many (eqb x) (range a n) ≡ 1
+how_many-range a zero x l u = absurd (omega arith)
+how_many-range a (suc n) x l u = go (eqb x a) refl (how_many-range (suc a) n x)
   where
-    go : (b : Bool) → eqb x a ≡ b → (suc a ≤ x → x < suc a + n → howMany (eqb x) (range (suc a) n) ≡ 1) → howMany (eqb x) (range a (suc n)) ≡ 1
+    go : (b : Bool) → eqb x a ≡ b → (suc a ≤ x → x < suc a + n → how_many (eqb x) (range (suc a) n) ≡ 1) → how_many (eqb x) (range a (suc n)) ≡ 1
     go true e r =
         rw e
-        (ap suc (howMany-none (eqb x) (range (suc a) n) (false_of (mem x (range (suc a) n)) (λ m. let q : x ≡ a = eqb-true x a e in let t : (suc a ≤ x) × (x < suc a + n) = mem-range (suc a) n x m in absurd (omega arith)))))
+        (ap suc (how_many-none (eqb x) (range (suc a) n) (false_of (mem x (range (suc a) n)) (λ m. let q : x ≡ a = eqb-true x a e in let t : (suc a ≤ x) × (x < suc a + n) = mem-range (suc a) n x m in absurd (omega arith)))))
     go false e r = let ne : x ≢ a = λ q. never (eq-eqb x a q) e in rw e (r (omega arith) (omega arith))
 
-pub howMany-upTo : (n x : ℕ) → x < n → howMany (eqb x) (up_to n) ≡ 1
-howMany-upTo n x l = howMany-range 0 n x (omega arith) (omega arith)
+pub how_many-up_to : (n x : ℕ) → x < n → how_many (eqb x) (up_to n) ≡ 1
+how_many-up_to n x l = how_many-range 0 n x (omega arith) (omega arith)
 
 pub eqb-sym : (x y : ℕ) → eqb x y ≡ eqb y x
 eqb-sym x y = both_ways _ _ (λ e. eq-eqb y x (sym (eqb-true x y e))) (λ e. eq-eqb x y (sym (eqb-true y x e)))
@@ -380,8 +380,8 @@ range-more a zero = ap (λ (x : ℕ). x ∷ []) (sym (add-zero a))
 range-more a (suc n) = ap (λ (xs : List ℕ). a ∷ xs) (range-more (suc a) n ∙ ap (λ (x : ℕ). range (suc a) n ++ (x ∷ [])) (omega arith))
 
 -- What a function gives for the numbers below n, one after another.
-pub mapped-length : {A : Type 0} (f : ℕ → A) (n : ℕ) → length (map f (up_to n)) ≡ n
-mapped-length f n = length-map (up_to n) f ∙ length-range 0 n
+pub mapped_length : {A : Type 0} (f : ℕ → A) (n : ℕ) → length (map f (up_to n)) ≡ n
+mapped_length f n = length-map (up_to n) f ∙ length-range 0 n
 
 pub mapped_at : {A : Type 0} (f : ℕ → A) (d : A) (n i : ℕ) → i < n → get_or (map f (up_to n)) i d ≡ f i
 mapped_at f d n i h = from f d 0 n i h ∙ ap f (zero-add i)
@@ -403,8 +403,8 @@ pub none_passes : (q : ℕ → Bool) (xs : List ℕ) → ((k : ℕ) → k < leng
 none_passes q [] out = refl
 none_passes q (x ∷ xs) out = rw (out 0 (omega arith), seek) (none_passes q xs (λ k l. out (suc k) (omega arith)))
 
-pub getD-upTo : (n j : ℕ) → j < n → get_or (up_to n) j 0 ≡ j
-getD-upTo n j h = let e : get_or (up_to n) j 0 ≡ 0 + j = go 0 n j h in omega arith
+pub get_or-up_to : (n j : ℕ) → j < n → get_or (up_to n) j 0 ≡ j
+get_or-up_to n j h = let e : get_or (up_to n) j 0 ≡ 0 + j = go 0 n j h in omega arith
   where
     go : (a n j : ℕ) → j < n → get_or (range a n) j 0 ≡ a + j
     go a zero j h = absurd (omega arith)
@@ -414,26 +414,26 @@ getD-upTo n j h = let e : get_or (up_to n) j 0 ≡ 0 + j = go 0 n j h in omega a
 -- So among the numbers below n.
 pub seek-number : (q : ℕ → Bool) (n i : ℕ) → i < n → ((j : ℕ) → j < i → q j ≡ false) → q i ≡ true → seek q (up_to n) ≡ some i
 seek-number q n i h out t =
-    seek-at q (up_to n) i (omega (arith, length-range 0 n)) (λ j l. ap q (getD-upTo n j (omega arith)) ∙ out j l) (ap q (getD-upTo n i h) ∙ t)
-    ∙ ap (λ (m : ℕ). some m) (getD-upTo n i h)
+    seek-at q (up_to n) i (omega (arith, length-range 0 n)) (λ j l. ap q (get_or-up_to n j (omega arith)) ∙ out j l) (ap q (get_or-up_to n i h) ∙ t)
+    ∙ ap (λ (m : ℕ). some m) (get_or-up_to n i h)
 
 -- What is found among them is the lowest that passes.
 pub seek-lowest : (q : ℕ → Bool) (n i : ℕ) → seek q (up_to n) ≡ some i → (j : ℕ) → j < i → q j ≡ false
 seek-lowest q n i e j l =
     let t : Found q (up_to n) i = seek-some q (up_to n) i e in
     let inside : t.place < n = rw (length-range 0 n) at t.inside in
-    let here : t.place ≡ i = sym (getD-upTo n t.place inside) ∙ t.is in
-    ap q (sym (getD-upTo n j (omega arith))) ∙ t.none_before j (omega arith)
+    let here : t.place ≡ i = sym (get_or-up_to n t.place inside) ∙ t.is in
+    ap q (sym (get_or-up_to n j (omega arith))) ∙ t.none_before j (omega arith)
 
-pub no_number : (q : ℕ → Bool) (n : ℕ) → ((j : ℕ) → j < n → q j ≡ false) → ◌≡◌ {A = Option ℕ} (seek q (up_to n)) none
-no_number q n out = none_passes q (up_to n) (λ k l. let low : k < n = omega (arith, length-range 0 n) in ap q (getD-upTo n k low) ∙ out k low)
+pub no_number_lem : (q : ℕ → Bool) (n : ℕ) → ((j : ℕ) → j < n → q j ≡ false) → ◌≡◌ {A = Option ℕ} (seek q (up_to n)) none
+no_number_lem q n out = none_passes q (up_to n) (λ k l. let low : k < n = omega (arith, length-range 0 n) in ap q (get_or-up_to n k low) ∙ out k low)
 
 -- A test on the numbers below n, and on one number more.
 pub below_more : (n k : ℕ) (t : Bool) → eqb k n ≡ false → ltb k n && t ≡ ltb k (n + 1) && t
 below_more n k t e = let ne : k ≡ n → ⊥ = eqb-false k n e in ap (λ (b : Bool). b && t) (both_ways (ltb k n) (ltb k (n + 1)) (λ h. let l : k < n = ltb-true k n h in lt-ltb k (n + 1) (omega arith)) (λ h. let l : k < n + 1 = ltb-true k (n + 1) h in lt-ltb k n (omega arith)))
 
-pub here-not : (n : ℕ) (t : Bool) → ltb n n && t ≡ false
-here-not n t = ap (λ (b : Bool). b && t) (le-ltb n n (omega arith))
+pub here_not : (n : ℕ) (t : Bool) → ltb n n && t ≡ false
+here_not n t = ap (λ (b : Bool). b && t) (le-ltb n n (omega arith))
 
-pub here-now : (n : ℕ) (t : Bool) → ltb n (n + 1) && t ≡ t
-here-now n t = ap (λ (b : Bool). b && t) (lt-ltb n (n + 1) (omega arith))
+pub here_now : (n : ℕ) (t : Bool) → ltb n (n + 1) && t ≡ t
+here_now n t = ap (λ (b : Bool). b && t) (lt-ltb n (n + 1) (omega arith))

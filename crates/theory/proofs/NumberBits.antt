@@ -17,23 +17,23 @@ digit-cases zero l = inl refl
 digit-cases (suc zero) l = inr refl
 digit-cases (suc (suc d)) l = absurd (omega arith)
 
-odd-below : (w : ℕ) → w % 2 < 2
-odd-below w = mod-lt w (zero-lt-suc 1)
+odd_below : (w : ℕ) → w % 2 < 2
+odd_below w = mod-lt w (zero-lt-suc 1)
 
 -- one digit of each number gives one digit
 module _ (op : ℕ → ℕ → ℕ) (f : ℕ → ℕ → ℕ) (g : Bool → Bool → Bool)
     (step : (a b : ℕ) → op a b ≡ op (a / 2) (b / 2) * 2 + f (a % 2) (b % 2))
     (small : (x y : ℕ) → x < 2 → y < 2 → f x y < 2)
     (means : (x y : ℕ) → x < 2 → y < 2 → eqb (f x y) 1 ≡ g (eqb x 1) (eqb y 1)) where
-  op-half : (a b : ℕ) → op a b / 2 ≡ op (a / 2) (b / 2)
-  op-half a b = ap (λ (n : ℕ). n / 2) (step a b) ∙ digits_div (op (a / 2) (b / 2)) (small (a % 2) (b % 2) (odd-below a) (odd-below b))
+  op_half : (a b : ℕ) → op a b / 2 ≡ op (a / 2) (b / 2)
+  op_half a b = ap (λ (n : ℕ). n / 2) (step a b) ∙ digits_div (op (a / 2) (b / 2)) (small (a % 2) (b % 2) (odd_below a) (odd_below b))
 
-  op-odd : (a b : ℕ) → op a b % 2 ≡ f (a % 2) (b % 2)
-  op-odd a b = ap (λ (n : ℕ). n % 2) (step a b) ∙ digits_mod (op (a / 2) (b / 2)) (small (a % 2) (b % 2) (odd-below a) (odd-below b))
+  op_odd : (a b : ℕ) → op a b % 2 ≡ f (a % 2) (b % 2)
+  op_odd a b = ap (λ (n : ℕ). n % 2) (step a b) ∙ digits_mod (op (a / 2) (b / 2)) (small (a % 2) (b % 2) (odd_below a) (odd_below b))
 
   bit-op : (j a b : ℕ) → bit (op a b) j ≡ g (bit a j) (bit b j)
-  bit-op zero a b = ap (λ (n : ℕ). eqb n 1) (op-odd a b) ∙ means (a % 2) (b % 2) (odd-below a) (odd-below b)
-  bit-op (suc j) a b = ap (λ (n : ℕ). bit n j) (op-half a b) ∙ bit-op j (a / 2) (b / 2)
+  bit-op zero a b = ap (λ (n : ℕ). eqb n 1) (op_odd a b) ∙ means (a % 2) (b % 2) (odd_below a) (odd_below b)
+  bit-op (suc j) a b = ap (λ (n : ℕ). bit n j) (op_half a b) ∙ bit-op j (a / 2) (b / 2)
 
 -- what holds of 0 and 1 holds of every digit
 two_digits : (Q : ℕ → ℕ → Type 0) → Q 0 0 → Q 0 1 → Q 1 0 → Q 1 1 → (x y : ℕ) → x < 2 → y < 2 → Q x y

@@ -9,14 +9,14 @@ use mathlib.Core.Logic.{⊎_elim}
 use mathlib.Core.Option.{Option, none, some}
 use borrow.Author.Tests.{eqb-true, ltb-true, ltb-false, leb-true, leb-false, not-true}
 use lib.Dec.{eqb, ltb, leb}
-use Rattle.theory.specs.Rule.{any, mem, up_to, howMany, Program, Mask, count, rule, constraintFact}
+use Rattle.theory.specs.Rule.{any, mem, up_to, how_many, Program, Mask, count, rule, constraint_fact}
 use Rattle.theory.specs.Conditions.{Bounded}
 use Rattle.theory.specs.Lists.{sum_of}
-use Rattle.theory.specs.Layers.{Ranks, LeastRanks, Cycle, higher, highest, asks, lacking, raise, allZero, lowestLacking, ranksOf, isLayered}
+use Rattle.theory.specs.Layers.{Ranks, LeastRanks, Cycle, higher, highest, asks, lacking, raise, all_zero, lowest_lacking, ranks_of, is_layered}
 use Rattle.theory.proofs.Bools.{never, and_left, and_right, and_both, not_of_false, false_of}
-use Rattle.theory.proofs.Lists.{eqb-self, mem-here, mem-there, mem-cases, Found, seek-some, seek-none, any-witness, upTo-mem, mem-upTo, length-range}
-use Rattle.theory.proofs.Counted.{counted-most, sum_less, sum-most}
-use Rattle.theory.proofs.Cycles.{none_below, no-cycle, cycle-or-ranks}
+use Rattle.theory.proofs.Lists.{eqb-self, mem-here, mem-there, mem-cases, Found, seek-some, seek-none, any-witness, up_to-mem, mem-up_to, length-range}
+use Rattle.theory.proofs.Counted.{counted_most, sum_less, sum_most}
+use Rattle.theory.proofs.Cycles.{none_below, no-cycle, cycle_or_ranks}
 use Rattle.theory.proofs.Walk as walk
 
 -- The higher of two numbers.
@@ -83,102 +83,102 @@ module _ (P : Program) (on : Mask) where
   unfolding lacking
   enough rank i o n = ltb-false _ _ (false_of (ltb (rank (rule P i).conclusion) (asks P rank i)) (λ t. never (and_both o t) n))
 
-  pub none-lacking : (rank : ℕ → ℕ) → ((i : ℕ) → i < count P → lacking P on rank i ≡ false) → Ranks P on rank
-  none-lacking rank n =
+  pub none_lacking : (rank : ℕ → ℕ) → ((i : ℕ) → i < count P → lacking P on rank i ≡ false) → Ranks P on rank
+  none_lacking rank n =
       record {
-        not-below = λ i l o f m. let a : asks P rank i ≤ rank (rule P i).conclusion = enough rank i o (n i l) in omega (arith, asks-premise P rank i f m);
+        not_below = λ i l o f m. let a : asks P rank i ≤ rank (rule P i).conclusion = enough rank i o (n i l) in omega (arith, asks-premise P rank i f m);
         above = λ i l o f m. let a : asks P rank i ≤ rank (rule P i).conclusion = enough rank i o (n i l) in omega (arith, asks-constraint P rank i f m);
       }
 
   -- Below ranks, no rule asks for more than they give.
-  pub under-asks : (rank other : ℕ → ℕ) → ((f : ℕ) → rank f ≤ other f) → Ranks P on other → (i : ℕ) → i < count P → on i ≡ true → asks P rank i ≤ other (rule P i).conclusion
-  under-asks rank other under r i l o =
+  pub under_asks : (rank other : ℕ → ℕ) → ((f : ℕ) → rank f ≤ other f) → Ranks P on other → (i : ℕ) → i < count P → on i ≡ true → asks P rank i ≤ other (rule P i).conclusion
+  under_asks rank other under r i l o =
       asks-below P rank i (other (rule P i).conclusion)
-      (λ f m. omega (arith, under f, r.not-below i l o f m))
+      (λ f m. omega (arith, under f, r.not_below i l o f m))
       (λ f m. omega (arith, under f, r.above i l o f m))
 
   -- What is raised at a turn: the conclusion of a rule in force that asks for more.
-  short : (rank : ℕ → ℕ) (i : ℕ) → lowestLacking P on rank ≡ some i → (i < count P) × (on i ≡ true) × (rank (rule P i).conclusion < asks P rank i)
+  short : (rank : ℕ → ℕ) (i : ℕ) → lowest_lacking P on rank ≡ some i → (i < count P) × (on i ≡ true) × (rank (rule P i).conclusion < asks P rank i)
   unfolding lacking
   short rank i e =
       let found : Found (lacking P on rank) (up_to (count P)) i = seek-some _ _ i e in
-      (mem-upTo (count P) i found.element, and_left _ _ found.passes, ltb-true _ _ (and_right (on i) _ found.passes))
+      (mem-up_to (count P) i found.element, and_left _ _ found.passes, ltb-true _ _ (and_right (on i) _ found.passes))
 
   -- So a raise stays below any ranks, and leaves less up to them.
   module _ (other : ℕ → ℕ) (r : Ranks P on other) where
     abbrev Under : (ℕ → ℕ) → Type 0
     Under rank = (f : ℕ) → rank f ≤ other f
 
-    raise-under : (rank : ℕ → ℕ) (i : ℕ) → Under rank → lowestLacking P on rank ≡ some i → Under (raise P rank i)
+    raise-under : (rank : ℕ → ℕ) (i : ℕ) → Under rank → lowest_lacking P on rank ≡ some i → Under (raise P rank i)
     raise-under rank i under e f = go (eqb f (rule P i).conclusion) refl
       where
         go : (b : Bool) → eqb f (rule P i).conclusion ≡ b → cond b (asks P rank i) (rank f) ≤ other f
-        go true q = let (l, o, _) = short rank i e in rw (eqb-true f (rule P i).conclusion q) (under-asks rank other under r i l o)
+        go true q = let (l, o, _) = short rank i e in rw (eqb-true f (rule P i).conclusion q) (under_asks rank other under r i l o)
         go false q = under f
 
-    pub ranks-under : Under (ranksOf P on)
-    unfolding ranksOf
-    ranks-under = walk.kept (lowestLacking P on) (raise P) Under raise-under (suc P.facts * suc P.facts) allZero (λ f. omega arith)
+    pub ranks_under : Under (ranks_of P on)
+    unfolding ranks_of
+    ranks_under = walk.kept (lowest_lacking P on) (raise P) Under raise-under (suc P.facts * suc P.facts) all_zero (λ f. omega arith)
 
     abbrev room : (ℕ → ℕ) → ℕ
     room rank = sum_of (λ f. other f - rank f) (up_to (suc P.facts))
 
-    raise-room : Bounded P → (rank : ℕ → ℕ) (i : ℕ) → Under rank → lowestLacking P on rank ≡ some i → room (raise P rank i) < room rank
+    raise-room : Bounded P → (rank : ℕ → ℕ) (i : ℕ) → Under rank → lowest_lacking P on rank ≡ some i → room (raise P rank i) < room rank
     raise-room b rank i under e =
         let (l, o, less) = short rank i e in
-        let asked : asks P rank i ≤ other (rule P i).conclusion = under-asks rank other under r i l o in
+        let asked : asks P rank i ≤ other (rule P i).conclusion = under_asks rank other under r i l o in
         let risen : raise P rank i (rule P i).conclusion ≡ asks P rank i = ap (λ (t : Bool). cond t (asks P rank i) (rank (rule P i).conclusion)) (eqb-self (rule P i).conclusion) in
         sum_less (λ f. other f - raise P rank i f) (λ f. other f - rank f) (λ f. lower f (eqb f (rule P i).conclusion) refl less) (up_to (suc P.facts))
-        (rule P i).conclusion (upTo-mem (suc P.facts) (rule P i).conclusion (omega (arith, b.conclusion-below i l))) (omega arith)
+        (rule P i).conclusion (up_to-mem (suc P.facts) (rule P i).conclusion (omega (arith, b.conclusion_below i l))) (omega arith)
       where
         lower : (f : ℕ) (t : Bool) → eqb f (rule P i).conclusion ≡ t → rank (rule P i).conclusion < asks P rank i → other f - cond t (asks P rank i) (rank f) ≤ other f - rank f
         lower f true q less = rw (eqb-true f (rule P i).conclusion q) (omega arith)
         lower f false q less = omega arith
 
     -- There are turns enough where the ranks are at most the count of facts.
-    ranks-end : Bounded P → ((f : ℕ) → other f ≤ P.facts) → ◌≡◌ {A = Option ℕ} (lowestLacking P on (ranksOf P on)) none
-    unfolding ranksOf
-    ranks-end b few =
-        walk.ends (lowestLacking P on) (raise P) Under room (λ rank i under e. (raise-under rank i under e, raise-room b rank i under e)) (suc P.facts * suc P.facts) allZero (λ f. omega arith) turns
+    ranks_end : Bounded P → ((f : ℕ) → other f ≤ P.facts) → ◌≡◌ {A = Option ℕ} (lowest_lacking P on (ranks_of P on)) none
+    unfolding ranks_of
+    ranks_end b few =
+        walk.ends (lowest_lacking P on) (raise P) Under room (λ rank i under e. (raise-under rank i under e, raise-room b rank i under e)) (suc P.facts * suc P.facts) all_zero (λ f. omega arith) turns
       where
-        turns : room allZero ≤ suc P.facts * suc P.facts
-        turns = rw (length-range 0 (suc P.facts)) at (sum-most (λ f. other f - 0) (suc P.facts) (λ f. omega (arith, few f)) (up_to (suc P.facts)))
+        turns : room all_zero ≤ suc P.facts * suc P.facts
+        turns = rw (length-range 0 (suc P.facts)) at (sum_most (λ f. other f - 0) (suc P.facts) (λ f. omega (arith, few f)) (up_to (suc P.facts)))
 
   -- Where no rule lacks at the end, the ranks are the least. That is so where there are ranks at all, and that is where no cycle goes through a
   -- constraint.
-  pub layered-least : isLayered P on ≡ true → LeastRanks P on (ranksOf P on)
-  unfolding isLayered
-  layered-least e =
-      record { ranks = none-lacking (ranksOf P on) (none_below (lacking P on (ranksOf P on)) (count P) (not-true _ e)); least = ranks-under }
+  pub layered_least : is_layered P on ≡ true → LeastRanks P on (ranks_of P on)
+  unfolding is_layered
+  layered_least e =
+      record { ranks = none_lacking (ranks_of P on) (none_below (lacking P on (ranks_of P on)) (count P) (not-true _ e)); least = ranks_under }
 
-  pub ranks-layered : Bounded P → (rank : ℕ → ℕ) → Ranks P on rank → isLayered P on ≡ true
-  unfolding isLayered
-  ranks-layered b rank r =
+  pub ranks_layered : Bounded P → (rank : ℕ → ℕ) → Ranks P on rank → is_layered P on ≡ true
+  unfolding is_layered
+  ranks_layered b rank r =
       ⊎_elim
       (λ c. absurd (no-cycle P on rank r c))
-      (λ t. not_of_false (false_of (any (lacking P on (ranksOf P on)) (up_to (count P))) (none-lacks (ranks-end t.0 t.1 b (λ f. omega (arith, t.2 f, counted-most (constraintFact P on) P.facts))))))
-      (cycle-or-ranks P on b)
+      (λ t. not_of_false (false_of (any (lacking P on (ranks_of P on)) (up_to (count P))) (none_lacks (ranks_end t.0 t.1 b (λ f. omega (arith, t.2 f, counted_most (constraint_fact P on) P.facts))))))
+      (cycle_or_ranks P on b)
     where
-      none-lacks : ◌≡◌ {A = Option ℕ} (lowestLacking P on (ranksOf P on)) none → any (lacking P on (ranksOf P on)) (up_to (count P)) ≡ true → ⊥
-      none-lacks e t =
-          let (i, m, q) = any-witness (lacking P on (ranksOf P on)) (up_to (count P)) t in
-          never q (seek-none (lacking P on (ranksOf P on)) (up_to (count P)) e i m)
+      none_lacks : ◌≡◌ {A = Option ℕ} (lowest_lacking P on (ranks_of P on)) none → any (lacking P on (ranks_of P on)) (up_to (count P)) ≡ true → ⊥
+      none_lacks e t =
+          let (i, m, q) = any-witness (lacking P on (ranks_of P on)) (up_to (count P)) t in
+          never q (seek-none (lacking P on (ranks_of P on)) (up_to (count P)) e i m)
 
-  pub unlayered-cycle : Bounded P → isLayered P on ≡ false → Cycle P on
-  unlayered-cycle b e = ⊎_elim (λ c. c) (λ t. never (ranks-layered b t.0 t.1) e) (cycle-or-ranks P on b)
+  pub unlayered_cycle : Bounded P → is_layered P on ≡ false → Cycle P on
+  unlayered_cycle b e = ⊎_elim (λ c. c) (λ t. never (ranks_layered b t.0 t.1) e) (cycle_or_ranks P on b)
 
-  pub cycle-unlayered : Cycle P on → isLayered P on ≡ false
-  cycle-unlayered c = false_of (isLayered P on) (λ e. no-cycle P on (ranksOf P on) (layered-least e).ranks c)
+  pub cycle_unlayered : Cycle P on → is_layered P on ≡ false
+  cycle_unlayered c = false_of (is_layered P on) (λ e. no-cycle P on (ranks_of P on) (layered_least e).ranks c)
 
   -- The least ranks are the same however they are found, and none is above the number of constraint facts.
-  pub least-ranks-same : (rank other : ℕ → ℕ) → LeastRanks P on rank → LeastRanks P on other → (f : ℕ) → rank f ≡ other f
-  least-ranks-same rank other l m f = omega (arith, l.least other m.ranks f, m.least rank l.ranks f)
+  pub least_ranks_same : (rank other : ℕ → ℕ) → LeastRanks P on rank → LeastRanks P on other → (f : ℕ) → rank f ≡ other f
+  least_ranks_same rank other l m f = omega (arith, l.least other m.ranks f, m.least rank l.ranks f)
 
   -- The rank of a fact is below the count of facts: no fact bars itself.
-  pub least-below : Bounded P → (rank : ℕ → ℕ) → LeastRanks P on rank → (f : ℕ) → f < P.facts → rank f < P.facts
-  least-below b rank l f h =
-      ⊎_elim (λ c. absurd (no-cycle P on rank l.ranks c)) (λ t. omega (arith, l.least t.0 t.1 f, t.3 f h)) (cycle-or-ranks P on b)
+  pub least_below : Bounded P → (rank : ℕ → ℕ) → LeastRanks P on rank → (f : ℕ) → f < P.facts → rank f < P.facts
+  least_below b rank l f h =
+      ⊎_elim (λ c. absurd (no-cycle P on rank l.ranks c)) (λ t. omega (arith, l.least t.0 t.1 f, t.3 f h)) (cycle_or_ranks P on b)
 
-  pub least-few : Bounded P → (rank : ℕ → ℕ) → LeastRanks P on rank → (f : ℕ) → rank f ≤ howMany (constraintFact P on) (up_to P.facts)
-  least-few b rank l f =
-      ⊎_elim (λ c. absurd (no-cycle P on rank l.ranks c)) (λ t. omega (arith, l.least t.0 t.1 f, t.2 f)) (cycle-or-ranks P on b)
+  pub least_few : Bounded P → (rank : ℕ → ℕ) → LeastRanks P on rank → (f : ℕ) → rank f ≤ how_many (constraint_fact P on) (up_to P.facts)
+  least_few b rank l f =
+      ⊎_elim (λ c. absurd (no-cycle P on rank l.ranks c)) (λ t. omega (arith, l.least t.0 t.1 f, t.2 f)) (cycle_or_ranks P on b)

@@ -6,29 +6,29 @@ use Rattle.theory.specs.Stable.{facts_of, reduct}
 use Rattle.theory.specs.Derive.{derive}
 
 -- the least set closed under the reduct by G
-unfoldable pub leastOf : Program → Mask → FactSet → FactSet
-leastOf P on G = derive P (reduct P on G) nothing
+unfoldable pub least_of : Program → Mask → FactSet → FactSet
+least_of P on G = derive P (reduct P on G) nothing
 
 -- The test of stability: the least set closed under the reduct by M has the facts of M.
-unfoldable pub isStable : Program → Mask → FactSet → Bool
-isStable P on M = all (λ f. beq (leastOf P on M f) (M f)) (up_to P.facts)
+unfoldable pub is_stable : Program → Mask → FactSet → Bool
+is_stable P on M = all (λ f. beq (least_of P on M f) (M f)) (up_to P.facts)
 
 -- A step after the facts S: its rule is one of the program, in force, and concludes its fact from premises in S.
-unfoldable pub stepHolds : Program → Mask → FactSet → Step → Bool
-stepHolds P on S s =
+unfoldable pub step_holds : Program → Mask → FactSet → Step → Bool
+step_holds P on S s =
     ltb s.by (count P) && on s.by
     && eqb (rule P s.by).conclusion s.fact
     && all S (rule P s.by).premises
 
 -- each step after S and the facts of the steps before it
-abbrev pub stepsHold : Program → Mask → FactSet → List Step → Bool
-stepsHold P on S [] = true
-stepsHold P on S (s ∷ row) = stepHolds P on S s && stepsHold P on (adjoin S s.fact) row
+abbrev pub steps_hold : Program → Mask → FactSet → List Step → Bool
+steps_hold P on S [] = true
+steps_hold P on S (s ∷ row) = step_holds P on S s && steps_hold P on (adjoin S s.fact) row
 
 -- T meets no constraint of a used rule
-abbrev pub rowClear : Program → FactSet → List Step → Bool
-rowClear P T [] = true
-rowClear P T (s ∷ row) = clear T (rule P s.by).constraints && rowClear P T row
+abbrev pub row_clear : Program → FactSet → List Step → Bool
+row_clear P T [] = true
+row_clear P T (s ∷ row) = clear T (rule P s.by).constraints && row_clear P T row
 
 -- the last of the steps concludes f
 abbrev pub ends_with : ℕ → List Step → Bool
@@ -37,8 +37,8 @@ ends_with f (s ∷ []) = eqb s.fact f
 ends_with f (s ∷ t ∷ row) = ends_with f (t ∷ row)
 
 -- The row is a proof of f that M admits, by test.
-unfoldable pub isProof : Program → Mask → FactSet → List Step → ℕ → Bool
-isProof P on M row f =
-    ends_with f row && stepsHold P on nothing row
-    && rowClear P (facts_of row) row
-    && rowClear P M row
+unfoldable pub is_proof : Program → Mask → FactSet → List Step → ℕ → Bool
+is_proof P on M row f =
+    ends_with f row && steps_hold P on nothing row
+    && row_clear P (facts_of row) row
+    && row_clear P M row

@@ -3,14 +3,14 @@ use Rattle.std.specs.Prelude.{ℕ, ◌<◌, ◌≤◌, ◌≡◌, true, false, L
 use Rattle.theory.specs.Rule.{all, mem, Program, Mask, FactSet, count, rule, exception}
 
 -- Every rule, the withheld ones too.
-abbrev pub everyRule : Mask
-everyRule i = true
+abbrev pub every_rule : Mask
+every_rule i = true
 
 -- Every fact of every rule is below the count of facts.
 pub record Bounded (P : Program) : Type 0 where
-  pub conclusion-below : (i : ℕ) → i < count P → (rule P i).conclusion < P.facts
-  pub premises-below : (i : ℕ) → i < count P → all (λ f. ltb f P.facts) (rule P i).premises ≡ true
-  pub constraints-below : (i : ℕ) → i < count P → all (λ f. ltb f P.facts) (rule P i).constraints ≡ true
+  pub conclusion_below : (i : ℕ) → i < count P → (rule P i).conclusion < P.facts
+  pub premises_below : (i : ℕ) → i < count P → all (λ f. ltb f P.facts) (rule P i).premises ≡ true
+  pub constraints_below : (i : ℕ) → i < count P → all (λ f. ltb f P.facts) (rule P i).constraints ≡ true
 
 -- M holds no number that is not a fact of the program.
 abbrev pub Within : Program → FactSet → Type 0

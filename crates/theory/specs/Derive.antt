@@ -2,7 +2,7 @@
 -- in the set and its conclusion not, the lowest-numbered such rule adds its conclusion, one step. Constraints are not looked at.
 use Rattle.std.specs.Prelude.{ℕ, ◌<◌, ◌≡◌, Bool, false, not, ◌&&◌, List, [], ◌∷◌, map}
 use Rattle.std.proofs.Math.Option.{Option}
-use Rattle.theory.specs.Rule.{Step, plainRules, all, any, up_to, Program, Mask, FactSet, adjoin, count, rule}
+use Rattle.theory.specs.Rule.{Step, plain_rules, all, any, up_to, Program, Mask, FactSet, adjoin, count, rule}
 use Rattle.theory.specs.Lists.{seek}
 use Rattle.theory.specs.Walk.{picks, after}
 
@@ -34,12 +34,12 @@ derive P on S = after (conclude P) S (fired P on S)
 abbrev pub meets : Program → Mask → FactSet → FactSet → Bool
 meets P on B S = any (λ i. B (rule P i).conclusion) (fired P on S)
 
-abbrev pub stepBy : Program → ℕ → Step
-stepBy P i = record { fact = (rule P i).conclusion; by = i }
+abbrev pub step_by : Program → ℕ → Step
+step_by P i = record { fact = (rule P i).conclusion; by = i }
 
 unfoldable pub steps : Program → Mask → FactSet → List Step
-steps P on S = map (stepBy P) (fired P on S)
+steps P on S = map (step_by P) (fired P on S)
 
 -- The closure of S (document 01).
 abbrev pub closure : Program → Mask → FactSet → FactSet
-closure P on S = derive P (plainRules P on) S
+closure P on S = derive P (plain_rules P on) S

@@ -1,15 +1,15 @@
 -- Layered programs (document 02, wish 4): ranks of facts, cycles of dependencies that go through a constraint, and the order of exception rules by
--- rank. `layered-least` and `unlayered-cycle` in proofs/Ranks, `rank-sorted` and `rank-run-stable` in proofs/Layered say
+-- rank. `layered_least` and `unlayered_cycle` in proofs/Ranks, `rank_sorted` and `rank_run_stable` in proofs/Layered say
 -- what the computed half means.
 use Rattle.std.specs.Prelude.{ℕ, suc, ◌*◌, ◌<◌, ◌≤◌, ◌≡◌, Bool, true, false, cond, not, ◌&&◌, ◌||◌, List, [], ◌∷◌, length, get_or, eqb, ltb, leb, ◌⊎◌}
 use Rattle.std.proofs.Math.Option.{Option}
-use Rattle.theory.specs.Rule.{any, mem, up_to, byKey, Program, Mask, count, rule, exception}
+use Rattle.theory.specs.Rule.{any, mem, up_to, by_key, Program, Mask, count, rule, exception}
 use Rattle.theory.specs.Lists.{seek}
 use Rattle.theory.specs.Walk.{picks, after}
 
 -- Each fact has a rank: at least that of every premise of its rules in force, above that of every constraint.
 pub record Ranks (P : Program) (on : Mask) (rank : ℕ → ℕ) : Type 0 where
-  pub not-below : (i : ℕ) → i < count P → on i ≡ true → (f : ℕ) → mem f (rule P i).premises ≡ true → rank f ≤ rank (rule P i).conclusion
+  pub not_below : (i : ℕ) → i < count P → on i ≡ true → (f : ℕ) → mem f (rule P i).premises ≡ true → rank f ≤ rank (rule P i).conclusion
   pub above : (i : ℕ) → i < count P → on i ≡ true → (f : ℕ) → mem f (rule P i).constraints ≡ true → rank f < rank (rule P i).conclusion
 
 -- The least ranks, fact by fact: 0 where nothing forces more.
@@ -83,25 +83,25 @@ lacking P on rank i = on i && ltb (rank (rule P i).conclusion) (asks P rank i)
 abbrev pub raise : Program → (ℕ → ℕ) → ℕ → (ℕ → ℕ)
 raise P rank i = λ f. cond (eqb f (rule P i).conclusion) (asks P rank i) (rank f)
 
-abbrev pub allZero : ℕ → ℕ
-allZero f = 0
+abbrev pub all_zero : ℕ → ℕ
+all_zero f = 0
 
-abbrev pub lowestLacking : Program → Mask → (ℕ → ℕ) → Option ℕ
-lowestLacking P on rank = seek (lacking P on rank) (up_to (count P))
+abbrev pub lowest_lacking : Program → Mask → (ℕ → ℕ) → Option ℕ
+lowest_lacking P on rank = seek (lacking P on rank) (up_to (count P))
 
 -- The ranks, from 0 on, while some rule asks for more. Where there are ranks at all, each is below the count of facts, or there is no fact; so that many
 -- turns are enough.
-unfoldable pub ranksOf : Program → Mask → ℕ → ℕ
-ranksOf P on = after (raise P) allZero (picks (lowestLacking P on) (raise P) (suc P.facts * suc P.facts) allZero)
+unfoldable pub ranks_of : Program → Mask → ℕ → ℕ
+ranks_of P on = after (raise P) all_zero (picks (lowest_lacking P on) (raise P) (suc P.facts * suc P.facts) all_zero)
 
 -- Is there an end of it?
-unfoldable pub isLayered : Program → Mask → Bool
-isLayered P on = not (any (lacking P on (ranksOf P on)) (up_to (count P)))
+unfoldable pub is_layered : Program → Mask → Bool
+is_layered P on = not (any (lacking P on (ranks_of P on)) (up_to (count P)))
 
 -- The key of a rule in the order: the rank of its conclusion. Rules that are not in force come last.
-abbrev pub rankKey : Program → Mask → (ℕ → ℕ) → ℕ → ℕ
-rankKey P on rank i = cond (on i) (rank (rule P i).conclusion) P.facts
+abbrev pub rank_key : Program → Mask → (ℕ → ℕ) → ℕ → ℕ
+rank_key P on rank i = cond (on i) (rank (rule P i).conclusion) P.facts
 
 -- The order that is handed out: the exception rules in force by least rank of conclusion, then by number; behind them those that are not, ascending.
-unfoldable pub layeredOrder : Program → Mask → List ℕ
-layeredOrder P on = byKey (exception P) (rankKey P on (ranksOf P on)) (count P) 0 (suc P.facts)
+unfoldable pub layered_order : Program → Mask → List ℕ
+layered_order P on = by_key (exception P) (rank_key P on (ranks_of P on)) (count P) 0 (suc P.facts)

@@ -8,9 +8,9 @@ seek p [] = none
 seek p (x ∷ xs) = elim (p x) [ true ↦ some x | false ↦ seek p xs ]
 
 -- the numbers below n, descending
-abbrev pub downFrom : ℕ → List ℕ
-downFrom zero = []
-downFrom (suc n) = n ∷ downFrom n
+abbrev pub down_from : ℕ → List ℕ
+down_from zero = []
+down_from (suc n) = n ∷ down_from n
 
 -- the sum of the values of the elements
 abbrev pub sum_of : (ℕ → ℕ) → List ℕ → ℕ

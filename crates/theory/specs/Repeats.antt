@@ -8,8 +8,8 @@ once [] = []
 once (x ∷ xs) = cond (mem x xs) (once xs) (x ∷ once xs)
 
 -- the program with no repeats within a rule
-abbrev pub withoutRepeats : Program → Program
-withoutRepeats P =
+abbrev pub without_repeats : Program → Program
+without_repeats P =
     record {
       facts = P.facts;
       rules =
@@ -25,5 +25,5 @@ struck P r =
     cond (any P.unread r.constraints) (record { conclusion = 0; premises = []; constraints = keep P.unread r.constraints }) r
 
 -- the program with its withheld rules struck
-abbrev pub withoutWithheld : Program → Program
-withoutWithheld P = record { facts = P.facts; rules = map (struck P) P.rules; unread = P.unread }
+abbrev pub without_withheld : Program → Program
+without_withheld P = record { facts = P.facts; rules = map (struck P) P.rules; unread = P.unread }

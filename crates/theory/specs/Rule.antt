@@ -40,19 +40,19 @@ abbrev pub up_to : ℕ → List ℕ
 up_to n = range 0 n
 
 -- how many elements pass the test
-abbrev pub howMany : (ℕ → Bool) → List ℕ → ℕ
-howMany p [] = 0
-howMany p (x ∷ xs) = cond (p x) (suc (howMany p xs)) (howMany p xs)
+abbrev pub how_many : (ℕ → Bool) → List ℕ → ℕ
+how_many p [] = 0
+how_many p (x ∷ xs) = cond (p x) (suc (how_many p xs)) (how_many p xs)
 
 -- The numbers below m that pass the test, by key: for each of the n keys from p on, in turn, those that have it, ascending.
-abbrev pub byKey : (ℕ → Bool) → (ℕ → ℕ) → ℕ → ℕ → ℕ → List ℕ
-byKey test key m p zero = []
-byKey test key m p (suc n) = keep (λ i. test i && eqb (key i) p) (up_to m) ++ byKey test key m (suc p) n
+abbrev pub by_key : (ℕ → Bool) → (ℕ → ℕ) → ℕ → ℕ → ℕ → List ℕ
+by_key test key m p zero = []
+by_key test key m p (suc n) = keep (λ i. test i && eqb (key i) p) (up_to m) ++ by_key test key m (suc p) n
 
 -- The number of the first case whose test holds; where none does, the other number.
-abbrev pub firstCase : List (Bool × ℕ) → ℕ → ℕ
-firstCase [] other = other
-firstCase (c ∷ cases) other = cond c.0 c.1 (firstCase cases other)
+abbrev pub first_case : List (Bool × ℕ) → ℕ → ℕ
+first_case [] other = other
+first_case (c ∷ cases) other = cond c.0 c.1 (first_case cases other)
 
 -- One conclusion, any number of premises, any number of constraints: all facts, by number.
 pub record Rule : Type 0 where
@@ -113,27 +113,27 @@ unfoldable pub exception : Program → ℕ → Bool
 exception P i = ltb i (count P) && not (null (rule P i).constraints)
 
 -- A constraint fact (document 01) is a constraint of some rule, here of some rule in force.
-unfoldable pub constraintFact : Program → Mask → ℕ → Bool
-constraintFact P on k = any (λ i. on i && mem k (rule P i).constraints) (up_to (count P))
+unfoldable pub constraint_fact : Program → Mask → ℕ → Bool
+constraint_fact P on k = any (λ i. on i && mem k (rule P i).constraints) (up_to (count P))
 
 -- A withheld rule (document 02, wish 6) is an exception rule with an unread constraint.
 unfoldable pub withheld : Program → ℕ → Bool
 withheld P i = exception P i && any P.unread (rule P i).constraints
 
 -- The rules of a program that are in force for every operation: those that are not withheld.
-unfoldable pub inForce : Program → Mask
-inForce P i = not (withheld P i)
+unfoldable pub in_force : Program → Mask
+in_force P i = not (withheld P i)
 
 -- Programs that no operation tells apart: as many facts and rules, the same rules withheld, and of each rule in force the same conclusion, the same premises and the
 -- same constraints. They may differ in repeats and in the order of the items within a rule, in all that a withheld rule says, and in unread facts that withhold no
 -- rule.
 pub record Alike (P Q : Program) : Type 0 where
-  pub same-facts : P.facts ≡ Q.facts
+  pub same_facts : P.facts ≡ Q.facts
   pub same_count : count P ≡ count Q
-  pub same-withheld : (i : ℕ) → i < count P → withheld P i ≡ withheld Q i
-  pub same-conclusion : (i : ℕ) → i < count P → inForce P i ≡ true → (rule P i).conclusion ≡ (rule Q i).conclusion
-  pub same-premises : (i : ℕ) → i < count P → inForce P i ≡ true → (f : ℕ) → mem f (rule P i).premises ≡ mem f (rule Q i).premises
-  pub same-constraints : (i : ℕ) → i < count P → inForce P i ≡ true → (f : ℕ) → mem f (rule P i).constraints ≡ mem f (rule Q i).constraints
+  pub same_withheld : (i : ℕ) → i < count P → withheld P i ≡ withheld Q i
+  pub same_conclusion : (i : ℕ) → i < count P → in_force P i ≡ true → (rule P i).conclusion ≡ (rule Q i).conclusion
+  pub same_premises : (i : ℕ) → i < count P → in_force P i ≡ true → (f : ℕ) → mem f (rule P i).premises ≡ mem f (rule Q i).premises
+  pub same_constraints : (i : ℕ) → i < count P → in_force P i ≡ true → (f : ℕ) → mem f (rule P i).constraints ≡ mem f (rule Q i).constraints
 
 -- A step: the fact, and the rule that concludes it.
 pub record Step : Type 0 where
@@ -151,5 +151,5 @@ pub record Least (P : Program) (on : Mask) (S M : FactSet) : Type 0 where
   pub below : (N : FactSet) → Sub S N → Closed P on N → Sub M N
 
 -- the plain rules in force
-unfoldable pub plainRules : Program → Mask → Mask
-plainRules P on i = on i && plain P i
+unfoldable pub plain_rules : Program → Mask → Mask
+plain_rules P on i = on i && plain P i

@@ -1,10 +1,10 @@
 -- The run of a program for an order (document 01, "The run").
 use Rattle.std.specs.Prelude.{ℕ, Bool, not, cond, ◌&&◌, List, [], ◌∷◌, ◌++◌, map, length, ltb}
 use Rattle.std.proofs.Math.Option.{Option}
-use Rattle.theory.specs.Rule.{all, any, clear, mem, up_to, Program, Mask, FactSet, nothing, count, rule, plain, exception, Step, plainRules, firstCase}
+use Rattle.theory.specs.Rule.{all, any, clear, mem, up_to, Program, Mask, FactSet, nothing, count, rule, plain, exception, Step, plain_rules, first_case}
 use Rattle.theory.specs.Lists.{seek}
 use Rattle.theory.specs.Walk.{picks, after}
-use Rattle.theory.specs.Derive.{stepBy, conclude, closure, steps}
+use Rattle.theory.specs.Derive.{step_by, conclude, closure, steps}
 
 -- Where a run stands: D, the steps that led there, and the rules applied, one at each stage.
 pub record Stand : Type 0 where
@@ -39,26 +39,26 @@ abbrev pub stage : Program → Mask → Stand → ℕ → Stand
 stage P on s i =
     record {
       derived = trial P on s.derived i;
-      trace = s.trace ++ (stepBy P i ∷ steps P (plainRules P on) (conclude P s.derived i));
+      trace = s.trace ++ (step_by P i ∷ steps P (plain_rules P on) (conclude P s.derived i));
       applied = s.applied ++ (i ∷ []);
     }
 
 abbrev pub start : Program → Mask → Stand
 start P on =
-    record { derived = closure P on nothing; trace = steps P (plainRules P on) nothing; applied = [] }
+    record { derived = closure P on nothing; trace = steps P (plain_rules P on) nothing; applied = [] }
 
 -- the first rule in the order that is eligible
-abbrev pub firstEligible : Program → Mask → List ℕ → Stand → Option ℕ
-firstEligible P on order s = seek (eligible P on s) order
+abbrev pub first_eligible : Program → Mask → List ℕ → Stand → Option ℕ
+first_eligible P on order s = seek (eligible P on s) order
 
 -- The end of the run: a stage puts a conclusion into D that was not there, so there are at most as many stages as rules.
 unfoldable pub run : Program → Mask → List ℕ → Stand
 run P on order =
-    after (stage P on) (start P on) (picks (firstEligible P on order) (stage P on) (count P) (start P on))
+    after (stage P on) (start P on) (picks (first_eligible P on order) (stage P on) (count P) (start P on))
 
 -- Set aside (document 01): at the end its premises are in D, none of its constraints is, and its conclusion is not.
-unfoldable pub setAside : Program → Mask → FactSet → ℕ → Bool
-setAside P on D i =
+unfoldable pub set_aside : Program → Mask → FactSet → ℕ → Bool
+set_aside P on D i =
     ltb i (count P) && on i
     && all D (rule P i).premises
     && clear D (rule P i).constraints
@@ -66,33 +66,33 @@ setAside P on D i =
 
 -- the rules in force that are not set aside
 abbrev pub kept : Program → Mask → FactSet → Mask
-kept P on D i = on i && not (setAside P on D i)
+kept P on D i = on i && not (set_aside P on D i)
 
 -- Fact marks: 0 open, 1 in D, 2 in R.
-unfoldable pub factMark : Program → Stand → ℕ → ℕ
-factMark P s f = cond (s.derived f) 1 (cond (rejected P s.applied f) 2 0)
+unfoldable pub fact_mark : Program → Stand → ℕ → ℕ
+fact_mark P s f = cond (s.derived f) 1 (cond (rejected P s.applied f) 2 0)
 
 -- Rule marks (document 01): "0 plain, 1 applied at a stage, 2 set aside, 3 other", and 4 on a rule that is withheld (document 02, wish 6): one that is not in
 -- force.
-unfoldable pub ruleMark : Program → Mask → Stand → ℕ → ℕ
-ruleMark P on s i =
-    firstCase
+unfoldable pub rule_mark : Program → Mask → Stand → ℕ → ℕ
+rule_mark P on s i =
+    first_case
     ((plain P i, 0)
     ∷ (mem i s.applied, 1)
-    ∷ (setAside P on s.derived i, 2)
+    ∷ (set_aside P on s.derived i, 2)
     ∷ (on i, 3)
     ∷ [])
     4
 
-abbrev pub factMarks : Program → Stand → List ℕ
-factMarks P s = map (factMark P s) (up_to P.facts)
+abbrev pub marks_of_facts : Program → Stand → List ℕ
+marks_of_facts P s = map (fact_mark P s) (up_to P.facts)
 
-abbrev pub ruleMarks : Program → Mask → Stand → List ℕ
-ruleMarks P on s = map (ruleMark P on s) (up_to (count P))
+abbrev pub marks_of_rules : Program → Mask → Stand → List ℕ
+marks_of_rules P on s = map (rule_mark P on s) (up_to (count P))
 
 -- The counts that a run returns.
-abbrev pub stageCount : Stand → ℕ
-stageCount s = length s.applied
+abbrev pub stage_count : Stand → ℕ
+stage_count s = length s.applied
 
-abbrev pub stepCount : Stand → ℕ
-stepCount s = length s.trace
+abbrev pub step_count : Stand → ℕ
+step_count s = length s.trace

@@ -17,18 +17,18 @@ use Rattle.cursors.specs.declared.cursor.Row.{Row}
 use Rattle.cursors.specs.declared.cursor.Row.TheVariants.{Body}
 use Rattle.cursors.specs.declared.cursor.Read.{Read}
 use Rattle.cursors.specs.declared.cursor.Read.TheVariants.{Found, Refused, Ended}
-use Rattle.items.specs.Item.{narrow, itemWidth, Sign, asksIn, asksOut, sameSign, OwnItem, class_of}
-use Rattle.cursors.specs.Cursor.{Token, item, bad, next_at, itemsAt, body_at}
+use Rattle.items.specs.Item.{narrow, item_width, Sign, asks_in, asks_out, same_sign, OwnItem, class_of}
+use Rattle.cursors.specs.Cursor.{Token, item, bad, next_at, items_at, body_at}
 use Rattle.cursors.proofs.Items.{ReadAt, found}
-use Rattle.items.proofs.ItemSays.{by_tags, unsaid, alone, either-said}
+use Rattle.items.proofs.ItemSays.{by_tags, unsaid, alone, either_said}
 use Rattle.cursors.proofs.NoItemRead.{NotFound, nothing_read}
-use Rattle.cursors.proofs.EachKind.{itemLength, width-of-item}
-use Rattle.reader.specs.Questions.{ownFacts, premisesOf, constraintsOf}
+use Rattle.cursors.proofs.EachKind.{item_length, width_of_item}
+use Rattle.reader.specs.Questions.{own_facts, premises_of, constraints_of}
 use Rattle.reader.proofs.Tags.{NotOwn}
 use Rattle.view.specs.declared.range.Own.{Own}
 use Rattle.view.specs.declared.range.Own.TheVariants as own
 use Rattle.view.specs.declared.range.Taken.{Taken}
-use Rattle.view.specs.View.{end_at, ownBy, own_of, own_at, pastOwn, taken_of, takenAt, ownItems, GivesEach}
+use Rattle.view.specs.View.{end_at, own_by, own_of, own_at, past_own, taken_of, taken_at, own_items, GivesEach}
 
 -- an item of another kind
 not_own : (i : Item) (ts : List Token) → NotOwn i → own_of (item i ∷ ts) ≡ own.Ended
@@ -36,7 +36,7 @@ not_own i ts k = rw (unsaid (by_tags i).own (0 ∷ 1 ∷ 4 ∷ 5 ∷ 6 ∷ 7 ∷
 
 -- The front of a range: it is empty, or what stands there decides.
 module _ (s : List ℕ) (at end : ℕ) where
-  nothing-there : own_at s at end ≡ own.Ended → taken_of own.Ended at end ≡ takenAt s at end
+  nothing-there : own_at s at end ≡ own.Ended → taken_of own.Ended at end ≡ taken_at s at end
   nothing-there e = sym (ap (λ (o : Own). taken_of o at end) e)
 
   empty : end ≤ at → own_at s at end ≡ own.Ended
@@ -45,46 +45,46 @@ module _ (s : List ℕ) (at end : ℕ) where
       let none : ltb at end ≡ false = le-ltb at end h in
       rw none
 
-  pub empty-range : end ≤ at → taken_of own.Ended at end ≡ takenAt s at end
+  pub empty-range : end ≤ at → taken_of own.Ended at end ≡ taken_at s at end
   empty-range h = nothing-there (empty h)
 
   module _ (h : at < end) where
-    front-decides : own_at s at end ≡ own_of (itemsAt s (body_at at))
+    front-decides : own_at s at end ≡ own_of (items_at s (body_at at))
     unfolding own_at
     front-decides =
         let some : ltb at end ≡ true = lt-ltb at end h in
         rw some
 
-    none-there : (r : Read) → next_at s (body_at at) ≡ r → NotFound r → own_at s at end ≡ own.Ended
-    none-there r e k = front-decides ∙ nothing_read own_of (λ fault. refl) s (body_at at) r e k
+    none_there : (r : Read) → next_at s (body_at at) ≡ r → NotFound r → own_at s at end ≡ own.Ended
+    none_there r e k = front-decides ∙ nothing_read own_of (λ fault. refl) s (body_at at) r e k
 
-    pub none-taken : (r : Read) → next_at s (body_at at) ≡ r → NotFound r → taken_of own.Ended at end ≡ takenAt s at end
-    none-taken r e k = nothing-there (none-there r e k)
+    pub none_taken : (r : Read) → next_at s (body_at at) ≡ r → NotFound r → taken_of own.Ended at end ≡ taken_at s at end
+    none_taken r e k = nothing-there (none_there r e k)
 
     module _ (d : Cursor) (i : Item) (e : next_at s (body_at at) ≡ Found i d) where
-      read-there : own_at s at end ≡ own_of (item i ∷ itemsAt s d)
-      read-there = front-decides ∙ ap own_of (found s (body_at at) d i e).items
+      read_there : own_at s at end ≡ own_of (item i ∷ items_at s d)
+      read_there = front-decides ∙ ap own_of (found s (body_at at) d i e).items
 
-      pub other-there : NotOwn i → taken_of own.Ended at end ≡ takenAt s at end
-      other-there k = nothing-there (read-there ∙ not_own i (itemsAt s d) k)
+      pub other_there : NotOwn i → taken_of own.Ended at end ≡ taken_at s at end
+      other_there k = nothing-there (read_there ∙ not_own i (items_at s d) k)
 
-      past : (j : Item) → i ≡ j → d.at ≡ at + itemLength narrow j
-      past j q = width-of-item (found s (body_at at) d i e) ∙ ap (λ (k : Item). at + itemLength narrow k) q
+      past : (j : Item) → i ≡ j → d.at ≡ at + item_length narrow j
+      past j q = width_of_item (found s (body_at at) d i e) ∙ ap (λ (k : Item). at + item_length narrow k) q
 
-      pub premise-taken : (f : FactId) → i ≡ Premise f → record { item = own.Premise f; rest = d.at } ≡ takenAt s at end
-      premise-taken f q =
+      pub premise_taken : (f : FactId) → i ≡ Premise f → record { item = own.Premise f; rest = d.at } ≡ taken_at s at end
+      premise_taken f q =
           ap (λ (n : ℕ). record { item = own.Premise f; rest = n }) (past (Premise f) q)
-          ∙ sym (ap (λ (o : Own). taken_of o at end) (read-there ∙ ap (λ (j : Item). own_of (item j ∷ itemsAt s d)) q))
+          ∙ sym (ap (λ (o : Own). taken_of o at end) (read_there ∙ ap (λ (j : Item). own_of (item j ∷ items_at s d)) q))
 
-      pub constraint-taken : (f : FactId) → i ≡ Constraint f → record { item = own.Constraint f; rest = d.at } ≡ takenAt s at end
-      constraint-taken f q =
+      pub constraint_taken : (f : FactId) → i ≡ Constraint f → record { item = own.Constraint f; rest = d.at } ≡ taken_at s at end
+      constraint_taken f q =
           ap (λ (n : ℕ). record { item = own.Constraint f; rest = n }) (past (Constraint f) q)
-          ∙ sym (ap (λ (o : Own). taken_of o at end) (read-there ∙ ap (λ (j : Item). own_of (item j ∷ itemsAt s d)) q))
+          ∙ sym (ap (λ (o : Own). taken_of o at end) (read_there ∙ ap (λ (j : Item). own_of (item j ∷ items_at s d)) q))
 
 -- What is taken off the front of a range: the item heads those of the rule, those that are left follow it, and the range ends where it did.
 pub record Gives (s : List ℕ) (at end : ℕ) (t : Taken) (sign : Sign) (f : FactId) : Type 0 where
-  pub first : ownItems (itemsAt s (body_at at)) ≡ record { sign = sign; fact = f } ∷ ownItems (itemsAt s (body_at t.rest))
-  pub own : (asked : Sign) → ownFacts asked (itemsAt s (body_at at)) ≡ cond (sameSign asked sign) (f.0 ∷ ownFacts asked (itemsAt s (body_at t.rest))) (ownFacts asked (itemsAt s (body_at t.rest)))
+  pub first : own_items (items_at s (body_at at)) ≡ record { sign = sign; fact = f } ∷ own_items (items_at s (body_at t.rest))
+  pub own : (asked : Sign) → own_facts asked (items_at s (body_at at)) ≡ cond (same_sign asked sign) (f.0 ∷ own_facts asked (items_at s (body_at t.rest))) (own_facts asked (items_at s (body_at t.rest)))
   pub nearer : end - t.rest < end - at
   pub ends : end ≡ end_at s at → end ≡ end_at s t.rest
 
@@ -93,172 +93,172 @@ in_body : (c : Cursor) → c.row ≡ Body → c ≡ body_at c.at
 in_body c e = ap (λ (row : Row). record { at = c.at; row = row }) e
 
 -- how many of the items are a rule's own
-abbrev ownIn : List Token → ℕ
-ownIn ts = length (premisesOf ts) + length (constraintsOf ts)
+abbrev own_in : List Token → ℕ
+own_in ts = length (premises_of ts) + length (constraints_of ts)
 
 -- An item of a rule's own says its sign and its fact.
-some-own : (sign : Sign) (f : FactId) → ownBy sign f ≡ own.Ended → ⊥
-some-own asksIn f e = let z : ◌≡◌ {A = ℕ} 0 1 = cc in omega arith
-some-own asksOut f e = let z : ◌≡◌ {A = ℕ} 0 1 = cc in omega arith
+some_own : (sign : Sign) (f : FactId) → own_by sign f ≡ own.Ended → ⊥
+some_own asks_in f e = let z : ◌≡◌ {A = ℕ} 0 1 = cc in omega arith
+some_own asks_out f e = let z : ◌≡◌ {A = ℕ} 0 1 = cc in omega arith
 
-same-own : (a b : Sign) (f g : FactId) → ownBy a f ≡ ownBy b g → ◌≡◌ {A = OwnItem} (record { sign = a; fact = f }) (record { sign = b; fact = g })
-same-own asksIn asksIn f g e = let q : f ≡ g = cc in ap (λ (x : FactId). record { sign = asksIn; fact = x }) q
-same-own asksIn asksOut f g e = absurd (let z : ◌≡◌ {A = ℕ} 0 1 = cc in omega arith)
-same-own asksOut asksIn f g e = absurd (let z : ◌≡◌ {A = ℕ} 0 1 = cc in omega arith)
-same-own asksOut asksOut f g e = let q : f ≡ g = cc in ap (λ (x : FactId). record { sign = asksOut; fact = x }) q
+same_own : (a b : Sign) (f g : FactId) → own_by a f ≡ own_by b g → ◌≡◌ {A = OwnItem} (record { sign = a; fact = f }) (record { sign = b; fact = g })
+same_own asks_in asks_in f g e = let q : f ≡ g = cc in ap (λ (x : FactId). record { sign = asks_in; fact = x }) q
+same_own asks_in asks_out f g e = absurd (let z : ◌≡◌ {A = ℕ} 0 1 = cc in omega arith)
+same_own asks_out asks_in f g e = absurd (let z : ◌≡◌ {A = ℕ} 0 1 = cc in omega arith)
+same_own asks_out asks_out f g e = let q : f ≡ g = cc in ap (λ (x : FactId). record { sign = asks_out; fact = x }) q
 
-own-said : (sign : Sign) (f : FactId) (i : Item) (ts : List Token) → own_of (item i ∷ ts) ≡ ownBy sign f → (class_of i).own ≡ some (record { sign = sign; fact = f })
+own-said : (sign : Sign) (f : FactId) (i : Item) (ts : List Token) → own_of (item i ∷ ts) ≡ own_by sign f → (class_of i).own ≡ some (record { sign = sign; fact = f })
 own-said sign f i ts =
-    either-said (λ o. o ≡ ownBy sign f → (class_of i).own ≡ some (record { sign = sign; fact = f })) (class_of i).own _ _
-    (λ o s e. s ∙ ap some (same-own o.sign sign o.fact f e))
-    (λ _ e. absurd (some-own sign f (sym e)))
+    either_said (λ o. o ≡ own_by sign f → (class_of i).own ≡ some (record { sign = sign; fact = f })) (class_of i).own _ _
+    (λ o s e. s ∙ ap some (same_own o.sign sign o.fact f e))
+    (λ _ e. absurd (some_own sign f (sym e)))
 
 -- Its width, and that it is one more.
 module _ (i : Item) {sign : Sign} {f : FactId} (s : (class_of i).own ≡ some (record { sign = sign; fact = f })) where
-  own-width : itemLength narrow i ≡ itemWidth narrow
+  own-width : item_length narrow i ≡ item_width narrow
   own-width = rw (alone (by_tags i).own s (by_tags i).rules (tt, tt), alone (by_tags i).own s (by_tags i).names (tt, tt), alone (by_tags i).own s (by_tags i).step (tt, tt))
 
-  own_first : (asked : Sign) (ts : List Token) → ownFacts asked (item i ∷ ts) ≡ cond (sameSign asked sign) (f.0 ∷ ownFacts asked ts) (ownFacts asked ts)
+  own_first : (asked : Sign) (ts : List Token) → own_facts asked (item i ∷ ts) ≡ cond (same_sign asked sign) (f.0 ∷ own_facts asked ts) (own_facts asked ts)
   own_first asked ts = rw s
 
-  whole : (ts : List Token) → ownItems (item i ∷ ts) ≡ record { sign = sign; fact = f } ∷ ownItems ts
+  whole : (ts : List Token) → own_items (item i ∷ ts) ≡ record { sign = sign; fact = f } ∷ own_items ts
   whole ts = rw s
 
-  one_more : (ts : List Token) → ownIn (item i ∷ ts) ≡ ownIn ts + 1
-  one_more ts = rw (own_first asksIn ts, own_first asksOut ts) (go sign)
+  one_more : (ts : List Token) → own_in (item i ∷ ts) ≡ own_in ts + 1
+  one_more ts = rw (own_first asks_in ts, own_first asks_out ts) (go sign)
     where
-      go : (b : Sign) → length (cond (sameSign asksIn b) (f.0 ∷ premisesOf ts) (premisesOf ts)) + length (cond (sameSign asksOut b) (f.0 ∷ constraintsOf ts) (constraintsOf ts)) ≡ ownIn ts + 1
-      go asksIn = omega arith
-      go asksOut = omega arith
+      go : (b : Sign) → length (cond (same_sign asks_in b) (f.0 ∷ premises_of ts) (premises_of ts)) + length (cond (same_sign asks_out b) (f.0 ∷ constraints_of ts) (constraints_of ts)) ≡ own_in ts + 1
+      go asks_in = omega arith
+      go asks_out = omega arith
 
 -- An item is given: the range is not empty, and the read finds that item.
-module _ (s : List ℕ) (at end : ℕ) (t : Taken) (e : t ≡ takenAt s at end) where
+module _ (s : List ℕ) (at end : ℕ) (t : Taken) (e : t ≡ taken_at s at end) where
   given : {o : Own} → t.item ≡ o → own_at s at end ≡ o
   given q = sym (ap (λ (x : Taken). x.item) e) ∙ q
 
-  module _ (sign : Sign) (f : FactId) (q : t.item ≡ ownBy sign f) where
+  module _ (sign : Sign) (f : FactId) (q : t.item ≡ own_by sign f) where
     inside : at < end
     inside = go (ltb at end) refl
       where
         go : (b : Bool) → ltb at end ≡ b → at < end
         go true l = ltb-true at end l
-        go false l = absurd (some-own sign f (sym (given q) ∙ empty s at end (ltb-false at end l)))
+        go false l = absurd (some_own sign f (sym (given q) ∙ empty s at end (ltb-false at end l)))
 
-    rest-is : t.rest ≡ at + itemWidth narrow
-    rest-is = ap (λ (x : Taken). x.rest) e ∙ ap (λ (x : Own). pastOwn x at end) (given q) ∙ past_one sign
+    rest-is : t.rest ≡ at + item_width narrow
+    rest-is = ap (λ (x : Taken). x.rest) e ∙ ap (λ (x : Own). past_own x at end) (given q) ∙ past_one sign
       where
-        past_one : (b : Sign) → pastOwn (ownBy b f) at end ≡ at + itemWidth narrow
-        past_one asksIn = refl
-        past_one asksOut = refl
+        past_one : (b : Sign) → past_own (own_by b f) at end ≡ at + item_width narrow
+        past_one asks_in = refl
+        past_one asks_out = refl
 
     read : (i : Item) (d : Cursor) → next_at s (body_at at) ≡ Found i d → (class_of i).own ≡ some (record { sign = sign; fact = f }) → Gives s at end t sign f
     unfolding end_at
     read i d r says =
-        let found-there : ReadAt s (body_at at) i d = found s (body_at at) d i r in
-        let place : d.at ≡ t.rest = width-of-item found-there ∙ ap (λ (n : ℕ). at + n) (own-width i says) ∙ sym rest-is in
-        let there : d ≡ body_at t.rest = in_body d found-there.row ∙ ap body_at place in
-        let items-are : itemsAt s (body_at at) ≡ item i ∷ itemsAt s (body_at t.rest) = found-there.items ∙ ap (λ (c : Cursor). item i ∷ itemsAt s c) there in
-        let fewer : ownIn (itemsAt s (body_at at)) ≡ ownIn (itemsAt s (body_at t.rest)) + 1 = ap ownIn items-are ∙ one_more i says (itemsAt s (body_at t.rest)) in
+        let found_there : ReadAt s (body_at at) i d = found s (body_at at) d i r in
+        let place : d.at ≡ t.rest = width_of_item found_there ∙ ap (λ (n : ℕ). at + n) (own-width i says) ∙ sym rest-is in
+        let there : d ≡ body_at t.rest = in_body d found_there.row ∙ ap body_at place in
+        let items-are : items_at s (body_at at) ≡ item i ∷ items_at s (body_at t.rest) = found_there.items ∙ ap (λ (c : Cursor). item i ∷ items_at s c) there in
+        let fewer : own_in (items_at s (body_at at)) ≡ own_in (items_at s (body_at t.rest)) + 1 = ap own_in items-are ∙ one_more i says (items_at s (body_at t.rest)) in
         record {
-          first = ap ownItems items-are ∙ whole i says (itemsAt s (body_at t.rest));
-          own = λ asked. ap (ownFacts asked) items-are ∙ own_first i says asked (itemsAt s (body_at t.rest));
+          first = ap own_items items-are ∙ whole i says (items_at s (body_at t.rest));
+          own = λ asked. ap (own_facts asked) items-are ∙ own_first i says asked (items_at s (body_at t.rest));
           nearer = omega (arith, inside, rest-is);
-          ends = λ k. shorter end t.rest (ownIn (itemsAt s (body_at at))) (ownIn (itemsAt s (body_at t.rest))) k rest-is fewer;
+          ends = λ k. shorter end t.rest (own_in (items_at s (body_at at))) (own_in (items_at s (body_at t.rest))) k rest-is fewer;
         }
       where
-        shorter : (last rest a b : ℕ) → last ≡ at + itemWidth narrow * a → rest ≡ at + itemWidth narrow → a ≡ b + 1 → last ≡ rest + itemWidth narrow * b
+        shorter : (last rest a b : ℕ) → last ≡ at + item_width narrow * a → rest ≡ at + item_width narrow → a ≡ b + 1 → last ≡ rest + item_width narrow * b
         shorter last rest a b x y z = omega arith
 
     gives : Gives s at end t sign f
     gives = go (next_at s (body_at at)) refl
       where
         go : (r : Read) → next_at s (body_at at) ≡ r → Gives s at end t sign f
-        go (Refused r d) k = absurd (some-own sign f (sym (given q) ∙ none-there s at end inside (Refused r d) k (hit (1 ∷ 2 ∷ []) 1 tt)))
-        go (Ended d) k = absurd (some-own sign f (sym (given q) ∙ none-there s at end inside (Ended d) k (hit (1 ∷ 2 ∷ []) 2 tt)))
-        go (Found i d) k = read i d k (own-said sign f i (itemsAt s d) (sym (read-there s at end inside d i k) ∙ given q))
+        go (Refused r d) k = absurd (some_own sign f (sym (given q) ∙ none_there s at end inside (Refused r d) k (hit (1 ∷ 2 ∷ []) 1 tt)))
+        go (Ended d) k = absurd (some_own sign f (sym (given q) ∙ none_there s at end inside (Ended d) k (hit (1 ∷ 2 ∷ []) 2 tt)))
+        go (Found i d) k = read i d k (own-said sign f i (items_at s d) (sym (read_there s at end inside d i k) ∙ given q))
 
 -- No item of the rule's own stands at the front.
 abbrev pub NoneOwn : List Token → Type 0
-NoneOwn ts = (asked : Sign) → ownFacts asked ts ≡ []
+NoneOwn ts = (asked : Sign) → own_facts asked ts ≡ []
 
-none-own : (ts : List Token) → own_of ts ≡ own.Ended → NoneOwn ts
-none-own [] = λ e asked. refl
-none-own (bad fault ∷ ts) = λ e asked. refl
-none-own (item i ∷ ts) =
-    either-said (λ o. o ≡ own.Ended → NoneOwn (item i ∷ ts)) (class_of i).own _ _ (λ o s e. absurd (some-own o.sign o.fact e)) (λ s e asked. rw s)
+none_own : (ts : List Token) → own_of ts ≡ own.Ended → NoneOwn ts
+none_own [] = λ e asked. refl
+none_own (bad fault ∷ ts) = λ e asked. refl
+none_own (item i ∷ ts) =
+    either_said (λ o. o ≡ own.Ended → NoneOwn (item i ∷ ts)) (class_of i).own _ _ (λ o s e. absurd (some_own o.sign o.fact e)) (λ s e asked. rw s)
 
-both-empty : (ts : List Token) → ownIn ts ≡ 0 → NoneOwn ts
-both-empty ts e asked = go asked
+both_empty : (ts : List Token) → own_in ts ≡ 0 → NoneOwn ts
+both_empty ts e asked = go asked
   where
     empty-list : (xs : List ℕ) → length xs ≡ 0 → xs ≡ []
     empty-list [] h = refl
     empty-list (x ∷ xs) h = absurd (omega (arith, h))
 
-    go : (a : Sign) → ownFacts a ts ≡ []
-    go asksIn = empty-list (premisesOf ts) (omega (arith, e))
-    go asksOut = empty-list (constraintsOf ts) (omega (arith, e))
+    go : (a : Sign) → own_facts a ts ≡ []
+    go asks_in = empty-list (premises_of ts) (omega (arith, e))
+    go asks_out = empty-list (constraints_of ts) (omega (arith, e))
 
-module _ (s : List ℕ) (at end : ℕ) (t : Taken) (e : t ≡ takenAt s at end) where
-  pub premise-given : (f : FactId) → t.item ≡ own.Premise f → Gives s at end t asksIn f
-  premise-given f q = gives s at end t e asksIn f q
+module _ (s : List ℕ) (at end : ℕ) (t : Taken) (e : t ≡ taken_at s at end) where
+  pub premise_given : (f : FactId) → t.item ≡ own.Premise f → Gives s at end t asks_in f
+  premise_given f q = gives s at end t e asks_in f q
 
-  pub constraint-given : (f : FactId) → t.item ≡ own.Constraint f → Gives s at end t asksOut f
-  constraint-given f q = gives s at end t e asksOut f q
+  pub constraint_given : (f : FactId) → t.item ≡ own.Constraint f → Gives s at end t asks_out f
+  constraint_given f q = gives s at end t e asks_out f q
 
   -- Where the range ends with the rule, and no item is given, the rule has none left.
-  pub none-given : end ≡ end_at s at → t.item ≡ own.Ended → NoneOwn (itemsAt s (body_at at))
+  pub none_given : end ≡ end_at s at → t.item ≡ own.Ended → NoneOwn (items_at s (body_at at))
   unfolding end_at
-  none-given q n = go (ltb at end) refl
+  none_given q n = go (ltb at end) refl
     where
-      none_more : end ≤ at → ownIn (itemsAt s (body_at at)) ≡ 0
+      none_more : end ≤ at → own_in (items_at s (body_at at)) ≡ 0
       none_more h = omega (arith, q, h)
 
-      go : (b : Bool) → ltb at end ≡ b → NoneOwn (itemsAt s (body_at at))
-      go true l = none-own (itemsAt s (body_at at)) (sym (front-decides s at end (ltb-true at end l)) ∙ given s at end t e n)
-      go false l = both-empty (itemsAt s (body_at at)) (none_more (ltb-false at end l))
+      go : (b : Bool) → ltb at end ≡ b → NoneOwn (items_at s (body_at at))
+      go true l = none_own (items_at s (body_at at)) (sym (front-decides s at end (ltb-true at end l)) ∙ given s at end t e n)
+      go false l = both_empty (items_at s (body_at at)) (none_more (ltb-false at end l))
 
 -- What the first of a rule's own items is, and that there is one.
 abbrev First : List Token → OwnItem → Type 0
-First ts o = (own_of ts ≡ ownBy o.sign o.fact) × (0 < ownIn ts)
+First ts o = (own_of ts ≡ own_by o.sign o.fact) × (0 < own_in ts)
 
-first-own : (ts : List Token) (o : OwnItem) (os : List OwnItem) → ownItems ts ≡ o ∷ os → First ts o
+first-own : (ts : List Token) (o : OwnItem) (os : List OwnItem) → own_items ts ≡ o ∷ os → First ts o
 first-own [] o os = λ e. absurd (let z : ◌≡◌ {A = ℕ} 0 1 = cc in omega arith)
 first-own (bad fault ∷ ts) o os = λ e. absurd (let z : ◌≡◌ {A = ℕ} 0 1 = cc in omega arith)
 first-own (item i ∷ ts) o os =
-    either-said (λ l. l ≡ o ∷ os → First (item i ∷ ts) o) (class_of i).own _ _
-    (λ x s e. let same : x ≡ o = cc in (rw s (ap (λ (y : OwnItem). ownBy y.sign y.fact) same), omega (arith, one_more i s ts)))
+    either_said (λ l. l ≡ o ∷ os → First (item i ∷ ts) o) (class_of i).own _ _
+    (λ x s e. let same : x ≡ o = cc in (rw s (ap (λ (y : OwnItem). own_by y.sign y.fact) same), omega (arith, one_more i s ts)))
     (λ _ e. absurd (let z : ◌≡◌ {A = ℕ} 0 1 = cc in omega arith))
 
-no-first : (ts : List Token) → ownItems ts ≡ [] → own_of ts ≡ own.Ended
+no-first : (ts : List Token) → own_items ts ≡ [] → own_of ts ≡ own.Ended
 no-first [] = λ e. refl
 no-first (bad fault ∷ ts) = λ e. refl
 no-first (item i ∷ ts) =
-    either-said (λ l. l ≡ [] → own_of (item i ∷ ts) ≡ own.Ended) (class_of i).own _ _ (λ x s e. absurd (let z : ◌≡◌ {A = ℕ} 0 1 = cc in omega arith)) (λ s e. rw s)
+    either_said (λ l. l ≡ [] → own_of (item i ∷ ts) ≡ own.Ended) (class_of i).own _ _ (λ x s e. absurd (let z : ◌≡◌ {A = ℕ} 0 1 = cc in omega arith)) (λ s e. rw s)
 
 -- Where the range ends with the rule, the first of the rule's own items is inside, and where it has none, none is there.
 module _ (s : List ℕ) (end at : ℕ) where
-  first-inside : end ≡ end_at s at → 0 < ownIn (itemsAt s (body_at at)) → at < end
+  first-inside : end ≡ end_at s at → 0 < own_in (items_at s (body_at at)) → at < end
   unfolding end_at
   first-inside k more = omega (arith, k, more)
 
-  none_inside : own_of (itemsAt s (body_at at)) ≡ own.Ended → own_at s at end ≡ own.Ended
+  none_inside : own_of (items_at s (body_at at)) ≡ own.Ended → own_at s at end ≡ own.Ended
   unfolding own_at
-  none_inside e = rw e (same-arms (ltb at end))
+  none_inside e = rw e (same_arms (ltb at end))
     where
-      same-arms : (b : Bool) → cond b own.Ended own.Ended ≡ own.Ended
-      same-arms true = refl
-      same-arms false = refl
+      same_arms : (b : Bool) → cond b own.Ended own.Ended ≡ own.Ended
+      same_arms true = refl
+      same_arms false = refl
 
 -- The view of the range that ends with the rule gives the rule's own items in the file's order.
-pub gives-each : (s : List ℕ) (end at : ℕ) → end ≡ end_at s at → GivesEach s at end (ownItems (itemsAt s (body_at at)))
-gives-each s end at = go (ownItems (itemsAt s (body_at at))) at refl
+pub gives_each : (s : List ℕ) (end at : ℕ) → end ≡ end_at s at → GivesEach s at end (own_items (items_at s (body_at at)))
+gives_each s end at = go (own_items (items_at s (body_at at))) at refl
   where
-    go : (os : List OwnItem) (at : ℕ) → ownItems (itemsAt s (body_at at)) ≡ os → end ≡ end_at s at → GivesEach s at end os
-    go [] at e k = sym (nothing-there s at end (none_inside s end at (no-first (itemsAt s (body_at at)) e)))
+    go : (os : List OwnItem) (at : ℕ) → own_items (items_at s (body_at at)) ≡ os → end ≡ end_at s at → GivesEach s at end os
+    go [] at e k = sym (nothing-there s at end (none_inside s end at (no-first (items_at s (body_at at)) e)))
     go (o ∷ os) at e k =
-        let first : First (itemsAt s (body_at at)) o = first-own (itemsAt s (body_at at)) o os e in
-        let q : own_at s at end ≡ ownBy o.sign o.fact = front-decides s at end (first-inside s end at k first.1) ∙ first.0 in
-        let g : Gives s at end (takenAt s at end) o.sign o.fact = gives s at end (takenAt s at end) refl o.sign o.fact q in
-        let both : ◌≡◌ {A = List OwnItem} (record { sign = o.sign; fact = o.fact } ∷ ownItems (itemsAt s (body_at (takenAt s at end).rest))) (o ∷ os) = sym g.first ∙ e in
-        let left : ownItems (itemsAt s (body_at (takenAt s at end).rest)) ≡ os = cc both in
-        (q, go os (takenAt s at end).rest left (g.ends k))
+        let first : First (items_at s (body_at at)) o = first-own (items_at s (body_at at)) o os e in
+        let q : own_at s at end ≡ own_by o.sign o.fact = front-decides s at end (first-inside s end at k first.1) ∙ first.0 in
+        let g : Gives s at end (taken_at s at end) o.sign o.fact = gives s at end (taken_at s at end) refl o.sign o.fact q in
+        let both : ◌≡◌ {A = List OwnItem} (record { sign = o.sign; fact = o.fact } ∷ own_items (items_at s (body_at (taken_at s at end).rest))) (o ∷ os) = sym g.first ∙ e in
+        let left : own_items (items_at s (body_at (taken_at s at end).rest)) ≡ os = cc both in
+        (q, go os (taken_at s at end).rest left (g.ends k))

@@ -3,7 +3,7 @@
 pub mod range;
 
 ghost use Rattle.std.specs.Prelude.{◌≡◌};
-ghost use Rattle.view.specs.View.{takenAt};
+ghost use Rattle.view.specs.View.{taken_at};
 
 use range::Taken;
 
@@ -23,7 +23,7 @@ pub fn view_of<'a>(file: &'a [u8], at: usize, end: usize) -> RuleView<'a>
 
 // Its next item, and where what is left of it begins.
 pub fn next_item<'a>(view: RuleView<'a>) -> Taken
-    ensures { result ≡ takenAt view.entry.file.now view.entry.at view.entry.end }
+    ensures { result ≡ taken_at view.entry.file.now view.entry.at view.entry.end }
 {
     range::take_item(view.file, view.at, view.end)
 }

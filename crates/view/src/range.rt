@@ -1,9 +1,9 @@
 // The premises and constraints of a rule on the file's own bytes, by the range where they stand. Internal.
 ghost use Rattle.std.specs.Prelude.{◌+◌, ◌*◌, ◌<◌, ◌≤◌, ◌≡◌};
 ghost use Rattle.theory.specs.Rule.{count};
-ghost use Rattle.items.specs.Item.{narrow, itemWidth};
-ghost use Rattle.tables.specs.Layout.{maxOwn, programIn, WellFormed};
-ghost use Rattle.view.specs.View.{OwnRange, takenAt};
+ghost use Rattle.items.specs.Item.{narrow, item_width};
+ghost use Rattle.tables.specs.Layout.{max_own, program_in, WellFormed};
+ghost use Rattle.view.specs.View.{OwnRange, taken_at};
 
 use cursors::cursor::{Cursor, Read, Row};
 use items::item::{FactId, Item, RuleId};
@@ -35,8 +35,8 @@ pub struct Range {
 
 // The range that begins at a place and has so many items.
 fn range_at(place: u16, items: usize) -> Range
-    requires { items ≤ maxOwn + maxOwn }
-    ensures { (result.at ≡ place) × (result.end ≡ place + itemWidth narrow * items) }
+    requires { items ≤ max_own + max_own }
+    ensures { (result.at ≡ place) × (result.end ≡ place + item_width narrow * items) }
 {
     let at = place as usize;
     Range {
@@ -47,7 +47,7 @@ fn range_at(place: u16, items: usize) -> Range
 
 // The range of a rule: the tables have its place and the number of its items.
 pub fn range_of(tables: &[u16; TABLE_CELLS], rule: RuleId) -> Range
-    requires { WellFormed tables.now × (rule.0 < count (programIn tables.now)) }
+    requires { WellFormed tables.now × (rule.0 < count (program_in tables.now)) }
     ensures { OwnRange tables.now rule.0 result }
 {
     let number = rule.0 as usize;
@@ -59,7 +59,7 @@ pub fn range_of(tables: &[u16; TABLE_CELLS], rule: RuleId) -> Range
 
 // Takes the premise or constraint at the front of a range; where there is none, nothing is left.
 pub fn take_item(file: &[u8], at: usize, end: usize) -> Taken
-    ensures { result ≡ takenAt file.now at end }
+    ensures { result ≡ taken_at file.now at end }
 {
     let ended = Taken {
         item: Own::Ended,

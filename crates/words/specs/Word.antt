@@ -4,38 +4,38 @@ use Rattle.words.specs.declared.Word.{Word}
 use Rattle.words.specs.declared.Word.TheVariants.{Number, NotANumber}
 
 -- A digit is a byte from 0x30 to 0x39, the digits 0 to 9.
-abbrev pub digitZero : ℕ
-digitZero = 0x30
+abbrev pub digit_zero : ℕ
+digit_zero = 0x30
 
-abbrev pub digitNine : ℕ
-digitNine = 0x39
+abbrev pub digit_nine : ℕ
+digit_nine = 0x39
 
-abbrev pub isDigit : ℕ → Bool
-isDigit byte = leb digitZero byte && leb byte digitNine
+abbrev pub is_digit : ℕ → Bool
+is_digit byte = leb digit_zero byte && leb byte digit_nine
 
-abbrev pub allDigits : List ℕ → Bool
-allDigits [] = true
-allDigits (byte ∷ bytes) = isDigit byte && allDigits bytes
+abbrev pub all_digits : List ℕ → Bool
+all_digits [] = true
+all_digits (byte ∷ bytes) = is_digit byte && all_digits bytes
 
 -- The value in base ten of a row of digits, the highest place first, behind digits of the value n.
-abbrev pub valueBehind : ℕ → List ℕ → ℕ
-valueBehind n [] = n
-valueBehind n (byte ∷ bytes) = valueBehind (n * 10 + (byte - digitZero)) bytes
+abbrev pub value_behind : ℕ → List ℕ → ℕ
+value_behind n [] = n
+value_behind n (byte ∷ bytes) = value_behind (n * 10 + (byte - digit_zero)) bytes
 
 abbrev pub value : List ℕ → ℕ
-value bytes = valueBehind 0 bytes
+value bytes = value_behind 0 bytes
 
 -- The most digits of a number that a word says, and the highest number.
-abbrev pub longestNumber : ℕ
-longestNumber = 10
+abbrev pub longest_number : ℕ
+longest_number = 10
 
-abbrev pub mostValue : ℕ
-mostValue = 4294967295
+abbrev pub most_value : ℕ
+most_value = 4294967295
 
 -- A word is a number, and which.
 unfoldable pub is_number : List ℕ → Bool
 is_number word =
-    leb 1 (length word) && (leb (length word) longestNumber && (allDigits word && leb (value word) mostValue))
+    leb 1 (length word) && (leb (length word) longest_number && (all_digits word && leb (value word) most_value))
 
 unfoldable pub word_of : List ℕ → Word
 word_of word = cond (is_number word) (Number (value word)) NotANumber

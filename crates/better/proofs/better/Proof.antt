@@ -1,6 +1,6 @@
 -- `better`: the slice of the order chosen, or none of the bytes of the first.
 use mathlib.Core.Path.{refl, sym, ◌∙◌}
-use Rattle.better.proofs.Chosen.{first_back, second_back, none-back}
+use Rattle.better.proofs.Chosen.{first_back, second_back, none_back}
 use borrow.Author.Rules.{rules}
 use Rattle.better.proofs.better.Statement.{statement}
 use Rattle.better.proofs.better.Tie as tie
@@ -27,7 +27,7 @@ returns-2 : tie.Need-returns-2
 returns-2 c = second_back _ _ _ (sym c.before.before.choose.ensures.0 ∙ c.enum-told2.given.1)
 
 returns-3 : tie.Need-returns-3
-returns-3 c = none-back _ _ _ _ (sym c.before.before.before.choose.ensures.0 ∙ c.before.enum-told3.given.1) _ refl refl
+returns-3 c = none_back _ _ _ _ (sym c.before.before.before.choose.ensures.0 ∙ c.before.enum-told3.given.1) _ refl refl
 
 pub better-spec : {M : Type 1} → statement M
 better-spec =

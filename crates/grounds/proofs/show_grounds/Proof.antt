@@ -2,7 +2,7 @@
 use mathlib.Core.Path.{sym}
 use native.Mathlib.Omega.{arith}
 use lib.Seq.{length-take-le}
-use Rattle.input.proofs.BytesRead.{read-inside, read-front}
+use Rattle.input.proofs.BytesRead.{read_inside, read_front}
 use borrow.Author.Rules.{rules}
 use Rattle.grounds.proofs.show_grounds.Statement.{statement}
 use Rattle.grounds.proofs.show_grounds.Tie as tie
@@ -20,10 +20,10 @@ enum-known-n : tie.Need-enum-known-n
 enum-known-n c = search rules
 
 array-share-prefix-room : tie.Need-array-share-prefix-room
-array-share-prefix-room c = read-inside _ _ c.before.before.before.before.read-input.ensures _ c.before.n.given.1
+array-share-prefix-room c = read_inside _ _ c.before.before.before.before.read-input.ensures _ c.before.n.given.1
 
 slice-aggregate-render : tie.Need-slice-aggregate-render
-slice-aggregate-render c = read-front _ _ c.before.before.before.before.before.read-input.ensures _ c.before.before.n.given.1
+slice-aggregate-render c = read_front _ _ c.before.before.before.before.before.read-input.ensures _ c.before.before.n.given.1
 
 slice-aggregate-render-2 : tie.Need-slice-aggregate-render-2
 slice-aggregate-render-2 c = search rules

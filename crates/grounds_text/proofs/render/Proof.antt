@@ -5,12 +5,12 @@ use lib.ListN.{take}
 use lib.Seq.{length-take-le}
 use borrow.Author.Rules.{rules}
 use Rattle.panel_text.proofs.TextShown.{front-text}
-use Rattle.grounds_text.specs.Text.{groundsText}
+use Rattle.grounds_text.specs.Text.{grounds_text}
 use Rattle.grounds_text.proofs.render.Statement.{statement}
 use Rattle.grounds_text.proofs.render.Tie as tie
 
 -- the text stands at the front of the room
-text : (c : tie.After-put-text) → take c.put-text.result c.put-text.new.1.1.0 ≡ groundsText c.before.before.before.before.args.file.now c.before.before.before.before.args.fact
+text : (c : tie.After-put-text) → take c.put-text.result c.put-text.new.1.1.0 ≡ grounds_text c.before.before.before.before.args.file.now c.before.before.before.before.args.fact
 text c = front-text _ _ _ _ c.put-text.ensures.0
 
 slice-aggregate-put-text : tie.Need-slice-aggregate-put-text

@@ -2,8 +2,8 @@
 use native.Mathlib.Omega.{arith}
 use mathlib.Core.Path.{sym, ap}
 use lib.Seq.{length-take-le}
-use Rattle.generator.specs.Outcome.{loadCount}
-use Rattle.generator.proofs.LoadAnswers.{counted-inside}
+use Rattle.generator.specs.Outcome.{load_count}
+use Rattle.generator.proofs.LoadAnswers.{counted_inside}
 use borrow.Author.Rules.{rules}
 use Rattle.load.proofs.write_load.Statement.{statement}
 use Rattle.load.proofs.write_load.Tie as tie
@@ -42,7 +42,7 @@ cast-length : tie.Need-overflow-cast-length
 cast-length c = search rules
 
 array-share-prefix-room : tie.Need-array-share-prefix-room
-array-share-prefix-room c = omega (arith, counted-inside _ _ _ _ _ c.before.before.before.load-in-room.ensures.0, ap loadCount c.before.bytes.given.1)
+array-share-prefix-room c = omega (arith, counted_inside _ _ _ _ _ c.before.before.before.load-in-room.ensures.0, ap load_count c.before.bytes.given.1)
 
 slice-aggregate-write-all-3 : tie.Need-slice-aggregate-write-all-3
 slice-aggregate-write-all-3 c = sym (length-take-le _ _ (array-share-prefix-room c.before))

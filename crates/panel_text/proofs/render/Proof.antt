@@ -4,7 +4,7 @@ use mathlib.Core.Path.{◌≡◌, sym}
 use native.Mathlib.Omega.{arith}
 use lib.ListN.{length, take, length-replicate}
 use lib.Seq.{length-take-le}
-use Rattle.panel_lines.specs.Text.{panelText, textRoom}
+use Rattle.panel_lines.specs.Text.{panel_text, text_room}
 use Rattle.panel_text.proofs.TextShown.{front-text}
 use borrow.Author.Rules.{rules}
 use Rattle.panel_text.proofs.render.Statement.{statement}
@@ -13,9 +13,9 @@ use Rattle.items.specs.Item.{narrow}
 
 -- the text lies inside the room, at its front
 inside : (c : tie.After-put-text) → c.put-text.result ≤ length c.put-text.new.1.0
-inside c = omega (arith, c.put-text.ensures.1, c.put-text.auto.1.0, length-replicate {A = ℕ} (textRoom narrow) 0)
+inside c = omega (arith, c.put-text.ensures.1, c.put-text.auto.1.0, length-replicate {A = ℕ} (text_room narrow) 0)
 
-text : (c : tie.After-put-text) → take c.put-text.result c.put-text.new.1.0 ≡ panelText c.before.before.before.before.args.file.now
+text : (c : tie.After-put-text) → take c.put-text.result c.put-text.new.1.0 ≡ panel_text c.before.before.before.before.args.file.now
 text c = front-text _ _ _ _ c.put-text.ensures.0
 
 slice-aggregate-put-text : tie.Need-slice-aggregate-put-text

@@ -1,8 +1,8 @@
 -- `check`: the scan of the file, then the rest.
 use borrow.Author.Rules.{rules}
 use mathlib.Core.Path.{sym, ◌∙◌}
-use Rattle.questions.proofs.OperationAsked.{scan-passed}
-use Rattle.proofcheck.proofs.CheckAsked.{check-file-no}
+use Rattle.questions.proofs.OperationAsked.{scan_passed}
+use Rattle.proofcheck.proofs.CheckAsked.{check_file_no}
 use Rattle.proofcheck.proofs.Meaning.{meant}
 use Rattle.proofcheck.proofs.check.Statement.{statement}
 use Rattle.proofcheck.proofs.check.Tie as tie
@@ -18,11 +18,11 @@ enum_told c = search rules
 
 check-accepted-requires : tie.Need-check-accepted-requires
 check-accepted-requires c κs =
-    let p = scan-passed _ _ _ (sym c.before.before.before.scan.ensures.0 ∙ c.before.enum_told.given.1) c.before.before.before.scan.ensures.1 in
+    let p = scan_passed _ _ _ (sym c.before.before.before.scan.ensures.0 ∙ c.before.enum_told.given.1) c.before.before.before.scan.ensures.1 in
     (p.accepted, p.tabled)
 
 returns : tie.Need-returns
-returns c = meant _ _ _ _ _ (check-file-no _ _ _ _ _ (sym c.before.before.before.scan.ensures.0 ∙ c.before.r.given.1))
+returns c = meant _ _ _ _ _ (check_file_no _ _ _ _ _ (sym c.before.before.before.scan.ensures.0 ∙ c.before.r.given.1))
 
 returns-2 : tie.Need-returns-2
 returns-2 c = meant _ _ _ _ _ c.check-accepted.ensures

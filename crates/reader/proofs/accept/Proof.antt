@@ -3,8 +3,8 @@ use mathlib.Core.Path.{refl, sym, ◌∙◌}
 use borrow.Author.Rules.{rules}
 use Rattle.reader.proofs.UnreadFacts.{all_read}
 use Rattle.reader.proofs.RulesCounted.{constrained-are}
-use Rattle.reader.proofs.FileAsked.{file-no, file-yes, refused-answer, accepted-answer}
-use Rattle.reader.proofs.AnswerNumbers.{accept-answered}
+use Rattle.reader.proofs.FileAsked.{file-no, file_yes, refused-answer, accepted_answer}
+use Rattle.reader.proofs.AnswerNumbers.{accept_answered}
 use Rattle.reader.proofs.accept.Statement.{statement}
 use Rattle.reader.proofs.accept.Tie as tie
 
@@ -15,7 +15,7 @@ accept-unread-requires : tie.Need-accept-unread-requires
 accept-unread-requires c κs = search rules
 
 returns : tie.Need-returns
-returns c = accept-answered _ _ c.accept-unread.ensures
+returns c = accept_answered _ _ c.accept-unread.ensures
 
 scan-requires : tie.Need-scan-requires
 scan-requires c κs = record { zeros = refl }
@@ -27,12 +27,12 @@ enum-known-counts : tie.Need-enum-known-counts
 enum-known-counts c = search rules
 
 returns-2 : tie.Need-returns-2
-returns-2 c = accept-answered _ _ (refused-answer _ _ (file-no _ _ (sym c.before.before.before.scan.ensures.0 ∙ c.before.r.given.1)))
+returns-2 c = accept_answered _ _ (refused-answer _ _ (file-no _ _ (sym c.before.before.before.scan.ensures.0 ∙ c.before.r.given.1)))
 
 returns-3 : tie.Need-returns-3
 returns-3 c =
-    let a = file-yes _ _ (sym c.before.before.before.scan.ensures.0 ∙ c.before.counts.given.1) in
-    accept-answered _ _ (accepted-answer _ _ _ _ _ a.accepted a.facts a.rules a.exceptions (a.constrained ∙ constrained-are _ (all_read _ a.accepted (sym c.before.before.before.before.before.before.begins-unread.ensures ∙ c.before.before.before.before.before.if1.false))))
+    let a = file_yes _ _ (sym c.before.before.before.scan.ensures.0 ∙ c.before.counts.given.1) in
+    accept_answered _ _ (accepted_answer _ _ _ _ _ a.accepted a.facts a.rules a.exceptions (a.constrained ∙ constrained-are _ (all_read _ a.accepted (sym c.before.before.before.before.before.before.begins-unread.ensures ∙ c.before.before.before.before.before.if1.false))))
 
 pub accept-spec : {M : Type 1} → statement M
 accept-spec =

@@ -1,5 +1,5 @@
 -- `of_accept`: the values of each case.
-use Rattle.replies.specs.Reply.{fileOf}
+use Rattle.replies.specs.Reply.{file_of}
 use borrow.Author.Rules.{rules}
 use Rattle.replies.proofs.of_accept.Statement.{statement}
 use Rattle.replies.proofs.of_accept.Tie as tie
@@ -32,12 +32,12 @@ cast-t14 : tie.Need-overflow-cast-t14
 cast-t14 c = search rules
 
 returns : tie.Need-returns
-unfolding fileOf
-returns c = rw (c.before.a.given.1, fileOf)
+unfolding file_of
+returns c = rw (c.before.a.given.1, file_of)
 
 returns-2 : tie.Need-returns-2
-unfolding fileOf
-returns-2 c = rw (c.number.ensures, c.before.before.a2.given.1, fileOf)
+unfolding file_of
+returns-2 c = rw (c.number.ensures, c.before.before.a2.given.1, file_of)
 
 pub of-accept-spec : {M : Type 1} → statement M
 of-accept-spec =

@@ -1,5 +1,5 @@
 -- `of_checked`: the values of each case.
-use Rattle.replies.specs.Reply.{verdictOfChecked}
+use Rattle.replies.specs.Reply.{verdict_of_checked}
 use borrow.Author.Rules.{rules}
 use Rattle.replies.proofs.of_checked.Statement.{statement}
 use Rattle.replies.proofs.of_checked.Tie as tie
@@ -20,16 +20,16 @@ cast-t5 : tie.Need-overflow-cast-t5
 cast-t5 c = search rules
 
 returns : tie.Need-returns
-unfolding verdictOfChecked
-returns c = rw (c.enum_told.given.1, verdictOfChecked)
+unfolding verdict_of_checked
+returns c = rw (c.enum_told.given.1, verdict_of_checked)
 
 returns-2 : tie.Need-returns-2
-unfolding verdictOfChecked
-returns-2 c = rw (c.enum-told2.given.1, verdictOfChecked)
+unfolding verdict_of_checked
+returns-2 c = rw (c.enum-told2.given.1, verdict_of_checked)
 
 returns-3 : tie.Need-returns-3
-unfolding verdictOfChecked
-returns-3 c = rw (c.number.ensures, c.before.before.a.given.1, verdictOfChecked)
+unfolding verdict_of_checked
+returns-3 c = rw (c.number.ensures, c.before.before.a.given.1, verdict_of_checked)
 
 pub of-checked-spec : {M : Type 1} → statement M
 of-checked-spec =

@@ -1,5 +1,5 @@
 -- `of_choice`: the values of each case.
-use Rattle.replies.specs.Reply.{replyOfChoice}
+use Rattle.replies.specs.Reply.{reply_of_choice}
 use borrow.Author.Rules.{rules}
 use Rattle.replies.proofs.of_choice.Statement.{statement}
 use Rattle.replies.proofs.of_choice.Tie as tie
@@ -20,16 +20,16 @@ cast-t5 : tie.Need-overflow-cast-t5
 cast-t5 c = search rules
 
 returns : tie.Need-returns
-unfolding replyOfChoice
-returns c = rw (c.enum_told.given.1, replyOfChoice)
+unfolding reply_of_choice
+returns c = rw (c.enum_told.given.1, reply_of_choice)
 
 returns-2 : tie.Need-returns-2
-unfolding replyOfChoice
-returns-2 c = rw (c.enum-told2.given.1, replyOfChoice)
+unfolding reply_of_choice
+returns-2 c = rw (c.enum-told2.given.1, reply_of_choice)
 
 returns-3 : tie.Need-returns-3
-unfolding replyOfChoice
-returns-3 c = rw (c.number.ensures, c.before.before.a.given.1, replyOfChoice)
+unfolding reply_of_choice
+returns-3 c = rw (c.number.ensures, c.before.before.a.given.1, reply_of_choice)
 
 pub of-choice-spec : {M : Type 1} → statement M
 of-choice-spec =

@@ -1,5 +1,5 @@
 -- `of_grounds`: the values of each case.
-use Rattle.replies.specs.Reply.{countOfGrounds}
+use Rattle.replies.specs.Reply.{count_of_grounds}
 use borrow.Author.Rules.{rules}
 use Rattle.replies.proofs.of_grounds.Statement.{statement}
 use Rattle.replies.proofs.of_grounds.Tie as tie
@@ -20,12 +20,12 @@ cast-t7 : tie.Need-overflow-cast-t7
 cast-t7 c = search rules
 
 returns : tie.Need-returns
-unfolding countOfGrounds
-returns c = rw (c.before.a.given.1, countOfGrounds)
+unfolding count_of_grounds
+returns c = rw (c.before.a.given.1, count_of_grounds)
 
 returns-2 : tie.Need-returns-2
-unfolding countOfGrounds
-returns-2 c = rw (c.number.ensures, c.before.before.a2.given.1, countOfGrounds)
+unfolding count_of_grounds
+returns-2 c = rw (c.number.ensures, c.before.before.a2.given.1, count_of_grounds)
 
 pub of-grounds-spec : {M : Type 1} → statement M
 of-grounds-spec =

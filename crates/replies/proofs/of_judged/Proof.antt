@@ -1,5 +1,5 @@
 -- `of_judged`: the values of each case.
-use Rattle.replies.specs.Reply.{verdictOfJudged}
+use Rattle.replies.specs.Reply.{verdict_of_judged}
 use borrow.Author.Rules.{rules}
 use Rattle.replies.proofs.of_judged.Statement.{statement}
 use Rattle.replies.proofs.of_judged.Tie as tie
@@ -20,16 +20,16 @@ cast-t5 : tie.Need-overflow-cast-t5
 cast-t5 c = search rules
 
 returns : tie.Need-returns
-unfolding verdictOfJudged
-returns c = rw (c.enum_told.given.1, verdictOfJudged)
+unfolding verdict_of_judged
+returns c = rw (c.enum_told.given.1, verdict_of_judged)
 
 returns-2 : tie.Need-returns-2
-unfolding verdictOfJudged
-returns-2 c = rw (c.enum-told2.given.1, verdictOfJudged)
+unfolding verdict_of_judged
+returns-2 c = rw (c.enum-told2.given.1, verdict_of_judged)
 
 returns-3 : tie.Need-returns-3
-unfolding verdictOfJudged
-returns-3 c = rw (c.number.ensures, c.before.before.a.given.1, verdictOfJudged)
+unfolding verdict_of_judged
+returns-3 c = rw (c.number.ensures, c.before.before.a.given.1, verdict_of_judged)
 
 pub of-judged-spec : {M : Type 1} → statement M
 of-judged-spec =

@@ -1,5 +1,5 @@
 -- `of_layered`: the values of each case.
-use Rattle.replies.specs.Reply.{countOfLayered}
+use Rattle.replies.specs.Reply.{count_of_layered}
 use borrow.Author.Rules.{rules}
 use Rattle.replies.proofs.of_layered.Statement.{statement}
 use Rattle.replies.proofs.of_layered.Tie as tie
@@ -20,12 +20,12 @@ cast-t7 : tie.Need-overflow-cast-t7
 cast-t7 c = search rules
 
 returns : tie.Need-returns
-unfolding countOfLayered
-returns c = rw (c.before.a.given.1, countOfLayered)
+unfolding count_of_layered
+returns c = rw (c.before.a.given.1, count_of_layered)
 
 returns-2 : tie.Need-returns-2
-unfolding countOfLayered
-returns-2 c = rw (c.number.ensures, c.before.before.a2.given.1, countOfLayered)
+unfolding count_of_layered
+returns-2 c = rw (c.number.ensures, c.before.before.a2.given.1, count_of_layered)
 
 pub of-layered-spec : {M : Type 1} → statement M
 of-layered-spec =

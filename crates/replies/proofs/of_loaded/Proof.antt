@@ -1,5 +1,5 @@
 -- `of_loaded`: the values of each case.
-use Rattle.replies.specs.Reply.{countOfLoaded}
+use Rattle.replies.specs.Reply.{count_of_loaded}
 use borrow.Author.Rules.{rules}
 use Rattle.replies.proofs.of_loaded.Statement.{statement}
 use Rattle.replies.proofs.of_loaded.Tie as tie
@@ -20,12 +20,12 @@ cast-t7 : tie.Need-overflow-cast-t7
 cast-t7 c = search rules
 
 returns : tie.Need-returns
-unfolding countOfLoaded
-returns c = rw (c.before.a.given.1, countOfLoaded)
+unfolding count_of_loaded
+returns c = rw (c.before.a.given.1, count_of_loaded)
 
 returns-2 : tie.Need-returns-2
-unfolding countOfLoaded
-returns-2 c = rw (c.number.ensures, c.before.before.a2.given.1, countOfLoaded)
+unfolding count_of_loaded
+returns-2 c = rw (c.number.ensures, c.before.before.a2.given.1, count_of_loaded)
 
 pub of-loaded-spec : {M : Type 1} → statement M
 of-loaded-spec =

@@ -1,5 +1,5 @@
 -- `of_ran`: the values of each case.
-use Rattle.replies.specs.Reply.{countsOfRan}
+use Rattle.replies.specs.Reply.{counts_of_ran}
 use borrow.Author.Rules.{rules}
 use Rattle.replies.proofs.of_ran.Statement.{statement}
 use Rattle.replies.proofs.of_ran.Tie as tie
@@ -23,12 +23,12 @@ cast-t9 : tie.Need-overflow-cast-t9
 cast-t9 c = search rules
 
 returns : tie.Need-returns
-unfolding countsOfRan
-returns c = rw (c.before.a.given.1, countsOfRan)
+unfolding counts_of_ran
+returns c = rw (c.before.a.given.1, counts_of_ran)
 
 returns-2 : tie.Need-returns-2
-unfolding countsOfRan
-returns-2 c = rw (c.number.ensures, c.before.before.a2.given.1, countsOfRan)
+unfolding counts_of_ran
+returns-2 c = rw (c.number.ensures, c.before.before.a2.given.1, counts_of_ran)
 
 pub of-ran-spec : {M : Type 1} → statement M
 of-ran-spec =

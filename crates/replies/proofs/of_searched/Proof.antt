@@ -1,5 +1,5 @@
 -- `of_searched`: the values of each case.
-use Rattle.replies.specs.Reply.{countsOfSearched}
+use Rattle.replies.specs.Reply.{counts_of_searched}
 use borrow.Author.Rules.{rules}
 use Rattle.replies.proofs.of_searched.Statement.{statement}
 use Rattle.replies.proofs.of_searched.Tie as tie
@@ -23,12 +23,12 @@ cast-t9 : tie.Need-overflow-cast-t9
 cast-t9 c = search rules
 
 returns : tie.Need-returns
-unfolding countsOfSearched
-returns c = rw (c.before.a.given.1, countsOfSearched)
+unfolding counts_of_searched
+returns c = rw (c.before.a.given.1, counts_of_searched)
 
 returns-2 : tie.Need-returns-2
-unfolding countsOfSearched
-returns-2 c = rw (c.number.ensures, c.before.before.a2.given.1, countsOfSearched)
+unfolding counts_of_searched
+returns-2 c = rw (c.number.ensures, c.before.before.a2.given.1, counts_of_searched)
 
 pub of-searched-spec : {M : Type 1} → statement M
 of-searched-spec =

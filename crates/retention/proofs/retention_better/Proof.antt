@@ -1,6 +1,6 @@
 -- `retention_better`: what `choose` answers, as a reply.
 use mathlib.Core.Path.{ap, ◌∙◌}
-use Rattle.replies.specs.Reply.{replyOfChoice}
+use Rattle.replies.specs.Reply.{reply_of_choice}
 use borrow.Author.Rules.{rules}
 use Rattle.retention.proofs.retention_better.Statement.{statement}
 use Rattle.retention.proofs.retention_better.Tie as tie
@@ -12,7 +12,7 @@ of-choice-requires : tie.Need-of-choice-requires
 of-choice-requires c κs = search rules
 
 returns : tie.Need-returns
-returns c = c.of-choice.ensures ∙ ap replyOfChoice c.before.choose.ensures.0
+returns c = c.of-choice.ensures ∙ ap reply_of_choice c.before.choose.ensures.0
 
 pub retention-better-spec : {M : Type 1} → statement M
 retention-better-spec = tie.close (tie.spec choose-requires of-choice-requires returns)

@@ -1,6 +1,6 @@
 -- `retention_check`: what `check` answers, as a reply.
 use mathlib.Core.Path.{ap, ◌∙◌}
-use Rattle.replies.specs.Reply.{verdictOfChecked}
+use Rattle.replies.specs.Reply.{verdict_of_checked}
 use borrow.Author.Rules.{rules}
 use Rattle.retention.proofs.retention_check.Statement.{statement}
 use Rattle.retention.proofs.retention_check.Tie as tie
@@ -12,7 +12,7 @@ of-checked-requires : tie.Need-of-checked-requires
 of-checked-requires c κs = search rules
 
 returns : tie.Need-returns
-returns c = c.of-checked.ensures ∙ ap verdictOfChecked c.before.check.ensures.0
+returns c = c.of-checked.ensures ∙ ap verdict_of_checked c.before.check.ensures.0
 
 pub retention-check-spec : {M : Type 1} → statement M
 retention-check-spec = tie.close (tie.spec check-requires of-checked-requires returns)

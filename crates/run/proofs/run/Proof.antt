@@ -1,17 +1,17 @@
 -- `run`: a no changes no byte; where all questions got yes, the run on the tables.
 use mathlib.Core.Path.{sym, ◌∙◌}
 use borrow.Author.Rules.{rules}
-use Rattle.tables.specs.Layout.{programIn}
+use Rattle.tables.specs.Layout.{program_in}
 use Rattle.tables.proofs.ProgramHeld.{rules-below}
-use Rattle.questions.proofs.OperationAsked.{Passed, scan-passed}
+use Rattle.questions.proofs.OperationAsked.{Passed, scan_passed}
 use Rattle.run.proofs.Outcomes.{outcome-refused, outcome-written, run-answered}
-use Rattle.run.proofs.RunAsked.{may-run, run-file-no, run-no, run-yes, run-there}
+use Rattle.run.proofs.RunAsked.{may_run, run-file_no, run-no, run-yes, run-there}
 use Rattle.run.proofs.run.Statement.{statement}
 use Rattle.run.proofs.run.Tie as tie
 
 -- past the questions on the file
 passed : (c : tie.After-enum-told) → Passed c.before.before.before.before.before.before.before.before.before.args.file.now c.before.before.scan.new.1.0
-passed c = scan-passed _ _ _ (sym c.before.before.scan.ensures.0 ∙ c.enum_told.given.1) c.before.before.scan.ensures.1
+passed c = scan_passed _ _ _ (sym c.before.before.scan.ensures.0 ∙ c.enum_told.given.1) c.before.before.scan.ensures.1
 
 scan-requires : tie.Need-scan-requires
 scan-requires c κs = search rules
@@ -23,7 +23,7 @@ enum_told : tie.Need-enum-told
 enum_told c = search rules
 
 ask-tabled-requires : tie.Need-ask-tabled-requires
-ask-tabled-requires c κs = (passed c.before).tabled.well-formed
+ask-tabled-requires c κs = (passed c.before).tabled.well_formed
 
 enum-known-r-2 : tie.Need-enum-known-r-2
 enum-known-r-2 c = search rules
@@ -33,11 +33,11 @@ enum-told-2 c = search rules
 
 run-tabled-requires : tie.Need-run-tabled-requires
 run-tabled-requires c κs =
-    ((passed c.before.before.before.before.before.before.before.before).tabled.well-formed, may-run (programIn c.before.before.before.before.before.before.before.before.before.before.scan.new.1.0) (rules-below (passed c.before.before.before.before.before.before.before.before).tabled.well-formed) _ _ _ _ (sym c.before.before.before.before.enum-told2.given.1 ∙ c.before.before.before.before.before.before.ask-tabled.ensures))
+    ((passed c.before.before.before.before.before.before.before.before).tabled.well_formed, may_run (program_in c.before.before.before.before.before.before.before.before.before.before.scan.new.1.0) (rules-below (passed c.before.before.before.before.before.before.before.before).tabled.well_formed) _ _ _ _ (sym c.before.before.before.before.enum-told2.given.1 ∙ c.before.before.before.before.before.before.ask-tabled.ensures))
 
 returns : tie.Need-returns
 returns c =
-    run-answered _ _ _ _ _ _ (outcome-refused _ _ _ _ _ _ (run-file-no _ _ _ _ _ _ (sym c.before.before.before.scan.ensures.0 ∙ c.before.r.given.1)))
+    run-answered _ _ _ _ _ _ (outcome-refused _ _ _ _ _ _ (run-file_no _ _ _ _ _ _ (sym c.before.before.before.scan.ensures.0 ∙ c.before.r.given.1)))
 
 returns-2 : tie.Need-returns-2
 returns-2 c =

@@ -1,22 +1,22 @@
 -- `search_scanned`: a no changes no byte; where all questions but the last got yes, the search of the accepted file.
 use mathlib.Core.Path.{sym, ap, ◌∙◌}
-use Rattle.reader.specs.Asked.{countsOf}
+use Rattle.reader.specs.Asked.{counts_of}
 use Rattle.reader.proofs.FileAsked.{told-counts}
 use Rattle.search.proofs.SearchAsked.{search-refused, search-asked}
-use Rattle.search.proofs.Outcomes.{searched-refused}
+use Rattle.search.proofs.Outcomes.{searched_refused}
 use borrow.Author.Rules.{rules}
 use Rattle.search.proofs.search_scanned.Statement.{statement}
 use Rattle.search.proofs.search_scanned.Tie as tie
 
 ask-search-requires : tie.Need-ask-search-requires
-ask-search-requires c κs = (c.before.before.before.before.before.requires.1.well-formed, told-counts c.before.before.before.before.before.requires.0 ∙ sym (ap countsOf c.before.before.before.before.before.requires.1.program))
+ask-search-requires c κs = (c.before.before.before.before.before.requires.1.well_formed, told-counts c.before.before.before.before.before.requires.0 ∙ sym (ap counts_of c.before.before.before.before.before.requires.1.program))
 
 enum-known-answer : tie.Need-enum-known-answer
 enum-known-answer c = search rules
 
 returns : tie.Need-returns
 returns c =
-    searched-refused _ _ _ _ _ _
+    searched_refused _ _ _ _ _ _
     (search-refused _ _ _ _ _ c.before.before.before.before.before.before.before.before.before.requires.0.accepted _ c.before.before.before.before.before.before.before.before.before.requires.1.program _ (sym c.before.answer.given.1 ∙ c.before.before.before.ask-search.ensures))
 
 enum_told : tie.Need-enum-told

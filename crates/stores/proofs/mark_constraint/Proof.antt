@@ -2,7 +2,7 @@
 use mathlib.Core.Path.{refl}
 use borrow.Author.Tests.{eq-eqb, ne_eqb}
 use borrow.Author.Rules.{rules}
-use Rattle.stores.specs.Stores.{isUnread}
+use Rattle.stores.specs.Stores.{is_unread}
 use Rattle.stores.proofs.mark_constraint.Statement.{statement}
 use Rattle.stores.proofs.mark_constraint.Tie as tie
 
@@ -22,14 +22,14 @@ element-write-tables : tie.Need-element-write-tables
 element-write-tables c = search rules
 
 returns : tie.Need-returns
-unfolding isUnread
+unfolding is_unread
 returns c = rw (eq-eqb _ 2 c.if1.true) (refl, refl)
 
 element-write-marks : tie.Need-element-write-marks
 element-write-marks c = search rules
 
 returns-2 : tie.Need-returns-2
-unfolding isUnread
+unfolding is_unread
 returns-2 c = rw (ne_eqb _ 2 c.if1.false) (refl, refl)
 
 pub mark-constraint-spec : {M : Type 1} → statement M

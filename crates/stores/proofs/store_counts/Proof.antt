@@ -3,7 +3,7 @@ use mathlib.Core.Path.{ap}
 use mathlib.Core.List.{List}
 use Prim.Native.Nat.{ℕ}
 use lib.ListN.{set}
-use Rattle.tables.specs.Layout.{factsCell, rulesCell}
+use Rattle.tables.specs.Layout.{facts_cell, rules_cell}
 use borrow.Author.Rules.{rules}
 use Rattle.stores.proofs.store_counts.Statement.{statement}
 use Rattle.stores.proofs.store_counts.Tie as tie
@@ -18,7 +18,7 @@ element-write-tables-2 : tie.Need-element-write-tables-2
 element-write-tables-2 c = search rules
 
 returns : tie.Need-returns
-returns c = ap (λ (T : List ℕ). set (set T factsCell c.before.before.args.facts) rulesCell c.before.before.args.rules) c.store-starts.ensures
+returns c = ap (λ (T : List ℕ). set (set T facts_cell c.before.before.args.facts) rules_cell c.before.before.args.rules) c.store-starts.ensures
 
 pub store-counts-spec : {M : Type 1} → statement M
 store-counts-spec =

@@ -38,7 +38,7 @@ use denote.Triple.Table.{entered, cited}
 use denote.Triple.Walked.{says, Stays, stay_none, walk_of, Goes-none, Walks, ends_at, walked, walk_Meets}
 use denote.Exit.{yes}
 use denote.Triple.Clauses.{ensured, lasts}
-use Rattle.view.specs.View.{takenAt}
+use Rattle.view.specs.View.{taken_at}
 use Rattle.view.specs.declared.RuleView.{RuleView}
 use Rattle.view.specs.declared.range.Taken.{Taken}
 use Rattle.view.specs.contracts.RuleView as T
@@ -77,7 +77,7 @@ module _ {M : Type 1} {𝓤 : Ura M} (𝓛 : Logic 𝓤) (mem : Memory → SProp
   v = slice_val d.file.ref_ptr (length d.file.now)
 
   abbrev found : Taken
-  found = takenAt d.file.now d.at d.end
+  found = taken_at d.file.now d.at d.end
 
   abbrev Post : Val → SProp 𝓤
   Post = (walk_of 𝓛 next-item.ended stayed (next-item.clauses 𝓛 mem run)).post (((κ, tt), (q, tt), tt, (d, tt), (mach ∷ [], tt)), tt)

@@ -2,7 +2,7 @@
 use Prim.Native.Nat.{◌-◌}
 use native.Mathlib.Omega.{arith}
 use lib.ListN.{length}
-use Rattle.words.proofs.DigitsRead.{Reading, empty-word, long-word, none_read, fits, low_byte, high_byte, one-read, too-high, all_read}
+use Rattle.words.proofs.DigitsRead.{Reading, empty-word, long_word, none_read, fits, low_byte, high_byte, one_read, too_high, all_read}
 use Rattle.words.proofs.number_of.Statement.{statement}
 use Rattle.words.proofs.number_of.Tie as tie
 
@@ -16,7 +16,7 @@ returns : tie.Need-returns invariant-loop decreases-loop
 returns c = empty-word _ c.if1.true
 
 returns-2 : tie.Need-returns-2 invariant-loop decreases-loop
-returns-2 c = long-word _ c.if2.true
+returns-2 c = long_word _ c.if2.true
 
 loop-holds : tie.Need-loop-init invariant-loop decreases-loop
 loop-holds c = none_read c.before.if1.false c.if2.false
@@ -46,10 +46,10 @@ loop-less : tie.Need-loop-smaller invariant-loop decreases-loop
 loop-less c = omega arith
 
 loop-again : tie.Need-loop-preserved invariant-loop decreases-loop
-loop-again c = one-read _ _ _ c.before.before.before.before.loop.invariant c.before.before.before.loop-test.true c.before.if3.false c.if4.false
+loop-again c = one_read _ _ _ c.before.before.before.before.loop.invariant c.before.before.before.loop-test.true c.before.if3.false c.if4.false
 
 returns-5 : tie.Need-returns-5 invariant-loop decreases-loop
-returns-5 c = too-high _ _ _ c.before.before.loop.invariant c.before.loop-test.false c.if5.true
+returns-5 c = too_high _ _ _ c.before.before.loop.invariant c.before.loop-test.false c.if5.true
 
 cast-number : tie.Need-overflow-cast-number invariant-loop decreases-loop
 cast-number c = omega arith

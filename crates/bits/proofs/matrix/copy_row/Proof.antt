@@ -2,8 +2,8 @@
 use Prim.Native.Nat.{◌-◌}
 use native.Mathlib.Omega.{arith}
 use borrow.Author.Rules.{rules}
-use Rattle.bits.specs.Flags.{rowWords}
-use Rattle.bits.proofs.MatrixMarked.{Copying, none-copied, one-copied, all-copied}
+use Rattle.bits.specs.Flags.{row_words}
+use Rattle.bits.proofs.MatrixMarked.{Copying, none_copied, one_copied, all-copied}
 use Rattle.bits.proofs.matrix.copy_row.Statement.{statement}
 use Rattle.bits.proofs.matrix.copy_row.Tie as tie
 
@@ -11,13 +11,13 @@ abbrev invariant-loop : tie.invariant-loop
 invariant-loop matrix key row₀ from k₀ row k = Copying matrix key row₀ row k
 
 abbrev decreases-loop : tie.decreases-loop
-decreases-loop matrix key row₀ from k₀ row k = rowWords - k
+decreases-loop matrix key row₀ from k₀ row k = row_words - k
 
 mul-from : tie.Need-overflow-mul-from invariant-loop decreases-loop
 mul-from c = search rules
 
 loop-holds : tie.Need-loop-init invariant-loop decreases-loop
-loop-holds c = none-copied _ _ _
+loop-holds c = none_copied _ _ _
 
 add_row : tie.Need-overflow-add-row invariant-loop decreases-loop
 add_row c = search rules
@@ -41,7 +41,7 @@ loop-less : tie.Need-loop-smaller invariant-loop decreases-loop
 loop-less c = omega arith
 
 loop-again : tie.Need-loop-preserved invariant-loop decreases-loop
-loop-again c = one-copied c.before.before.loop.invariant c.before.loop-test.true
+loop-again c = one_copied c.before.before.loop.invariant c.before.loop-test.true
 
 returns : tie.Need-returns invariant-loop decreases-loop
 returns c = all-copied c.before.loop.invariant c.loop-test.false

@@ -3,8 +3,8 @@ use Prim.Native.Nat.{◌-◌}
 use native.Mathlib.Omega.{arith}
 use mathlib.Core.Path.{refl}
 use borrow.Author.Rules.{rules}
-use Rattle.bits.specs.Flags.{rowWords}
-use Rattle.bits.proofs.RowJoined.{Joining, none-joined, one-joined, all-joined}
+use Rattle.bits.specs.Flags.{row_words}
+use Rattle.bits.proofs.RowJoined.{Joining, none_joined, one_joined, all-joined}
 use Rattle.bits.proofs.matrix.join_row.Statement.{statement}
 use Rattle.bits.proofs.matrix.join_row.Tie as tie
 
@@ -12,13 +12,13 @@ abbrev invariant-loop : tie.invariant-loop
 invariant-loop matrix key row₀ from k₀ row k = Joining matrix key row₀ row k
 
 abbrev decreases-loop : tie.decreases-loop
-decreases-loop matrix key row₀ from k₀ row k = rowWords - k
+decreases-loop matrix key row₀ from k₀ row k = row_words - k
 
 mul-from : tie.Need-overflow-mul-from invariant-loop decreases-loop
 mul-from c = search rules
 
 loop-holds : tie.Need-loop-init invariant-loop decreases-loop
-loop-holds c = none-joined _ _ _
+loop-holds c = none_joined _ _ _
 
 add_row : tie.Need-overflow-add-row invariant-loop decreases-loop
 add_row c = search rules
@@ -45,7 +45,7 @@ loop-less : tie.Need-loop-smaller invariant-loop decreases-loop
 loop-less c = omega arith
 
 loop-again : tie.Need-loop-preserved invariant-loop decreases-loop
-loop-again c = one-joined c.before.before.before.loop.invariant c.before.before.loop-test.true _ refl
+loop-again c = one_joined c.before.before.before.loop.invariant c.before.before.loop-test.true _ refl
 
 returns : tie.Need-returns invariant-loop decreases-loop
 returns c = all-joined c.before.loop.invariant c.loop-test.false

@@ -1,7 +1,7 @@
 -- `mark_in`: a bit of a word of the key's row is set.
 use borrow.Author.Rules.{rules}
 use Rattle.bits.proofs.RowMarked.{bit-inside}
-use Rattle.bits.proofs.MatrixMarked.{matrix-marked, mark-new, mark-behind}
+use Rattle.bits.proofs.MatrixMarked.{matrix_marked, mark_new, mark_behind}
 use Rattle.bits.proofs.matrix.mark_in.Statement.{statement}
 use Rattle.bits.proofs.matrix.mark_in.Tie as tie
 
@@ -31,7 +31,7 @@ same_length c = search rules
 
 returns : tie.Need-returns
 returns c =
-    (λ keys q h w. (mark-new _ _ _ _ h c.before.before.before.requires.1 c.with-bit.ensures q w, matrix-marked _ _ _ _ h c.before.before.before.requires.1 c.with-bit.ensures q w), mark-behind _ _ _ _ c.before.before.before.requires.1)
+    (λ keys q h w. (mark_new _ _ _ _ h c.before.before.before.requires.1 c.with-bit.ensures q w, matrix_marked _ _ _ _ h c.before.before.before.requires.1 c.with-bit.ensures q w), mark_behind _ _ _ _ c.before.before.before.requires.1)
 
 pub mark-in-spec : {M : Type 1} → statement M
 mark-in-spec =

@@ -1,7 +1,7 @@
 -- `marked_in`: to set the bit changes nothing.
 use mathlib.Core.Path.{refl}
 use borrow.Author.Rules.{rules}
-use Rattle.bits.specs.Matrix.{bitIn}
+use Rattle.bits.specs.Matrix.{bit_in}
 use Rattle.bits.proofs.RowMarked.{bit-inside}
 use Rattle.bits.proofs.matrix.marked_in.Statement.{statement}
 use Rattle.bits.proofs.matrix.marked_in.Tie as tie
@@ -22,7 +22,7 @@ with-bit-requires : tie.Need-with-bit-requires
 with-bit-requires c κs = bit-inside _
 
 returns : tie.Need-returns
-unfolding bitIn
+unfolding bit_in
 returns c = rw c.with-bit.ensures refl
 
 pub marked-in-spec : {M : Type 1} → statement M

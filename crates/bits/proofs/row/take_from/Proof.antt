@@ -2,8 +2,8 @@
 use Prim.Native.Nat.{◌-◌}
 use native.Mathlib.Omega.{arith}
 use borrow.Author.Rules.{rules}
-use Rattle.bits.specs.Flags.{rowWords}
-use Rattle.bits.proofs.RowTaken.{Passed, passed-before, one-passed, one-falls, one-taken, before-taken, none-taken, none-falls, not_at}
+use Rattle.bits.specs.Flags.{row_words}
+use Rattle.bits.proofs.RowTaken.{Passed, passed_before, one_passed, one_falls, one_taken, before_taken, none_taken, none_falls, not_at}
 use Rattle.bits.proofs.row.take_from.Statement.{statement}
 use Rattle.bits.proofs.row.take_from.Tie as tie
 
@@ -11,10 +11,10 @@ abbrev invariant-loop : tie.invariant-loop
 invariant-loop row₀ from at₀ row at = Passed row₀ row at
 
 abbrev decreases-loop : tie.decreases-loop
-decreases-loop row₀ from at₀ row at = rowWords - at
+decreases-loop row₀ from at₀ row at = row_words - at
 
 loop-holds : tie.Need-loop-init invariant-loop decreases-loop
-loop-holds c = passed-before _ _ c.requires
+loop-holds c = passed_before _ _ c.requires
 
 mul-word : tie.Need-overflow-mul-word invariant-loop decreases-loop
 mul-word c = search rules
@@ -44,10 +44,10 @@ returns : tie.Need-returns invariant-loop decreases-loop
 returns c =
     let inv = c.before.before.before.before.before.loop.invariant in
     let inside = c.before.before.before.before.loop-test.true in (
-      one-falls inv inside (omega (arith, c.before.before.if1.true)) _ _ c.lowest-bit.ensures.1 c.before.without-lowest.ensures,
+      one_falls inv inside (omega (arith, c.before.before.if1.true)) _ _ c.lowest-bit.ensures.1 c.before.without-lowest.ensures,
       (
-        one-taken inv inside (omega (arith, c.before.before.if1.true)) _ _ c.lowest-bit.ensures.1 c.before.without-lowest.ensures c.lowest-bit.ensures.0,
-        before-taken inv inside (omega (arith, c.before.before.if1.true)) _ _ c.lowest-bit.ensures.1 c.before.without-lowest.ensures,
+        one_taken inv inside (omega (arith, c.before.before.if1.true)) _ _ c.lowest-bit.ensures.1 c.before.without-lowest.ensures c.lowest-bit.ensures.0,
+        before_taken inv inside (omega (arith, c.before.before.if1.true)) _ _ c.lowest-bit.ensures.1 c.before.without-lowest.ensures,
       ),
     )
 
@@ -58,10 +58,10 @@ loop-less : tie.Need-loop-smaller invariant-loop decreases-loop
 loop-less c = omega arith
 
 loop-again : tie.Need-loop-preserved invariant-loop decreases-loop
-loop-again c = one-passed c.before.before.before.loop.invariant (omega (arith, c.if1.false))
+loop-again c = one_passed c.before.before.before.loop.invariant (omega (arith, c.if1.false))
 
 returns-2 : tie.Need-returns-2 invariant-loop decreases-loop
-returns-2 c = (none-falls c.before.loop.invariant, (none-taken c.before.loop.invariant c.loop-test.false, λ i e. not_at i e))
+returns-2 c = (none_falls c.before.loop.invariant, (none_taken c.before.loop.invariant c.loop-test.false, λ i e. not_at i e))
 
 pub take_from_spec : {M : Type 1} → statement M
 take_from_spec =

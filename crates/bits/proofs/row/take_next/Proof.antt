@@ -3,9 +3,9 @@ use Prim.Native.Nat.{◌-◌}
 use mathlib.Core.Path.{◌≡◌, refl}
 use native.Mathlib.Omega.{arith}
 use borrow.Author.Rules.{rules}
-use Rattle.bits.specs.Flags.{rowWords}
+use Rattle.bits.specs.Flags.{row_words}
 use Rattle.bits.proofs.RowMarked.{bit-inside}
-use Rattle.bits.proofs.RowPicked.{same-before, upper-taken, lowest-taken, first_taken}
+use Rattle.bits.proofs.RowPicked.{same_before, upper_taken, lowest-taken, first_taken}
 use Rattle.bits.proofs.row.take_next.Statement.{statement}
 use Rattle.bits.proofs.row.take_next.Tie as tie
 
@@ -13,7 +13,7 @@ abbrev invariant-loop : tie.invariant-loop
 invariant-loop row₀ from at₀ row at = row ≡ row₀
 
 abbrev decreases-loop : tie.decreases-loop
-decreases-loop row₀ from at₀ row at = rowWords - at
+decreases-loop row₀ from at₀ row at = row_words - at
 
 mul-word : tie.Need-overflow-mul-word invariant-loop decreases-loop
 mul-word c = search rules
@@ -43,7 +43,7 @@ add-t18 : tie.Need-overflow-add-t18 invariant-loop decreases-loop
 add-t18 c = search rules
 
 returns : tie.Need-returns invariant-loop decreases-loop
-returns c = upper-taken _ c.before.before.before.before.before.if1.true _ _ _ _ c.before.before.before.bits-from.ensures c.before.lowest-bit.ensures.0 c.before.lowest-bit.ensures.1 c.without-bit.ensures
+returns c = upper_taken _ c.before.before.before.before.before.if1.true _ _ _ _ c.before.before.before.bits-from.ensures c.before.lowest-bit.ensures.0 c.before.lowest-bit.ensures.1 c.without-bit.ensures
 
 add_at : tie.Need-overflow-add-at invariant-loop decreases-loop
 add_at c = search rules
@@ -77,7 +77,7 @@ add-t29 c = search rules
 
 returns-2 : tie.Need-returns-2 invariant-loop decreases-loop
 returns-2 c =
-    same-before c.before.before.before.before.before.before.loop.invariant
+    same_before c.before.before.before.before.before.before.loop.invariant
     (lowest-taken _ c.before.before.before.before.before.loop-test.true (omega (arith, c.before.before.if3.true)) _ _ c.lowest-bit2.ensures.0 c.lowest-bit2.ensures.1 c.before.without-lowest.ensures)
 
 add-at-2 : tie.Need-overflow-add-at-2 invariant-loop decreases-loop
@@ -93,7 +93,7 @@ take-requires : tie.Need-take-requires invariant-loop decreases-loop
 take-requires c κs = search rules
 
 returns-3 : tie.Need-returns-3 invariant-loop decreases-loop
-returns-3 c = same-before c.before.before.before.loop.invariant (first_taken c.take.ensures.0 c.take.ensures.1)
+returns-3 c = same_before c.before.before.before.loop.invariant (first_taken c.take.ensures.0 c.take.ensures.1)
 
 pub take-next-spec : {M : Type 1} → statement M
 take-next-spec =

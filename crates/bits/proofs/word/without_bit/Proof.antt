@@ -3,7 +3,7 @@ use Prim.Native.Nat.{ℕ}
 use mathlib.Core.Path.{ap}
 use borrow.Author.Rules.{rules}
 use lib.Bits.{bit_xor}
-use Rattle.bits.specs.Flags.{wordBits}
+use Rattle.bits.specs.Flags.{word_bits}
 use Rattle.bits.proofs.WordBits.{bit-fits}
 use Rattle.bits.proofs.word.without_bit.Statement.{statement}
 use Rattle.bits.proofs.word.without_bit.Tie as tie
@@ -12,7 +12,7 @@ shl-result : tie.Need-overflow-shl-result
 shl-result c = search rules
 
 returns : tie.Need-returns
-returns c = ap (λ (x : ℕ). bit_xor c.args.word x) (bit-fits wordBits c.args.bit c.requires)
+returns c = ap (λ (x : ℕ). bit_xor c.args.word x) (bit-fits word_bits c.args.bit c.requires)
 
 pub without-bit-spec : {M : Type 1} → statement M
 without-bit-spec = tie.close (tie.spec shl-result returns)

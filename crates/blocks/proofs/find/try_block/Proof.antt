@@ -1,6 +1,6 @@
 -- `try_block`: the lanes are settled, and the first that fits is marked.
 use borrow.Author.Rules.{rules}
-use Rattle.blocks.proofs.BlockTried.{one-tried, none_tried}
+use Rattle.blocks.proofs.BlockTried.{one_tried, none_tried}
 use Rattle.blocks.proofs.find.try_block.Statement.{statement}
 use Rattle.blocks.proofs.find.try_block.Tie as tie
 
@@ -20,7 +20,7 @@ enum_told : tie.Need-enum-told
 enum_told c = search rules
 
 returns : tie.Need-returns
-returns c = one-tried c.before.before.before.before.before.before.before.before.settle.ensures c.before.before.before.before.before.before.first-fit.ensures c.mark-lane.ensures.0 _ c.before.before.before.before.lane.given.1 c.mark-lane.ensures.1
+returns c = one_tried c.before.before.before.before.before.before.before.before.settle.ensures c.before.before.before.before.before.before.first-fit.ensures c.mark-lane.ensures.0 _ c.before.before.before.before.lane.given.1 c.mark-lane.ensures.1
 
 returns-2 : tie.Need-returns-2
 returns-2 c = none_tried c.before.before.before.before.settle.ensures c.before.before.first-fit.ensures c.before.before.before.before.before.before.before.requires.1.1 c.enum_told.given.1

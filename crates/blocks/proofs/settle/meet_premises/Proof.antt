@@ -1,14 +1,14 @@
 -- `meet_premises`: the premises before a place are met.
 use Prim.Native.Nat.{◌-◌}
 use native.Mathlib.Omega.{arith}
-use Rattle.tables.specs.Layout.{premiseAt}
+use Rattle.tables.specs.Layout.{premise_at}
 use Rattle.tables.proofs.ProgramHeld.{facts_below}
-use Rattle.blocks.proofs.LanesFired.{Meeting, none-met, one-met, all-met}
+use Rattle.blocks.proofs.LanesFired.{Meeting, none_met, one_met, all-met}
 use Rattle.blocks.proofs.settle.meet_premises.Statement.{statement}
 use Rattle.blocks.proofs.settle.meet_premises.Tie as tie
 
 abbrev invariant-loop : tie.invariant-loop
-invariant-loop tables derived body₀ end at₀ body at = Meeting (premiseAt tables) derived at₀ end body₀ body at
+invariant-loop tables derived body₀ end at₀ body at = Meeting (premise_at tables) derived at₀ end body₀ body at
 
 abbrev decreases-loop : tie.decreases-loop
 decreases-loop tables derived body₀ end at₀ body at = end - at
@@ -17,7 +17,7 @@ premise-span-requires : tie.Need-premise-span-requires invariant-loop decreases-
 premise-span-requires c κs = c.requires
 
 loop-holds : tie.Need-loop-init invariant-loop decreases-loop
-loop-holds c = none-met _ _ c.premise-span.ensures.low
+loop-holds c = none_met _ _ c.premise-span.ensures.low
 
 premise-at-requires : tie.Need-premise-at-requires invariant-loop decreases-loop
 premise-at-requires c κs = omega (arith, c.before.before.premise-span.ensures.high)
@@ -32,7 +32,7 @@ loop-less : tie.Need-loop-smaller invariant-loop decreases-loop
 loop-less c = omega arith
 
 loop-again : tie.Need-loop-preserved invariant-loop decreases-loop
-loop-again c = one-met c.before.before.before.before.loop.invariant c.before.before.before.loop-test.true c.before.before.premise-at.ensures c.meet.ensures
+loop-again c = one_met c.before.before.before.before.loop.invariant c.before.before.before.loop-test.true c.before.before.premise-at.ensures c.meet.ensures
 
 returns : tie.Need-returns invariant-loop decreases-loop
 returns c = all-met c.before.loop.invariant c.loop-test.false c.before.before.premise-span.ensures.is

@@ -2,30 +2,30 @@
 use Prim.Native.Nat.{◌+◌}
 use native.Mathlib.Omega.{arith}
 use borrow.Author.Rules.{rules}
-use Rattle.theory.proofs.Derive.{missing as missingFacts}
+use Rattle.theory.proofs.Derive.{missing as missing_facts}
 use Rattle.items.specs.Item.{has}
-use Rattle.tables.specs.Layout.{programIn}
-use Rattle.premises.specs.Plain.{maskIn}
+use Rattle.tables.specs.Layout.{program_in}
+use Rattle.premises.specs.Plain.{mask_in}
 use Rattle.closure.specs.Deriving.{Poised, Deriving, Advanced}
-use Rattle.closure.proofs.RulesFired.{none-derived, on-its-way}
+use Rattle.closure.proofs.RulesFired.{none_derived, on_its_way}
 use Rattle.closure.proofs.least.derive.Statement.{statement}
 use Rattle.closure.proofs.least.derive.Tie as tie
 
 abbrev invariant-loop : tie.invariant-loop
-invariant-loop tables index marks₀ missing₀ ready₀ fired₀ at to₀ marks missing ready fired to = Deriving (programIn tables) (maskIn index) marks₀ fired₀ at marks fired to × Poised (programIn tables) (maskIn index) (has marks) missing ready
+invariant-loop tables index marks₀ missing₀ ready₀ fired₀ at to₀ marks missing ready fired to = Deriving (program_in tables) (mask_in index) marks₀ fired₀ at marks fired to × Poised (program_in tables) (mask_in index) (has marks) missing ready
 
 abbrev decreases-loop : tie.decreases-loop
-decreases-loop tables index marks₀ missing₀ ready₀ fired₀ at to₀ marks missing ready fired to = missingFacts (programIn tables).facts (has marks)
+decreases-loop tables index marks₀ missing₀ ready₀ fired₀ at to₀ marks missing ready fired to = missing_facts (program_in tables).facts (has marks)
 
 -- once a rule has fired
-went : (c : tie.After-enum-told invariant-loop decreases-loop) → Advanced (programIn c.before.before.before.before.before.before.before.before.args.tables.now) (maskIn c.before.before.before.before.before.before.before.before.args.index.now) c.before.before.before.before.before.before.before.before.args.marks.now c.before.before.before.before.before.before.before.before.args.fired.now c.before.before.before.before.before.before.before.before.args.at c.before.before.before.before.before.before.before.loop.marks c.before.before.fire.new.1.1.0 c.before.before.fire.new.1.1.1.0 c.before.before.fire.new.1.1.1.1.0 c.before.before.fire.new.1.1.1.1.1.0 (c.before.before.before.before.before.before.before.loop.to + 1)
+went : (c : tie.After-enum-told invariant-loop decreases-loop) → Advanced (program_in c.before.before.before.before.before.before.before.before.args.tables.now) (mask_in c.before.before.before.before.before.before.before.before.args.index.now) c.before.before.before.before.before.before.before.before.args.marks.now c.before.before.before.before.before.before.before.before.args.fired.now c.before.before.before.before.before.before.before.before.args.at c.before.before.before.before.before.before.before.loop.marks c.before.before.fire.new.1.1.0 c.before.before.fire.new.1.1.1.0 c.before.before.fire.new.1.1.1.1.0 c.before.before.fire.new.1.1.1.1.1.0 (c.before.before.before.before.before.before.before.loop.to + 1)
 went c = rw c.enum_told.given.1 at (c.before.before.fire.ensures _ _ _ c.before.before.before.before.before.before.before.loop.invariant.0)
 
 loop-holds : tie.Need-loop-init invariant-loop decreases-loop
-loop-holds c = (none-derived _ _ c.requires.1.0.0 c.requires.1.0.1, c.requires.1.1)
+loop-holds c = (none_derived _ _ c.requires.1.0.0 c.requires.1.0.1, c.requires.1.1)
 
 fire-requires : tie.Need-fire-requires invariant-loop decreases-loop
-fire-requires c κs = let w = c.before.before.before.before.loop.invariant in let p = c.before.before.before.before.before.requires in (p.0, (on-its-way w.0, w.1))
+fire-requires c κs = let w = c.before.before.before.before.loop.invariant in let p = c.before.before.before.before.before.requires in (p.0, (on_its_way w.0, w.1))
 
 enum_told : tie.Need-enum-told invariant-loop decreases-loop
 enum_told c = search rules

@@ -2,9 +2,9 @@
 use mathlib.Core.Path.{refl}
 use borrow.Author.Rules.{rules}
 use Rattle.theory.specs.Rule.{nothing}
-use Rattle.tables.specs.Layout.{programIn}
+use Rattle.tables.specs.Layout.{program_in}
 use Rattle.bits.proofs.EmptyRows.{empty-row}
-use Rattle.premises.specs.Premises.{plainOnes}
+use Rattle.premises.specs.Premises.{plain_ones}
 use Rattle.closure.proofs.NextPoised.{ripe-poised}
 use Rattle.closure.proofs.start.start.Statement.{statement}
 use Rattle.closure.proofs.start.start.Tie as tie
@@ -16,7 +16,7 @@ enter-set-requires : tie.Need-enter-set-requires
 enter-set-requires c κs = search rules
 
 derive-requires : tie.Need-derive-requires
-derive-requires c κs = let p = c.before.before.before.before.before.before.before.before.before.before.before.before.before.before.before.requires in let filled = c.before.before.before.before.before.before.before.before.before.before.before.index-plain.ensures in let entered = c.before.before.before.before.before.enter-set.ensures (plainOnes (programIn c.before.before.before.before.before.before.before.before.before.before.before.before.before.before.before.args.tables.now)) filled.1.0.rows filled.1.1.1.0 filled.1.1.1.1 in ((p.0.0, filled.1.0), ((p.1.0, p.1.2), ripe-poised filled.1.0 entered.0 entered.1))
+derive-requires c κs = let p = c.before.before.before.before.before.before.before.before.before.before.before.before.before.before.before.requires in let filled = c.before.before.before.before.before.before.before.before.before.before.before.index-plain.ensures in let entered = c.before.before.before.before.before.enter-set.ensures (plain_ones (program_in c.before.before.before.before.before.before.before.before.before.before.before.before.before.before.before.args.tables.now)) filled.1.0.rows filled.1.1.1.0 filled.1.1.1.1 in ((p.0.0, filled.1.0), ((p.1.0, p.1.2), ripe-poised filled.1.0 entered.0 entered.1))
 
 returns : tie.Need-returns
 returns c = let filled = c.before.before.before.before.before.before.before.before.before.before.before.before.index-plain.ensures in (filled.0, (filled.1.0, (filled.1.1.0, c.derive.ensures)))

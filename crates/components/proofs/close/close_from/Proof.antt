@@ -43,13 +43,13 @@ loop-again : tie.Need-loop-preserved invariant-loop decreases-loop
 loop-again c =
     let inv = c.before.before.loop.invariant in
     let lengths = c.before.before.before.before.before.requires.1 in
-    let (is-fact, small) = c.fact-at.ensures in (
+    let (is_fact, small) = c.fact-at.ensures in (
       omega (arith, inv.0),
       (
         omega (arith, c.before.loop-test.true),
-        rw is-fact (
-          one_written inv.1.1.0 inv.0 (rw (lengths.0, ← is-fact) small),
-          one_written inv.1.1.1 inv.0 (rw (lengths.1, ← is-fact) small),
+        rw is_fact (
+          one_written inv.1.1.0 inv.0 (rw (lengths.0, ← is_fact) small),
+          one_written inv.1.1.1 inv.0 (rw (lengths.1, ← is_fact) small),
         ),
       ),
     )

@@ -2,7 +2,7 @@
 use Prim.Native.Nat.{◌-◌}
 use mathlib.Core.Logic.{⊎_elim}
 use native.Mathlib.Omega.{arith}
-use Rattle.components.proofs.ComponentClosed.{HighestYet, first-rank, one-higher, not-higher}
+use Rattle.components.proofs.ComponentClosed.{HighestYet, first-rank, one_higher, not-higher}
 use Rattle.components.proofs.close.highest_rank.Statement.{statement}
 use Rattle.components.proofs.close.highest_rank.Tie as tie
 
@@ -46,11 +46,11 @@ loop-again : tie.Need-loop-preserved invariant-loop decreases-loop
 loop-again c =
     let inv = c.before.before.before.before.loop.invariant in
     let inside = c.before.before.before.loop-test.true in
-    let is-fact = c.before.before.fact-at2.ensures.0 in
-    ⊎_elim (λ w. rw w.1 (one-higher inv inside _ is-fact w.0.taken)) (λ w. rw w.1 (not-higher inv inside _ is-fact w.0.left)) c.if1.branch
+    let is_fact = c.before.before.fact-at2.ensures.0 in
+    ⊎_elim (λ w. rw w.1 (one_higher inv inside _ is_fact w.0.taken)) (λ w. rw w.1 (not-higher inv inside _ is_fact w.0.left)) c.if1.branch
 
 returns : tie.Need-returns invariant-loop decreases-loop
-returns c = let inv = c.before.loop.invariant in (inv.there, λ a l h. inv.none-higher a l (omega (arith, c.loop-test.false)))
+returns c = let inv = c.before.loop.invariant in (inv.there, λ a l h. inv.none_higher a l (omega (arith, c.loop-test.false)))
 
 pub highest-rank-spec : {M : Type 1} → statement M
 highest-rank-spec =

@@ -3,31 +3,31 @@ use Prim.Native.Nat.{◌-◌, ◌<◌}
 use mathlib.Core.Bool.{true}
 use mathlib.Core.Logic.{⊎_elim}
 use native.Mathlib.Omega.{arith}
-use Rattle.items.specs.Item.{narrow, maxFacts}
-use Rattle.tables.specs.Layout.{constraintAt, programIn}
+use Rattle.items.specs.Item.{narrow, max_facts}
+use Rattle.tables.specs.Layout.{constraint_at, program_in}
 use Rattle.tables.proofs.ProgramHeld.{facts_below}
 use Rattle.components.specs.Open.{nowhere}
 use Rattle.components.specs.Look.{Noted}
-use Rattle.components.proofs.RuleLooked.{Element, element, closed-noted, placeless-noted, Looking, nothing-found, no-more-found, all_found, above-found}
+use Rattle.components.proofs.RuleLooked.{Element, element, closed-noted, placeless_noted, Looking, nothing-found, no-more_found, all_found, above_found}
 use Rattle.components.proofs.look.look_at_constraints.Statement.{statement}
 use Rattle.components.proofs.look.look_at_constraints.Tie as tie
 
 abbrev invariant-loop : tie.invariant-loop
-invariant-loop tables seen ranks end place₀ high₀ place high = Looking (programIn tables) true (constraintAt tables) seen ranks place₀ end place nowhere high
+invariant-loop tables seen ranks end place₀ high₀ place high = Looking (program_in tables) true (constraint_at tables) seen ranks place₀ end place nowhere high
 
 abbrev decreases-loop : tie.decreases-loop
 decreases-loop tables seen ranks end place₀ high₀ place high = end - place
 
 -- the fact read is a constraint
-constraint : (c : tie.After-constraint-at invariant-loop decreases-loop) → Element (programIn c.before.before.before.before.args.tables.now) c.before.before.before.before.args.rule.0 true c.constraint-at.result
+constraint : (c : tie.After-constraint-at invariant-loop decreases-loop) → Element (program_in c.before.before.before.before.args.tables.now) c.before.before.before.before.args.rule.0 true c.constraint-at.result
 constraint c = element _ _ true c.before.before.before.constraint-span.ensures c.before.before.loop.invariant.reached c.before.loop-test.true _ c.constraint-at.ensures
 
-small : (c : tie.After-constraint-at invariant-loop decreases-loop) → c.constraint-at.result < maxFacts narrow
+small : (c : tie.After-constraint-at invariant-loop decreases-loop) → c.constraint-at.result < max_facts narrow
 small c = omega (arith, (constraint c).known, facts_below c.before.before.before.before.requires.0.0)
 
 -- it was met and is not open
 noted : (c : tie.Joined1 invariant-loop decreases-loop) → Noted true c.before.before.before.before.before.before.args.seen.now nowhere c.before.before.constraint-at.result
-noted c = ⊎_elim (λ w. placeless-noted w.1.left w.2.left) (λ w. closed-noted w.left) c.if1.branch
+noted c = ⊎_elim (λ w. placeless_noted w.1.left w.2.left) (λ w. closed-noted w.left) c.if1.branch
 
 constraint-span-requires : tie.Need-constraint-span-requires invariant-loop decreases-loop
 constraint-span-requires c κs = c.requires.0
@@ -73,8 +73,8 @@ loop-again c =
     let inv = c.before.before.before.before.before.before.loop.invariant in
     let seen-so = noted c.before.before in
     ⊎_elim
-    (λ w. rw w.1 (above-found inv c.before.before.before.before.before.loop-test.true _ c.before.before.before.before.constraint-at.ensures c.before.before.before.before.before.before.before.before.requires.1.0 seen-so w.0.taken))
-    (λ w. rw w.1 (no-more-found inv _ c.before.before.before.before.constraint-at.ensures seen-so w.0.left))
+    (λ w. rw w.1 (above_found inv c.before.before.before.before.before.loop-test.true _ c.before.before.before.before.constraint-at.ensures c.before.before.before.before.before.before.before.before.requires.1.0 seen-so w.0.taken))
+    (λ w. rw w.1 (no-more_found inv _ c.before.before.before.before.constraint-at.ensures seen-so w.0.left))
     c.if4.branch
 
 returns-3 : tie.Need-returns-3 invariant-loop decreases-loop

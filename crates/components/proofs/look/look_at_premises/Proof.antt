@@ -3,34 +3,34 @@ use Prim.Native.Nat.{◌-◌, ◌<◌}
 use mathlib.Core.Bool.{false}
 use mathlib.Core.Logic.{⊎_elim}
 use native.Mathlib.Omega.{arith}
-use Rattle.items.specs.Item.{narrow, maxFacts}
-use Rattle.tables.specs.Layout.{premiseAt, programIn}
+use Rattle.items.specs.Item.{narrow, max_facts}
+use Rattle.tables.specs.Layout.{premise_at, program_in}
 use Rattle.tables.proofs.ProgramHeld.{facts_below}
 use Rattle.components.specs.Look.{Noted}
-use Rattle.components.proofs.RuleLooked.{Element, element, closed-noted, placeless-noted, open-noted, Looking, nothing-found, no-more-found, all_found, place_found, rank-found}
+use Rattle.components.proofs.RuleLooked.{Element, element, closed-noted, placeless_noted, open_noted, Looking, nothing-found, no-more_found, all_found, place_found, rank_found}
 use Rattle.components.proofs.look.look_at_premises.Statement.{statement}
 use Rattle.components.proofs.look.look_at_premises.Tie as tie
 
 abbrev invariant-loop : tie.invariant-loop
-invariant-loop tables seen ranks end place₀ low₀ high₀ place low high = Looking (programIn tables) false (premiseAt tables) seen ranks place₀ end place low high
+invariant-loop tables seen ranks end place₀ low₀ high₀ place low high = Looking (program_in tables) false (premise_at tables) seen ranks place₀ end place low high
 
 abbrev decreases-loop : tie.decreases-loop
 decreases-loop tables seen ranks end place₀ low₀ high₀ place low high = end - place
 
 -- the fact read is a premise
-premise : (c : tie.After-premise-at invariant-loop decreases-loop) → Element (programIn c.before.before.before.before.args.tables.now) c.before.before.before.before.args.rule.0 false c.premise-at.result
+premise : (c : tie.After-premise-at invariant-loop decreases-loop) → Element (program_in c.before.before.before.before.args.tables.now) c.before.before.before.before.args.rule.0 false c.premise-at.result
 premise c = element _ _ false c.before.before.before.premise-span.ensures c.before.before.loop.invariant.reached c.before.loop-test.true _ c.premise-at.ensures
 
-small : (c : tie.After-premise-at invariant-loop decreases-loop) → c.premise-at.result < maxFacts narrow
+small : (c : tie.After-premise-at invariant-loop decreases-loop) → c.premise-at.result < max_facts narrow
 small c = omega (arith, (premise c).known, facts_below c.before.before.before.before.requires.0.0)
 
 -- the lowest place so far, with this fact's
-placed : (c : tie.Joined1 invariant-loop decreases-loop) → Noted false c.before.before.before.before.before.before.args.seen.now c.if1.low c.before.before.premise-at.result × Looking (programIn c.before.before.before.before.before.before.args.tables.now) false (premiseAt c.before.before.before.before.before.before.args.tables.now) c.before.before.before.before.before.before.args.seen.now c.before.before.before.before.before.before.args.ranks.now c.before.before.before.before.before.premise-span.result.from c.before.before.before.before.before.premise-span.result.end c.before.before.before.before.loop.place c.if1.low c.before.before.before.before.loop.high
+placed : (c : tie.Joined1 invariant-loop decreases-loop) → Noted false c.before.before.before.before.before.before.args.seen.now c.if1.low c.before.before.premise-at.result × Looking (program_in c.before.before.before.before.before.before.args.tables.now) false (premise_at c.before.before.before.before.before.before.args.tables.now) c.before.before.before.before.before.before.args.seen.now c.before.before.before.before.before.before.args.ranks.now c.before.before.before.before.before.premise-span.result.from c.before.before.before.before.before.premise-span.result.end c.before.before.before.before.loop.place c.if1.low c.before.before.before.before.loop.high
 placed c =
     let inv = c.before.before.before.before.loop.invariant in
     ⊎_elim
-    (λ w. rw w.4 (open-noted (omega arith) w.2.taken, place_found inv c.before.before.before.loop-test.true _ c.before.before.premise-at.ensures w.2.taken w.3.taken))
-    (⊎_elim (λ w. rw w.4 (open-noted w.3.left w.2.taken, inv)) (⊎_elim (λ w. rw w.3 (placeless-noted w.1.left w.2.left, inv)) (λ w. rw w.1 (closed-noted w.0.left, inv))))
+    (λ w. rw w.4 (open_noted (omega arith) w.2.taken, place_found inv c.before.before.before.loop-test.true _ c.before.before.premise-at.ensures w.2.taken w.3.taken))
+    (⊎_elim (λ w. rw w.4 (open_noted w.3.left w.2.taken, inv)) (⊎_elim (λ w. rw w.3 (placeless_noted w.1.left w.2.left, inv)) (λ w. rw w.1 (closed-noted w.0.left, inv))))
     c.if1.branch
 
 premise-span-requires : tie.Need-premise-span-requires invariant-loop decreases-loop
@@ -70,8 +70,8 @@ loop-again : tie.Need-loop-preserved invariant-loop decreases-loop
 loop-again c =
     let (noted, looking) = placed c.before.before in
     ⊎_elim
-    (λ w. rw w.1 (rank-found looking c.before.before.before.before.before.loop-test.true _ c.before.before.before.before.premise-at.ensures c.before.before.before.before.before.before.before.before.requires.1.0 noted w.0.taken))
-    (λ w. rw w.1 (no-more-found looking _ c.before.before.before.before.premise-at.ensures noted (omega (arith, w.0.left))))
+    (λ w. rw w.1 (rank_found looking c.before.before.before.before.before.loop-test.true _ c.before.before.before.before.premise-at.ensures c.before.before.before.before.before.before.before.before.requires.1.0 noted w.0.taken))
+    (λ w. rw w.1 (no-more_found looking _ c.before.before.before.before.premise-at.ensures noted (omega (arith, w.0.left))))
     c.if5.branch
 
 returns-2 : tie.Need-returns-2 invariant-loop decreases-loop

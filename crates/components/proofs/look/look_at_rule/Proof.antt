@@ -2,10 +2,10 @@
 use mathlib.Core.Bool.{true, false}
 use native.Mathlib.Omega.{arith}
 use borrow.Author.Rules.{rules}
-use Rattle.tables.specs.Layout.{programIn}
+use Rattle.tables.specs.Layout.{program_in}
 use Rattle.components.specs.declared.look.Look.TheVariants.{Seen}
 use Rattle.components.specs.Look.{PartFinds}
-use Rattle.components.proofs.RuleLooked.{constraints-ask, premises-ask}
+use Rattle.components.proofs.RuleLooked.{constraints-ask, premises_ask}
 use Rattle.components.proofs.look.look_at_rule.Statement.{statement}
 use Rattle.components.proofs.look.look_at_rule.Tie as tie
 
@@ -46,17 +46,17 @@ returns-4 : tie.Need-returns-4
 returns-4 c = rw c.enum-told2.given.1 at c.before.before.look-at-constraints.ensures
 
 -- what the premises gave, and what the constraints did
-premises-seen : (c : tie.After-low) → PartFinds (programIn c.before.before.before.args.tables.now) c.before.before.before.args.rule.0 false c.before.before.before.args.seen.now c.before.before.before.args.ranks.now (Seen c.low.given.0.0 c.low.given.0.1.0)
+premises-seen : (c : tie.After-low) → PartFinds (program_in c.before.before.before.args.tables.now) c.before.before.before.args.rule.0 false c.before.before.before.args.seen.now c.before.before.before.args.ranks.now (Seen c.low.given.0.0 c.low.given.0.1.0)
 premises-seen c = rw c.low.given.1 at c.before.before.look-at-premises.ensures
 
-constraints-seen : (c : tie.After-above) → PartFinds (programIn c.before.before.before.before.before.before.before.args.tables.now) c.before.before.before.before.before.before.before.args.rule.0 true c.before.before.before.before.before.before.before.args.seen.now c.before.before.before.before.before.before.before.args.ranks.now (Seen c.above.given.0.0 c.above.given.0.1.0)
+constraints-seen : (c : tie.After-above) → PartFinds (program_in c.before.before.before.before.before.before.before.args.tables.now) c.before.before.before.before.before.before.before.args.rule.0 true c.before.before.before.before.before.before.before.args.seen.now c.before.before.before.before.before.before.before.args.ranks.now (Seen c.above.given.0.0 c.above.given.0.1.0)
 constraints-seen c = rw c.above.given.1 at c.before.before.look-at-constraints.ensures
 
 returns-5 : tie.Need-returns-5
 returns-5 c = constraints-ask (premises-seen c.before.before.before.before.before.before) (constraints-seen c.before.before) (omega (arith, c.if1.true))
 
 returns-6 : tie.Need-returns-6
-returns-6 c = premises-ask (premises-seen c.before.before.before.before.before.before) (constraints-seen c.before.before) c.if1.false
+returns-6 c = premises_ask (premises-seen c.before.before.before.before.before.before) (constraints-seen c.before.before) c.if1.false
 
 pub look-at-rule-spec : {M : Type 1} → statement M
 look-at-rule-spec =

@@ -2,8 +2,8 @@
 use Prim.Native.Nat.{◌-◌, ◌<◌}
 use native.Mathlib.Omega.{arith}
 use mathlib.Core.Path.{sym, ◌∙◌}
-use Rattle.components.specs.Open.{rootPlace, Gone}
-use Rattle.components.proofs.RootsLeft.{none-gone, one-gone, one-barred}
+use Rattle.components.specs.Open.{root_place, Gone}
+use Rattle.components.proofs.RootsLeft.{none_gone, one_gone, one_barred}
 use Rattle.components.proofs.open.merge_roots.Statement.{statement}
 use Rattle.components.proofs.open.merge_roots.Tie as tie
 
@@ -14,7 +14,7 @@ abbrev decreases-loop : tie.decreases-loop
 decreases-loop roots count low left₀ left = left
 
 loop-holds : tie.Need-loop-init invariant-loop decreases-loop
-loop-holds c = none-gone _ _ _
+loop-holds c = none_gone _ _ _
 
 sub-root : tie.Need-overflow-sub-root invariant-loop decreases-loop
 sub-root c = omega (arith, c.loop-test.true)
@@ -29,19 +29,19 @@ is-barred-requires : tie.Need-is-barred-requires invariant-loop decreases-loop
 is-barred-requires c κs = root-place-requires c.before.before κs
 
 -- the root that was looked at is behind the place
-behind : (c : tie.Else1 invariant-loop decreases-loop) → c.before.before.before.before.args.low < rootPlace c.before.before.before.before.args.roots.now (c.before.before.before.loop.left - 1)
+behind : (c : tie.Else1 invariant-loop decreases-loop) → c.before.before.before.before.args.low < root_place c.before.before.before.before.args.roots.now (c.before.before.before.loop.left - 1)
 behind c = rw (← c.before.root-place.ensures) c.if1.false
 
 returns-2 : tie.Need-returns-2 invariant-loop decreases-loop
 returns-2 c =
-    one-barred _ _ _ _ c.before.before.before.before.before.loop.invariant c.before.before.before.before.loop-test.true (behind c.before.before) (sym c.before.is-barred.ensures ∙ c.if2.true)
+    one_barred _ _ _ _ c.before.before.before.before.before.loop.invariant c.before.before.before.before.loop-test.true (behind c.before.before) (sym c.before.is-barred.ensures ∙ c.if2.true)
 
 loop-less : tie.Need-loop-smaller invariant-loop decreases-loop
 loop-less c = omega (arith, c.before.before.before.before.loop-test.true)
 
 loop-again : tie.Need-loop-preserved invariant-loop decreases-loop
 loop-again c =
-    one-gone _ _ _ _ c.before.before.before.before.before.loop.invariant c.before.before.before.before.loop-test.true (behind c.before.before) (sym c.before.is-barred.ensures ∙ c.if2.false)
+    one_gone _ _ _ _ c.before.before.before.before.before.loop.invariant c.before.before.before.before.loop-test.true (behind c.before.before) (sym c.before.is-barred.ensures ∙ c.if2.false)
 
 returns-3 : tie.Need-returns-3 invariant-loop decreases-loop
 returns-3 c = (c.before.loop.invariant, λ some_left. absurd (omega (arith, c.loop-test.false)))

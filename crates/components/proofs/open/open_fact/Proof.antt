@@ -2,7 +2,7 @@
 use mathlib.Core.Path.{◌≡◌}
 use mathlib.Core.Logic.{⊎_elim}
 use borrow.Author.Rules.{rules}
-use Rattle.components.proofs.FactOpened.{rootCell, fact-opened}
+use Rattle.components.proofs.FactOpened.{root_cell, fact-opened}
 use Rattle.components.proofs.open.open_fact.Statement.{statement}
 use Rattle.components.proofs.open.open_fact.Tie as tie
 
@@ -49,7 +49,7 @@ element-write-roots : tie.Need-element-write-roots
 element-write-roots c = search rules
 
 -- the cell, whichever way it came
-cell : (c : tie.Joined1) → c.if1.root ≡ rootCell c.before.before.before.args.barring c.before.before.before.args.height
+cell : (c : tie.Joined1) → c.if1.root ≡ root_cell c.before.before.before.args.barring c.before.before.before.args.height
 cell c = ⊎_elim (λ w. rw w.0.taken w.1) (λ w. rw w.0.left w.1) c.if1.branch
 
 returns : tie.Need-returns

@@ -1,7 +1,7 @@
 -- `root_place`: the cell, or what it has above the places.
 use mathlib.Core.Path.{sym, ◌∙◌}
 use borrow.Author.Rules.{rules}
-use Rattle.components.proofs.FactOpened.{low-place, high-place}
+use Rattle.components.proofs.FactOpened.{low_place, high_place}
 use Rattle.components.proofs.open.root_place.Statement.{statement}
 use Rattle.components.proofs.open.root_place.Tie as tie
 
@@ -15,13 +15,13 @@ wide-requires : tie.Need-wide-requires
 wide-requires c κs = search rules
 
 returns : tie.Need-returns
-returns c = c.wide.ensures ∙ sym (low-place c.before.before.before.args.roots.now c.before.before.before.args.root c.before.if1.true)
+returns c = c.wide.ensures ∙ sym (low_place c.before.before.before.args.roots.now c.before.before.before.args.root c.before.if1.true)
 
 wide-requires-2 : tie.Need-wide-requires-2
 wide-requires-2 c κs = search rules
 
 returns-2 : tie.Need-returns-2
-returns-2 c = c.wide2.ensures ∙ sym (high-place c.before.before.before.args.roots.now c.before.before.before.args.root c.before.if1.false)
+returns-2 c = c.wide2.ensures ∙ sym (high_place c.before.before.before.args.roots.now c.before.before.before.args.root c.before.if1.false)
 
 pub root-place-spec : {M : Type 1} → statement M
 root-place-spec =

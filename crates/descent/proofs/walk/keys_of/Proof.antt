@@ -4,16 +4,16 @@ use mathlib.Core.Path.{◌≡◌}
 use native.Mathlib.Omega.{arith}
 use borrow.Author.Rules.{rules}
 use Rattle.theory.specs.Rule.{count}
-use Rattle.items.specs.Item.{maxRules}
-use Rattle.tables.specs.Layout.{programIn}
+use Rattle.items.specs.Item.{max_rules}
+use Rattle.tables.specs.Layout.{program_in}
 use Rattle.tables.proofs.ProgramHeld.{rules-below}
-use Rattle.threads.proofs.KeysTold.{Keying, none-keyed, one-keyed}
-use Rattle.descent.specs.Standing.{ruleKey}
+use Rattle.threads.proofs.KeysTold.{Keying, none_keyed, one_keyed}
+use Rattle.descent.specs.Standing.{rule_key}
 use Rattle.descent.proofs.walk.keys_of.Statement.{statement}
 use Rattle.descent.proofs.walk.keys_of.Tie as tie
 
 abbrev invariant-loop : tie.invariant-loop
-invariant-loop tables rules keys₀ i₀ keys i = (rules ≡ count (programIn tables)) × Keying (ruleKey (programIn tables)) keys i
+invariant-loop tables rules keys₀ i₀ keys i = (rules ≡ count (program_in tables)) × Keying (rule_key (program_in tables)) keys i
 
 abbrev decreases-loop : tie.decreases-loop
 decreases-loop tables rules keys₀ i₀ keys i = rules - i
@@ -22,12 +22,12 @@ rules-of-requires : tie.Need-rules-of-requires invariant-loop decreases-loop
 rules-of-requires c κs = search rules
 
 loop-holds : tie.Need-loop-init invariant-loop decreases-loop
-loop-holds c = (c.rules-of.ensures, none-keyed _)
+loop-holds c = (c.rules-of.ensures, none_keyed _)
 
-below : (c : tie.In-loop invariant-loop decreases-loop) → c.before.loop.i < count (programIn c.before.before.before.args.tables.now)
+below : (c : tie.In-loop invariant-loop decreases-loop) → c.before.loop.i < count (program_in c.before.before.before.args.tables.now)
 below c = omega (arith, c.before.loop.invariant.0, c.loop-test.true)
 
-inside : (c : tie.In-loop invariant-loop decreases-loop) → c.before.loop.i < maxRules
+inside : (c : tie.In-loop invariant-loop decreases-loop) → c.before.loop.i < max_rules
 inside c = omega (arith, below c, rules-below c.before.before.before.requires)
 
 cast-t7 : tie.Need-overflow-cast-t7 invariant-loop decreases-loop
@@ -49,7 +49,7 @@ loop-less : tie.Need-loop-smaller invariant-loop decreases-loop
 loop-less c = omega arith
 
 loop-again : tie.Need-loop-preserved invariant-loop decreases-loop
-loop-again c = (c.before.before.loop.invariant.0, one-keyed c.before.before.loop.invariant.1 (inside c.before) _ c.rule-key.ensures)
+loop-again c = (c.before.before.loop.invariant.0, one_keyed c.before.before.loop.invariant.1 (inside c.before) _ c.rule-key.ensures)
 
 returns : tie.Need-returns invariant-loop decreases-loop
 returns c i l = c.before.loop.invariant.1.shown i (omega (arith, c.before.loop.invariant.0, c.loop-test.false))

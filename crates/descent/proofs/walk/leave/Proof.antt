@@ -1,6 +1,6 @@
 -- `leave`: the fact that opened this one is looked at again, where it is the last root once its component is closed.
 use borrow.Author.Rules.{rules}
-use Rattle.descent.proofs.WalkTurned.{stepped-back, closed-last}
+use Rattle.descent.proofs.WalkTurned.{stepped_back, closed-last}
 use Rattle.descent.proofs.walk.leave.Statement.{statement}
 use Rattle.descent.proofs.walk.leave.Tie as tie
 
@@ -16,7 +16,7 @@ root-place-requires c κs = search rules
 returns : tie.Need-returns
 returns c P todo next w done =
     let o = c.before.before in
-    rw o.opener-at.ensures (stepped-back w o.before.requires.0.0 (rw (← c.before.root-place.ensures) c.if1.true) done)
+    rw o.opener-at.ensures (stepped_back w o.before.requires.0.0 (rw (← c.before.root-place.ensures) c.if1.true) done)
 
 close-from-requires : tie.Need-close-from-requires
 close-from-requires c κs = search rules

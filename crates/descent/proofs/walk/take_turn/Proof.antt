@@ -4,13 +4,13 @@ use mathlib.Core.Logic.{inl, inr, ⊎_elim}
 use native.Mathlib.Omega.{arith}
 use borrow.Author.Rules.{rules}
 use lib.ListN.{get_or}
-use Rattle.tables.specs.Layout.{programIn}
-use Rattle.descent.proofs.WalkTurned.{few-open, few-roots, looked-small, may-leave, AtRule, rule-known, rule-in-force, rule-small, may-open-it, opened, barred-look, may-merge, merged-cycle, looked-on}
+use Rattle.tables.specs.Layout.{program_in}
+use Rattle.descent.proofs.WalkTurned.{few_open, few_roots, looked_small, may_leave, AtRule, rule_known, rule-in_force, rule-small, may_open_it, opened, barred-look, may_merge, merged_cycle, looked-on}
 use Rattle.descent.proofs.walk.take_turn.Statement.{statement}
 use Rattle.descent.proofs.walk.take_turn.Tie as tie
 
 fact-at-requires : tie.Need-fact-at-requires
-fact-at-requires c κs = looked-small c.before.requires.1 c.before.requires.0.1
+fact-at-requires c κs = looked_small c.before.requires.1 c.before.requires.0.1
 
 mul-rule : tie.Need-overflow-mul-rule
 mul-rule c = search rules
@@ -19,31 +19,31 @@ element-copy-out-rule : tie.Need-element-copy-out-rule
 element-copy-out-rule c = search rules
 
 leave-requires : tie.Need-leave-requires
-leave-requires c κs = let p = c.before.before.before.before.before.before.before.before.requires in may-leave p.1 p.0.1
+leave-requires c κs = let p = c.before.before.before.before.before.before.before.before.requires in may_leave p.1 p.0.1
 
 returns : tie.Need-returns
 returns c = let p = c.before.before.before.before.before.before.before.before.before.requires in c.leave.ensures _ _ _ p.1 (rw (← c.before.before.before.before.before.before.before.fact-at.ensures.0) c.before.before.before.before.before.if1.true)
 
 -- once there is a rule to look at
-looking : (c : tie.Else1) → AtRule (programIn c.before.before.before.before.args.tables.now) c.before.before.before.before.args.seen.now c.before.before.before.before.args.stack.now c.before.before.before.before.args.roots.now c.before.before.before.before.args.todo.now c.before.before.before.before.args.next.now c.before.before.before.before.args.ranks.now c.before.before.before.before.args.s c.before.before.fact-at.result (get_or c.before.before.before.before.args.todo.now c.before.before.fact-at.result 0)
+looking : (c : tie.Else1) → AtRule (program_in c.before.before.before.before.args.tables.now) c.before.before.before.before.args.seen.now c.before.before.before.before.args.stack.now c.before.before.before.before.args.roots.now c.before.before.before.before.args.todo.now c.before.before.before.before.args.next.now c.before.before.before.before.args.ranks.now c.before.before.before.before.args.s c.before.before.fact-at.result (get_or c.before.before.before.before.args.todo.now c.before.before.fact-at.result 0)
 looking c =
     let p = c.before.before.before.before.requires in
-    record { stands = p.1; some-open = p.0.1; is-fact = c.before.before.fact-at.ensures.0; is-rule = refl; not_end = c.if1.false }
+    record { stands = p.1; some_open = p.0.1; is_fact = c.before.before.fact-at.ensures.0; is_rule = refl; not_end = c.if1.false }
 
 look-at-rule-requires : tie.Need-look-at-rule-requires
-look-at-rule-requires c κs = let p = c.before.before.before.before.before.before.requires in ((p.0.0, rule-known (looking c.before.before)), (p.1.so_far, rule-in-force (looking c.before.before)))
+look-at-rule-requires c κs = let p = c.before.before.before.before.before.before.requires in ((p.0.0, rule_known (looking c.before.before)), (p.1.so_far, rule-in_force (looking c.before.before)))
 
 enum-known-found : tie.Need-enum-known-found
 enum-known-found c = search rules
 
 open-fact-requires : tie.Need-open-fact-requires
-open-fact-requires c κs = may-open-it (looking c.before.before.before.before.before.before.before.before.before) c.before.before.before.before.found.given.1 c.before.before.before.before.before.before.look-at-rule.ensures
+open-fact-requires c κs = may_open_it (looking c.before.before.before.before.before.before.before.before.before) c.before.before.before.before.found.given.1 c.before.before.before.before.before.before.look-at-rule.ensures
 
 add-t39 : tie.Need-overflow-add-t39
 add-t39 c = search rules
 
 add-t40 : tie.Need-overflow-add-t40
-add-t40 c = let p = c.before.before.before.before.before.before.before.before.before.before.before.before.before.before.requires in omega (arith, few-roots p.1 p.0.1, few-open p.1 p.0.1)
+add-t40 c = let p = c.before.before.before.before.before.before.before.before.before.before.before.before.before.before.requires in omega (arith, few_roots p.1 p.0.1, few_open p.1 p.0.1)
 
 enum_told : tie.Need-enum-told
 enum_told c = search rules
@@ -79,7 +79,7 @@ element-write-todo : tie.Need-element-write-todo
 element-write-todo c = search rules
 
 merge-roots-requires : tie.Need-merge-roots-requires
-merge-roots-requires c κs = let p = c.before.before.before.before.before.before.before.before.before.before.before.before.before.before.before.requires in may-merge p.1 p.0.1
+merge-roots-requires c κs = let p = c.before.before.before.before.before.before.before.before.before.before.before.before.before.before.before.requires in may_merge p.1 p.0.1
 
 enum-told-2 : tie.Need-enum-told-2
 enum-told-2 c = search rules
@@ -94,7 +94,7 @@ returns-3 : tie.Need-returns-3
 returns-3 c = barred-look (looking c.before.before.before.before.before) c.enum_told.given.1 c.before.before.look-at-rule.ensures
 
 returns-4 : tie.Need-returns-4
-returns-4 c = merged-cycle (looking c.before.before.before.before.before.before.before.before.before.before.before.before.before.before) c.before.before.before.before.before.before.before.before.before.low.given.1 c.before.before.before.before.before.before.before.before.before.before.before.look-at-rule.ensures c.enum-told2.given.1 c.before.before.merge-roots.ensures
+returns-4 c = merged_cycle (looking c.before.before.before.before.before.before.before.before.before.before.before.before.before.before) c.before.before.before.before.before.before.before.before.before.low.given.1 c.before.before.before.before.before.before.before.before.before.before.before.look-at-rule.ensures c.enum-told2.given.1 c.before.before.merge-roots.ensures
 
 returns-5 : tie.Need-returns-5
 returns-5 c = looked-on (looking c.before.before.before.before.before.before.before.before.before.before.before.before.before.before.before) c.before.before.before.before.before.before.before.before.before.before.low.given.1 c.before.before.before.before.before.before.before.before.before.before.before.before.look-at-rule.ensures _ _ c.before.left.given.1 c.before.before.before.merge-roots.ensures c.before.before.before.before.before.before.wide.ensures (⊎_elim (λ t. inl (t.1, t.0.taken)) (λ t. inr (t.1, t.0.left)) c.before.before.before.before.before.before.before.if2.branch)

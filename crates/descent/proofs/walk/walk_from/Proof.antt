@@ -1,19 +1,19 @@
 -- `walk_from`: the invariant says where the walk stands and that what was met stays so; what is left to be done falls.
 use borrow.Author.Rules.{rules}
-use Rattle.tables.specs.Layout.{programIn}
-use Rattle.descent.specs.Standing.{turnsLeft, StaysMet, Stands}
-use Rattle.descent.proofs.WalkRested.{may-begin, begun, rested}
+use Rattle.tables.specs.Layout.{program_in}
+use Rattle.descent.specs.Standing.{turns_left, StaysMet, Stands}
+use Rattle.descent.proofs.WalkRested.{may_begin, begun, rested}
 use Rattle.descent.proofs.walk.walk_from.Statement.{statement}
 use Rattle.descent.proofs.walk.walk_from.Tie as tie
 
 abbrev invariant-loop : tie.invariant-loop
-invariant-loop tables next todo₀ seen₀ stack₀ roots₀ ranks₀ s₀ todo seen stack roots ranks s = Stands (programIn tables) seen stack roots todo next ranks s × StaysMet seen₀ seen
+invariant-loop tables next todo₀ seen₀ stack₀ roots₀ ranks₀ s₀ todo seen stack roots ranks s = Stands (program_in tables) seen stack roots todo next ranks s × StaysMet seen₀ seen
 
 abbrev decreases-loop : tie.decreases-loop
-decreases-loop tables next todo₀ seen₀ stack₀ roots₀ ranks₀ s₀ todo seen stack roots ranks s = turnsLeft (programIn tables) seen todo s.height s.at
+decreases-loop tables next todo₀ seen₀ stack₀ roots₀ ranks₀ s₀ todo seen stack roots ranks s = turns_left (program_in tables) seen todo s.height s.at
 
 open-fact-requires : tie.Need-open-fact-requires invariant-loop decreases-loop
-open-fact-requires c κs = let p = c.before.before.before.requires in may-begin p.0.1 _ p.1.0
+open-fact-requires c κs = let p = c.before.before.before.requires in may_begin p.0.1 _ p.1.0
 
 loop-holds : tie.Need-loop-init invariant-loop decreases-loop
 loop-holds c = let p = c.before.before.before.before.requires in ((begun p.0.1 _ p.1.0 _ _ _ _ p.1.1 (c.open-fact.ensures _)).0, λ f e. e)

@@ -1,9 +1,9 @@
 -- `list_down`: the facts from f on are listed.
 use Prim.Native.Nat.{◌<◌}
 use native.Mathlib.Omega.{arith}
-use Rattle.items.specs.Item.{maxGuessed}
-use Rattle.marking.proofs.MarksPainted.{marked-at, unmarked-at}
-use Rattle.earliest.proofs.FactsListed.{Down, none-listed, all_listed, passed, in-row, one-listed, no_more}
+use Rattle.items.specs.Item.{max_guessed}
+use Rattle.marking.proofs.MarksPainted.{marked-at, unmarked_at}
+use Rattle.earliest.proofs.FactsListed.{Down, none_listed, all_listed, passed, in-row, one_listed, no_more}
 use Rattle.earliest.proofs.guessed.list_down.Statement.{statement}
 use Rattle.earliest.proofs.guessed.list_down.Tie as tie
 use Rattle.earliest.proofs.guessed.list_down.Reads as reads
@@ -16,9 +16,9 @@ abbrev decreases-loop : tie.decreases-loop
 decreases-loop marks facts row₀ n₀ f₀ row n f = f
 
 loop-holds : tie.Need-loop-init invariant-loop decreases-loop
-loop-holds c = none-listed _ _ _ c.requires.1 c.requires.2
+loop-holds c = none_listed _ _ _ c.requires.1 c.requires.2
 
-room : (c : lts.Then1 reads.Pre reads.Post invariant-loop decreases-loop) → c.before.before.before.loop.n < maxGuessed
+room : (c : lts.Then1 reads.Pre reads.Post invariant-loop decreases-loop) → c.before.before.before.loop.n < max_guessed
 room c = in-row _ _ _ _ _ (omega arith) c.before.before.before.loop.invariant (marked-at _ _ c.if1.true)
 
 sub-f : tie.Need-overflow-sub-f invariant-loop decreases-loop
@@ -43,13 +43,13 @@ loop-less : tie.Need-loop-smaller invariant-loop decreases-loop
 loop-less c = omega arith
 
 loop-again : tie.Need-loop-preserved invariant-loop decreases-loop
-loop-again c = one-listed _ _ _ _ _ (omega arith) c.before.before.before.loop.invariant (marked-at _ _ c.if1.true)
+loop-again c = one_listed _ _ _ _ _ (omega arith) c.before.before.before.loop.invariant (marked-at _ _ c.if1.true)
 
 loop-less-2 : tie.Need-loop-smaller-2 invariant-loop decreases-loop
 loop-less-2 c = omega arith
 
 loop-again-2 : tie.Need-loop-preserved-2 invariant-loop decreases-loop
-loop-again-2 c = passed _ _ _ _ _ (omega arith) c.before.before.before.loop.invariant (unmarked-at _ _ c.if1.false)
+loop-again-2 c = passed _ _ _ _ _ (omega arith) c.before.before.before.loop.invariant (unmarked_at _ _ c.if1.false)
 
 returns : tie.Need-returns invariant-loop decreases-loop
 returns c = all_listed c.before.before.args.marks.now c.before.before.args.facts c.before.loop.row c.before.loop.n (no_more _ _ _ _ _ c.before.loop.invariant (omega arith))

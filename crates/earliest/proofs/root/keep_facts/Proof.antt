@@ -1,7 +1,7 @@
 -- `keep_facts`: the facts below f are kept.
 use Prim.Native.Nat.{◌-◌}
 use native.Mathlib.Omega.{arith}
-use Rattle.items.specs.Item.{narrow, maxFacts}
+use Rattle.items.specs.Item.{narrow, max_facts}
 use Rattle.earliest.proofs.FactsListed.{Keeping, none_kept, one_kept, all-kept}
 use Rattle.earliest.proofs.root.keep_facts.Statement.{statement}
 use Rattle.earliest.proofs.root.keep_facts.Tie as tie
@@ -10,7 +10,7 @@ abbrev invariant-loop : tie.invariant-loop
 invariant-loop marks found₀ f₀ found f = Keeping marks found f
 
 abbrev decreases-loop : tie.decreases-loop
-decreases-loop marks found₀ f₀ found f = maxFacts narrow - f
+decreases-loop marks found₀ f₀ found f = max_facts narrow - f
 
 loop-holds : tie.Need-loop-init invariant-loop decreases-loop
 loop-holds c = none_kept _ _ c.requires

@@ -1,6 +1,6 @@
 -- `fact_of`: the product has the quotient above 2^32, and what is left is the remainder.
 use Rattle.std.proofs.Common.{arith, rules}
-use Rattle.generator.proofs.Quotients.{product-fits, quotient-small, back_below, takes, takes-below}
+use Rattle.generator.proofs.Quotients.{product_fits, quotient_small, back_below, takes, takes_below}
 use Rattle.generator.proofs.draw.fact_of.Statement.{statement}
 use Rattle.generator.proofs.draw.fact_of.Tie as tie
 
@@ -8,10 +8,10 @@ cast-quotient : tie.Need-overflow-cast-quotient
 cast-quotient c = search rules
 
 mul-quotient : tie.Need-overflow-mul-quotient
-mul-quotient c = omega (arith, product-fits c.args.state c.args.by (omega arith) c.requires)
+mul-quotient c = omega (arith, product_fits c.args.state c.args.by (omega arith) c.requires)
 
 cast-quotient-2 : tie.Need-overflow-cast-quotient-2
-cast-quotient-2 c = omega (arith, quotient-small c.args.state c.args.by (omega arith) c.requires)
+cast-quotient-2 c = omega (arith, quotient_small c.args.state c.args.by (omega arith) c.requires)
 
 mul-result : tie.Need-overflow-mul-result
 mul-result c = omega (arith, back_below c.args.state c.args.by (omega arith) c.requires)
@@ -23,7 +23,7 @@ cast-result : tie.Need-overflow-cast-result
 cast-result c = search rules
 
 returns : tie.Need-returns
-returns c = (takes c.args.state c.args.by (omega arith) c.requires, takes-below c.args.state c.args.by (omega arith) c.requires)
+returns c = (takes c.args.state c.args.by (omega arith) c.requires, takes_below c.args.state c.args.by (omega arith) c.requires)
 
 pub fact-of-spec : {M : Type 1} → statement M
 fact-of-spec =

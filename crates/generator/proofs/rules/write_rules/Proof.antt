@@ -1,6 +1,6 @@
 -- `write_rules`: the rules before the place are written.
 use Rattle.std.proofs.Common.{◌≡◌, ◌-◌, ◌≤◌, inl, inr, ⊎_elim, arith}
-use Rattle.generator.proofs.RulesPlaced.{Drawn, none-drawn, next-turn, rule_fits, rule-drawn, all-drawn}
+use Rattle.generator.proofs.RulesPlaced.{Drawn, none_drawn, next-turn, rule_fits, rule-drawn, all-drawn}
 use Rattle.generator.proofs.rules.write_rules.Statement.{statement}
 use Rattle.generator.proofs.rules.write_rules.Tie as tie
 
@@ -11,7 +11,7 @@ abbrev decreases-loop : tie.decreases-loop
 decreases-loop out₀ start rules by state₀ turn₀ at₀ i₀ out state turn at i = rules - i
 
 loop-holds : tie.Need-loop-init invariant-loop decreases-loop
-loop-holds c = (none-drawn _ _ _, omega arith)
+loop-holds c = (none_drawn _ _ _, omega arith)
 
 write-rule-requires : tie.Need-write-rule-requires invariant-loop decreases-loop
 write-rule-requires c κs =

@@ -5,7 +5,7 @@ use mathlib.Core.List.{List}
 use lib.Bits.{bit_xor}
 use mathlib.Core.Path.{◌∙◌}
 use lib.ListN.{set, length-set}
-use Rattle.guessing.proofs.BoundsStored.{ends-stored}
+use Rattle.guessing.proofs.BoundsStored.{ends_stored}
 use borrow.Author.Rules.{rules}
 use Rattle.guessing.proofs.bounds.store_bounds.Statement.{statement}
 use Rattle.guessing.proofs.bounds.store_bounds.Tie as tie
@@ -59,7 +59,7 @@ returns-2 c =
     let free = bit_xor c.before.before.before.before.before.args.bounds.low c.before.before.before.before.before.args.bounds.high in
     let masks : List ℕ = c.before.before.store-places.new.1.1.1.0 in
     let values : List ℕ = c.before.before.store-places.new.1.1.1.1.0 in
-    ((omega (arith, w.0.0), length-set (set masks kept free) (kept + 1) free ∙ length-set masks kept free ∙ w.0.1, length-set (set values kept 0) (kept + 1) free ∙ length-set values kept 0 ∙ w.0.2), λ pass between e. ends-stored masks values kept w.0.0 w.0.1 w.0.2 (w.1 pass between) (e c.if2.true))
+    ((omega (arith, w.0.0), length-set (set masks kept free) (kept + 1) free ∙ length-set masks kept free ∙ w.0.1, length-set (set values kept 0) (kept + 1) free ∙ length-set values kept 0 ∙ w.0.2), λ pass between e. ends_stored masks values kept w.0.0 w.0.1 w.0.2 (w.1 pass between) (e c.if2.true))
 
 returns-3 : tie.Need-returns-3
 returns-3 c = let w = c.before.before.store-places.ensures in ((omega arith, w.0.1, w.0.2), λ pass between _. w.1 pass between)

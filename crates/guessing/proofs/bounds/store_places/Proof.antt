@@ -2,7 +2,7 @@
 use native.Mathlib.Omega.{arith}
 use mathlib.Core.Path.{sym, ◌∙◌}
 use borrow.Author.Rules.{rules}
-use Rattle.guessing.proofs.BoundsStored.{Storing, none-stored, left_open, stores-low, stores-high}
+use Rattle.guessing.proofs.BoundsStored.{Storing, none_stored, left_open, stores_low, stores_high}
 use Rattle.guessing.proofs.bounds.store_places.Statement.{statement}
 use Rattle.guessing.proofs.bounds.store_places.Tie as tie
 
@@ -13,7 +13,7 @@ abbrev decreases-loop : tie.decreases-loop
 decreases-loop low high places masks₀ values₀ kept₀ place₀ masks values kept place = place
 
 loop-holds : tie.Need-loop-init invariant-loop decreases-loop
-loop-holds c = none-stored _ _ c.requires.1 c.requires.2
+loop-holds c = none_stored _ _ c.requires.1 c.requires.2
 
 sub-place : tie.Need-overflow-sub-place invariant-loop decreases-loop
 sub-place c = search rules
@@ -46,7 +46,7 @@ loop-less : tie.Need-loop-smaller invariant-loop decreases-loop
 loop-less c = omega arith
 
 loop-again : tie.Need-loop-preserved invariant-loop decreases-loop
-loop-again c = stores-low c.before.before.before.loop.invariant c.before.before.loop-test.true c.before.before.before.before.requires.0 (sym c.before.has-bit.ensures ∙ c.if1.true)
+loop-again c = stores_low c.before.before.before.loop.invariant c.before.before.loop-test.true c.before.before.before.before.requires.0 (sym c.before.has-bit.ensures ∙ c.if1.true)
 
 has-bit-requires-2 : tie.Need-has-bit-requires-2 invariant-loop decreases-loop
 has-bit-requires-2 c κs = omega arith
@@ -76,10 +76,10 @@ loop-less-3 : tie.Need-loop-smaller-3 invariant-loop decreases-loop
 loop-less-3 c = omega arith
 
 loop-again-3 : tie.Need-loop-preserved-3 invariant-loop decreases-loop
-loop-again-3 c = stores-high c.before.before.before.before.before.loop.invariant c.before.before.before.before.loop-test.true c.before.before.before.before.before.before.requires.0 (sym c.before.has-bit2.ensures ∙ c.if2.false)
+loop-again-3 c = stores_high c.before.before.before.before.before.loop.invariant c.before.before.before.before.loop-test.true c.before.before.before.before.before.before.requires.0 (sym c.before.has-bit2.ensures ∙ c.if2.false)
 
 returns : tie.Need-returns invariant-loop decreases-loop
-returns c = let w = c.before.loop.invariant in ((omega arith, w.mask-places, w.value-places), w.stored)
+returns c = let w = c.before.loop.invariant in ((omega arith, w.mask_places, w.value_places), w.stored)
 
 pub store-places-spec : {M : Type 1} → statement M
 store-places-spec =

@@ -2,9 +2,9 @@
 use Prim.Native.Nat.{◌-◌, ◌<◌}
 use native.Mathlib.Omega.{arith}
 use lib.ListN.{length, get_or}
-use Rattle.theory.proofs.Lists.{element-below}
-use Rattle.items.specs.Item.{narrow, maxFacts}
-use Rattle.guessing.proofs.PlacesAgree.{Agreed, none-compared, one-agrees, one_apart, all-agree}
+use Rattle.theory.proofs.Lists.{element_below}
+use Rattle.items.specs.Item.{narrow, max_facts}
+use Rattle.guessing.proofs.PlacesAgree.{Agreed, none_compared, one_agrees, one_apart, all-agree}
 use Rattle.guessing.proofs.compared.compare.Statement.{statement}
 use Rattle.guessing.proofs.compared.compare.Tie as tie
 
@@ -15,7 +15,7 @@ abbrev decreases-loop : tie.decreases-loop
 decreases-loop row guess marks place₀ place = place
 
 loop-holds : tie.Need-loop-init invariant-loop decreases-loop
-loop-holds c = none-compared _ _ _
+loop-holds c = none_compared _ _ _
 
 sub-place : tie.Need-overflow-sub-place invariant-loop decreases-loop
 sub-place c = omega arith
@@ -32,8 +32,8 @@ mul-fact c = record { fits = omega arith }
 shared-slice-read-fact : tie.Need-shared-slice-read-fact invariant-loop decreases-loop
 shared-slice-read-fact c = omega arith
 
-small : (c : tie.After-shared-slice-known2 invariant-loop decreases-loop) → get_or c.before.before.before.before.args.row.now (length c.before.before.before.before.args.row.now - 1 - (c.before.before.loop.place - 1)) 0 < maxFacts narrow
-small c = element-below (maxFacts narrow) c.before.before.before.before.args.row.now _ c.before.before.before.before.requires.1 (omega arith)
+small : (c : tie.After-shared-slice-known2 invariant-loop decreases-loop) → get_or c.before.before.before.before.args.row.now (length c.before.before.before.before.args.row.now - 1 - (c.before.before.loop.place - 1)) 0 < max_facts narrow
+small c = element_below (max_facts narrow) c.before.before.before.before.args.row.now _ c.before.before.before.before.requires.1 (omega arith)
 
 cast-fact : tie.Need-overflow-cast-fact invariant-loop decreases-loop
 cast-fact c = record { fits = omega (arith, small c) }
@@ -51,7 +51,7 @@ loop-less : tie.Need-loop-smaller invariant-loop decreases-loop
 loop-less c = omega arith
 
 loop-again : tie.Need-loop-preserved invariant-loop decreases-loop
-loop-again c = one-agrees c.before.before.before.before.before.before.before.args.row.now c.before.before.before.before.before.before.before.args.guess c.before.before.before.before.before.before.before.args.marks.now c.before.before.before.before.before.loop.place (omega arith) c.before.before.before.before.before.loop.invariant _ c.before.has-bit.ensures c.if1.false
+loop-again c = one_agrees c.before.before.before.before.before.before.before.args.row.now c.before.before.before.before.before.before.before.args.guess c.before.before.before.before.before.before.before.args.marks.now c.before.before.before.before.before.loop.place (omega arith) c.before.before.before.before.before.loop.invariant _ c.before.has-bit.ensures c.if1.false
 
 returns-2 : tie.Need-returns-2 invariant-loop decreases-loop
 returns-2 c = all-agree c.before.before.before.args.row.now c.before.before.before.args.guess c.before.before.before.args.marks.now c.before.loop.place (omega arith) c.before.loop.invariant

@@ -5,68 +5,68 @@ use mathlib.Core.Path.{refl, sym, subst}
 use mathlib.Core.Logic.{⊎_elim}
 use borrow.Author.Rules.{rules}
 use lib.ListN.{length}
-use Rattle.tables.specs.Layout.{programIn}
+use Rattle.tables.specs.Layout.{program_in}
 use Rattle.nogoods.specs.Nogoods.{guesses}
-use Rattle.guessing.specs.Guessing.{fitsAt, Derived, Conflict}
+use Rattle.guessing.specs.Guessing.{fits_at, Derived, Conflict}
 use Rattle.guessing.specs.Bounds.{Between}
 use Rattle.guessing.specs.First.{Tells}
 use Rattle.guessing.specs.Descended.{Descended}
 use Rattle.guessing.proofs.GuessDerived.{row-facts}
-use Rattle.guessing.proofs.GuessesTried.{Trying, already-marked, begins, go_on, one_more, end_of, end_below, tells, ends, fits-first, leaves, conflict, fits_not}
+use Rattle.guessing.proofs.GuessesTried.{Trying, already_marked, begins, go_on, one_more, end_of, end_below, tells, ends, fits-first, leaves, conflict, fits_not}
 use Rattle.guessing.proofs.first.search_between.Statement.{statement}
 use Rattle.guessing.proofs.first.search_between.Tie as tie
 
 abbrev invariant-loop : tie.invariant-loop
-invariant-loop tables index row base missing from marks₀ masks₀ values₀ kept₀ guess₀ low₀ high₀ end marks masks values kept guess low high = Trying (fitsAt (programIn tables) row base) masks values kept guess × (from ≤ guess) × (guess ≤ from → Derived (programIn tables) row base from marks) × Between (programIn tables) row base low high
+invariant-loop tables index row base missing from marks₀ masks₀ values₀ kept₀ guess₀ low₀ high₀ end marks masks values kept guess low high = Trying (fits_at (program_in tables) row base) masks values kept guess × (from ≤ guess) × (guess ≤ from → Derived (program_in tables) row base from marks) × Between (program_in tables) row base low high
 
 abbrev decreases-loop : tie.decreases-loop
 decreases-loop tables index row base missing from marks₀ masks₀ values₀ kept₀ guess₀ low₀ high₀ end marks masks values kept guess low high = guesses - guess
 
 store-bounds-requires : tie.Need-store-bounds-requires invariant-loop decreases-loop
-store-bounds-requires c κs = (c.before.before.before.requires.1.0.row-base.few, refl, refl)
+store-bounds-requires c κs = (c.before.before.before.requires.1.0.row_base.few, refl, refl)
 
 cast-end : tie.Need-overflow-cast-end invariant-loop decreases-loop
-cast-end c = record { fits = omega (arith, c.before.before.before.before.requires.1.0.row-base.few) }
+cast-end c = record { fits = omega (arith, c.before.before.before.before.requires.1.0.row_base.few) }
 
 shl-end : tie.Need-overflow-shl-end invariant-loop decreases-loop
-shl-end c = omega (arith, c.before.before.before.before.requires.1.0.row-base.few)
+shl-end c = omega (arith, c.before.before.before.before.requires.1.0.row_base.few)
 
 loop-holds : tie.Need-loop-init invariant-loop decreases-loop
 loop-holds c =
     let w = c.store-bounds.ensures in
     let p = c.before.before.before.before.requires.1 in
-    (begins _ _ _ _ _ w.0.0 w.0.1 w.0.2 (w.1 _ p.1.0.bits p.1.1.0) (omega (arith, p.1.1.1.inside, end_below (length c.before.before.before.before.args.row.now) p.0.row-base.few)) p.1.1.1.passed, omega arith, λ _. p.1.1.1.derived, p.1.0)
+    (begins _ _ _ _ _ w.0.0 w.0.1 w.0.2 (w.1 _ p.1.0.bits p.1.1.0) (omega (arith, p.1.1.1.inside, end_below (length c.before.before.before.before.args.row.now) p.0.row_base.few)) p.1.1.1.passed, omega arith, λ _. p.1.1.1.derived, p.1.0)
 
 next-open-requires : tie.Need-next-open-requires invariant-loop decreases-loop
-next-open-requires c κs = let w = c.before.before.loop.invariant.0 in (w.room, w.below, omega (arith, end_of (length c.before.before.before.before.before.before.before.args.row.now) c.before.before.before.before.before.before.before.requires.1.0.row-base.few, end_below (length c.before.before.before.before.before.before.before.args.row.now) c.before.before.before.before.before.before.before.requires.1.0.row-base.few))
+next-open-requires c κs = let w = c.before.before.loop.invariant.0 in (w.room, w.below, omega (arith, end_of (length c.before.before.before.before.before.before.before.args.row.now) c.before.before.before.before.before.before.before.requires.1.0.row_base.few, end_below (length c.before.before.before.before.before.before.before.args.row.now) c.before.before.before.before.before.before.before.requires.1.0.row_base.few))
 
 -- the next guess that no nogood refutes
-at-hand : (c : tie.After-next-open invariant-loop decreases-loop) → Trying (fitsAt (programIn c.before.before.before.before.before.before.before.before.args.tables.now) c.before.before.before.before.before.before.before.before.args.row.now c.before.before.before.before.before.before.before.before.args.base.now) c.before.before.before.loop.masks c.before.before.before.loop.values c.before.before.before.loop.auto c.next-open.result
+at-hand : (c : tie.After-next-open invariant-loop decreases-loop) → Trying (fits_at (program_in c.before.before.before.before.before.before.before.before.args.tables.now) c.before.before.before.before.before.before.before.before.args.row.now c.before.before.before.before.before.before.before.before.args.base.now) c.before.before.before.loop.masks c.before.before.before.loop.values c.before.before.before.loop.auto c.next-open.result
 at-hand c = let w = c.before.before.before.loop.invariant.0 in go_on _ w _ c.next-open.ensures.0.1 (c.next-open.ensures.1 _ w.stored)
 
 -- the first from there that nothing on the way refutes, with what it derives
-come-to : (c : tie.Joined2 invariant-loop decreases-loop) → Descended (programIn c.before.before.before.before.before.before.before.before.before.before.args.tables.now) c.before.before.before.before.before.before.before.before.before.before.args.row.now c.before.before.before.before.before.before.before.before.before.before.args.base.now c.before.before.next-open.result c.if2.guess c.if2.marks
-come-to c = ⊎_elim (λ w. rw (w.3, w.4) w.2.ensures) (λ w. rw (w.1, w.2) (already-marked (omega (arith, end_of (length c.before.before.before.before.before.before.before.before.before.before.args.row.now) c.before.before.before.before.before.before.before.before.before.before.requires.1.0.row-base.few, c.before.if1.false)) (subst (λ (g : ℕ). Derived (programIn c.before.before.before.before.before.before.before.before.before.before.args.tables.now) c.before.before.before.before.before.before.before.before.before.before.args.row.now c.before.before.before.before.before.before.before.before.before.before.args.base.now g c.before.before.before.before.before.loop.marks) (sym w.0.left) (c.before.before.before.before.before.loop.invariant.2 (omega (arith, w.0.left, c.before.before.next-open.ensures.0.0)))))) c.if2.branch
+come-to : (c : tie.Joined2 invariant-loop decreases-loop) → Descended (program_in c.before.before.before.before.before.before.before.before.before.before.args.tables.now) c.before.before.before.before.before.before.before.before.before.before.args.row.now c.before.before.before.before.before.before.before.before.before.before.args.base.now c.before.before.next-open.result c.if2.guess c.if2.marks
+come-to c = ⊎_elim (λ w. rw (w.3, w.4) w.2.ensures) (λ w. rw (w.1, w.2) (already_marked (omega (arith, end_of (length c.before.before.before.before.before.before.before.before.before.before.args.row.now) c.before.before.before.before.before.before.before.before.before.before.requires.1.0.row_base.few, c.before.if1.false)) (subst (λ (g : ℕ). Derived (program_in c.before.before.before.before.before.before.before.before.before.before.args.tables.now) c.before.before.before.before.before.before.before.before.before.before.args.row.now c.before.before.before.before.before.before.before.before.before.before.args.base.now g c.before.before.before.before.before.loop.marks) (sym w.0.left) (c.before.before.before.before.before.loop.invariant.2 (omega (arith, w.0.left, c.before.before.next-open.ensures.0.0)))))) c.if2.branch
 
-reached : (c : tie.Joined2 invariant-loop decreases-loop) → Trying (fitsAt (programIn c.before.before.before.before.before.before.before.before.before.before.args.tables.now) c.before.before.before.before.before.before.before.before.before.before.args.row.now c.before.before.before.before.before.before.before.before.before.before.args.base.now) c.before.before.before.before.before.loop.masks c.before.before.before.before.before.loop.values c.before.before.before.before.before.loop.auto c.if2.guess
-reached c = go_on _ (at-hand c.before.before) _ (omega (arith, (come-to c).inside, end_below (length c.before.before.before.before.before.before.before.before.before.before.args.row.now) c.before.before.before.before.before.before.before.before.before.before.requires.1.0.row-base.few)) (come-to c).passed
+reached : (c : tie.Joined2 invariant-loop decreases-loop) → Trying (fits_at (program_in c.before.before.before.before.before.before.before.before.before.before.args.tables.now) c.before.before.before.before.before.before.before.before.before.before.args.row.now c.before.before.before.before.before.before.before.before.before.before.args.base.now) c.before.before.before.before.before.loop.masks c.before.before.before.before.before.loop.values c.before.before.before.before.before.loop.auto c.if2.guess
+reached c = go_on _ (at-hand c.before.before) _ (omega (arith, (come-to c).inside, end_below (length c.before.before.before.before.before.before.before.before.before.before.args.row.now) c.before.before.before.before.before.before.before.before.before.before.requires.1.0.row_base.few)) (come-to c).passed
 
 -- what the comparison tells of it
-told : (c : tie.After-compare invariant-loop decreases-loop) → Tells (programIn c.before.before.before.before.before.before.before.before.before.before.before.before.args.tables.now) c.before.before.before.before.before.before.before.before.before.before.before.before.args.row.now c.before.before.before.before.before.before.before.before.before.before.before.before.args.base.now c.before.before.if2.guess c.compare.result
-told c = let p = c.before.before.before.before.before.before.before.before.before.before.before.before.requires in tells p.1.0 (row-facts p.0.well-formed p.1.0.row-base) _ _ (come-to c.before.before).derived _ c.compare.ensures
+told : (c : tie.After-compare invariant-loop decreases-loop) → Tells (program_in c.before.before.before.before.before.before.before.before.before.before.before.before.args.tables.now) c.before.before.before.before.before.before.before.before.before.before.before.before.args.row.now c.before.before.before.before.before.before.before.before.before.before.before.before.args.base.now c.before.before.if2.guess c.compare.result
+told c = let p = c.before.before.before.before.before.before.before.before.before.before.before.before.requires in tells p.1.0 (row-facts p.0.well_formed p.1.0.row_base) _ _ (come-to c.before.before).derived _ c.compare.ensures
 
 -- the conflict at it, where it does not fit
-clash : (c : tie.After-conflict invariant-loop decreases-loop) → Conflict (programIn c.before.before.before.before.before.before.before.before.before.before.before.before.before.before.args.tables.now) c.before.before.before.before.before.before.before.before.before.before.before.before.before.before.args.row.now c.before.before.before.before.before.before.before.before.before.before.before.before.before.before.args.base.now c.before.before.before.before.if2.guess c.conflict.given.0.0
-clash c = conflict c.before.before.before.before.before.before.before.before.before.before.before.before.before.before.requires.1.0 (omega (arith, end_of (length c.before.before.before.before.before.before.before.before.before.before.before.before.before.before.args.row.now) c.before.before.before.before.before.before.before.before.before.before.before.before.before.before.requires.1.0.row-base.few, (come-to c.before.before.before.before).inside)) _ (told c.before.before) c.conflict.given.1
+clash : (c : tie.After-conflict invariant-loop decreases-loop) → Conflict (program_in c.before.before.before.before.before.before.before.before.before.before.before.before.before.before.args.tables.now) c.before.before.before.before.before.before.before.before.before.before.before.before.before.before.args.row.now c.before.before.before.before.before.before.before.before.before.before.before.before.before.before.args.base.now c.before.before.before.before.if2.guess c.conflict.given.0.0
+clash c = conflict c.before.before.before.before.before.before.before.before.before.before.before.before.before.before.requires.1.0 (omega (arith, end_of (length c.before.before.before.before.before.before.before.before.before.before.before.before.before.before.args.row.now) c.before.before.before.before.before.before.before.before.before.before.before.before.before.before.requires.1.0.row_base.few, (come-to c.before.before.before.before).inside)) _ (told c.before.before) c.conflict.given.1
 
 returns : tie.Need-returns invariant-loop decreases-loop
 returns c = ends c.before.before.before.before.before.before.before.before.before.requires.1.0 (at-hand c.before) _ c.if1.true
 
 descend-requires : tie.Need-descend-requires invariant-loop decreases-loop
-descend-requires c κs = let p = c.before.before.before.before.before.before.before.before.before.before.before.requires in (p.0, (p.1.0, omega (arith, end_of (length c.before.before.before.before.before.before.before.before.before.before.before.args.row.now) p.1.0.row-base.few, c.before.before.if1.false)))
+descend-requires c κs = let p = c.before.before.before.before.before.before.before.before.before.before.before.requires in (p.0, (p.1.0, omega (arith, end_of (length c.before.before.before.before.before.before.before.before.before.before.before.args.row.now) p.1.0.row_base.few, c.before.before.if1.false)))
 
 compare-requires : tie.Need-compare-requires invariant-loop decreases-loop
-compare-requires c κs = let p = c.before.before.before.before.before.before.before.before.before.before.before.requires in (p.1.0.row-base.few, row-facts p.0.well-formed p.1.0.row-base)
+compare-requires c κs = let p = c.before.before.before.before.before.before.before.before.before.before.before.requires in (p.1.0.row_base.few, row-facts p.0.well_formed p.1.0.row_base)
 
 enum_told : tie.Need-enum-told invariant-loop decreases-loop
 enum_told c = search rules

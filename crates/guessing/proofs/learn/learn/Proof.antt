@@ -2,7 +2,7 @@
 use native.Mathlib.Omega.{arith}
 use mathlib.Core.Path.{sym, ◌∙◌}
 use borrow.Author.Rules.{rules}
-use Rattle.guessing.proofs.ConflictRefutes.{nogood-above, nogood-within, settled-out, settled-in}
+use Rattle.guessing.proofs.ConflictRefutes.{nogood_above, nogood_within, settled_out, settled_in}
 use Rattle.guessing.proofs.learn.learn.Statement.{statement}
 use Rattle.guessing.proofs.learn.learn.Tie as tie
 
@@ -23,24 +23,24 @@ returns c =
     let p = c.before.before.before.before.before.requires.1 in
     let w = c.before.before.before.widen.ensures in
     let inside = sym c.before.before.has-bit.ensures ∙ c.before.if1.true in
-    (nogood-above p.0 p.1.1 _ _ w inside, settled-out p.0 p.1.1 _ _ w inside c.if2.true)
+    (nogood_above p.0 p.1.1 _ _ w inside, settled_out p.0 p.1.1 _ _ w inside c.if2.true)
 
 returns-2 : tie.Need-returns-2
 returns-2 c =
     let p = c.before.before.before.before.before.requires.1 in
-    (nogood-above p.0 p.1.1 _ _ c.before.before.before.widen.ensures (sym c.before.before.has-bit.ensures ∙ c.before.if1.true), p.1.1)
+    (nogood_above p.0 p.1.1 _ _ c.before.before.before.widen.ensures (sym c.before.before.has-bit.ensures ∙ c.before.if1.true), p.1.1)
 
 returns-3 : tie.Need-returns-3
 returns-3 c =
     let p = c.before.before.before.before.before.requires.1 in
     let w = c.before.before.before.widen.ensures in
     let out = sym c.before.before.has-bit.ensures ∙ c.before.if1.false in
-    (nogood-within p.0 p.1.1 _ _ w out, settled-in p.0 p.1.1 _ _ w out c.if3.true)
+    (nogood_within p.0 p.1.1 _ _ w out, settled_in p.0 p.1.1 _ _ w out c.if3.true)
 
 returns-4 : tie.Need-returns-4
 returns-4 c =
     let p = c.before.before.before.before.before.requires.1 in
-    (nogood-within p.0 p.1.1 _ _ c.before.before.before.widen.ensures (sym c.before.before.has-bit.ensures ∙ c.before.if1.false), p.1.1)
+    (nogood_within p.0 p.1.1 _ _ c.before.before.before.widen.ensures (sym c.before.before.has-bit.ensures ∙ c.before.if1.false), p.1.1)
 
 pub learn-spec : {M : Type 1} → statement M
 learn-spec =

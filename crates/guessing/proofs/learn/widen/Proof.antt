@@ -2,13 +2,13 @@
 use Prim.Native.Nat.{◌-◌}
 use native.Mathlib.Omega.{arith}
 use lib.ListN.{length}
-use Rattle.tables.specs.Layout.{programIn}
+use Rattle.tables.specs.Layout.{program_in}
 use Rattle.guessing.specs.Guessing.{Conflict}
 use Rattle.guessing.proofs.learn.widen.Statement.{statement}
 use Rattle.guessing.proofs.learn.widen.Tie as tie
 
 abbrev invariant-loop : tie.invariant-loop
-invariant-loop tables index row base missing guess conflict free wide₀ place₀ wide place = Conflict (programIn tables) row base wide conflict
+invariant-loop tables index row base missing guess conflict free wide₀ place₀ wide place = Conflict (program_in tables) row base wide conflict
 
 abbrev decreases-loop : tie.decreases-loop
 decreases-loop tables index row base missing guess conflict free wide₀ place₀ wide place = length row - place
@@ -17,7 +17,7 @@ loop-holds : tie.Need-loop-init invariant-loop decreases-loop
 loop-holds c = c.before.requires.1.1
 
 has-bit-requires : tie.Need-has-bit-requires invariant-loop decreases-loop
-has-bit-requires c κs = omega (arith, c.before.before.before.requires.1.0.row-base.few)
+has-bit-requires c κs = omega (arith, c.before.before.before.requires.1.0.row_base.few)
 
 add-place : tie.Need-overflow-add-place invariant-loop decreases-loop
 add-place c = record { fits = omega arith }

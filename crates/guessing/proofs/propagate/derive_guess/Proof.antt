@@ -3,7 +3,7 @@ use native.Mathlib.Omega.{arith}
 use mathlib.Core.Path.{sym}
 use borrow.Author.Rules.{rules}
 use lib.Seq.{length-take-le}
-use Rattle.guessing.proofs.GuessDerived.{left-facts, guess-derived}
+use Rattle.guessing.proofs.GuessDerived.{left-facts, guess_derived}
 use Rattle.guessing.proofs.propagate.derive_guess.Statement.{statement}
 use Rattle.guessing.proofs.propagate.derive_guess.Tie as tie
 
@@ -20,7 +20,7 @@ hold-out-requires c κs =
 
 returns : tie.Need-returns
 returns c =
-    guess-derived c.before.before.before.before.before.before.before.before.before.before.before.requires.0 c.before.before.before.before.before.before.before.before.before.before.before.requires.1 _ _ _ _ _ c.before.before.before.before.before.before.before.before.list-out.ensures.1 (slice-aggregate-hold-out c.before.before.before) c.hold-out.ensures.0 c.hold-out.ensures.1
+    guess_derived c.before.before.before.before.before.before.before.before.before.before.before.requires.0 c.before.before.before.before.before.before.before.before.before.before.before.requires.1 _ _ _ _ _ c.before.before.before.before.before.before.before.before.list-out.ensures.1 (slice-aggregate-hold-out c.before.before.before) c.hold-out.ensures.0 c.hold-out.ensures.1
 
 pub derive-guess-spec : {M : Type 1} → statement M
 derive-guess-spec =

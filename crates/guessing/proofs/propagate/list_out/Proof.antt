@@ -1,7 +1,7 @@
 -- `list_out`: the facts of the places from the highest down are passed or listed.
 use native.Mathlib.Omega.{arith}
 use mathlib.Core.Path.{sym, ◌∙◌}
-use Rattle.guessing.proofs.OutsListed.{Listing, none-listed, passed, one-listed, all_listed}
+use Rattle.guessing.proofs.OutsListed.{Listing, none_listed, passed, one_listed, all_listed}
 use Rattle.guessing.proofs.propagate.list_out.Statement.{statement}
 use Rattle.guessing.proofs.propagate.list_out.Tie as tie
 
@@ -12,7 +12,7 @@ abbrev decreases-loop : tie.decreases-loop
 decreases-loop row guess outs₀ n₀ place₀ outs n place = place
 
 loop-holds : tie.Need-loop-init invariant-loop decreases-loop
-loop-holds c = none-listed _ _ _ c.before.requires.1
+loop-holds c = none_listed _ _ _ c.before.requires.1
 
 sub-place : tie.Need-overflow-sub-place invariant-loop decreases-loop
 sub-place c = omega arith
@@ -51,7 +51,7 @@ loop-less-2 : tie.Need-loop-smaller-2 invariant-loop decreases-loop
 loop-less-2 c = omega arith
 
 loop-again-2 : tie.Need-loop-preserved-2 invariant-loop decreases-loop
-loop-again-2 c = one-listed _ _ _ _ _ (omega arith) c.before.before.before.before.loop.invariant (omega arith) (sym c.before.before.has-bit.ensures ∙ c.before.if1.false)
+loop-again-2 c = one_listed _ _ _ _ _ (omega arith) c.before.before.before.before.loop.invariant (omega arith) (sym c.before.before.has-bit.ensures ∙ c.before.if1.false)
 
 returns : tie.Need-returns invariant-loop decreases-loop
 returns c = all_listed _ _ _ _ _ (omega arith) c.before.loop.invariant (omega arith)

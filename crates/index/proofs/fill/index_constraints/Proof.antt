@@ -4,18 +4,18 @@ use mathlib.Core.Path.{ap, ◌∙◌}
 use mathlib.Core.List.{map}
 use mathlib.Core.Logic.{⊎_elim}
 use native.Mathlib.Omega.{arith}
-use Rattle.bits.specs.Flags.{rowWords}
-use Rattle.tables.specs.Layout.{constraintAt}
+use Rattle.bits.specs.Flags.{row_words}
+use Rattle.tables.specs.Layout.{constraint_at}
 use Rattle.tables.proofs.ProgramHeld.{facts_below, rules-below}
-use Rattle.premises.proofs.PremisesEntered.{Entering, none-entered, one-new, one_again, all-entered}
+use Rattle.premises.proofs.PremisesEntered.{Entering, none_entered, one_new, one_again, all-entered}
 use Rattle.index.specs.Literal.{outside, literals}
-use Rattle.index.specs.Cells.{marksFrom}
+use Rattle.index.specs.Cells.{marks_from}
 use Rattle.index.proofs.MappedElements.{span-map}
 use Rattle.index.proofs.fill.index_constraints.Statement.{statement}
 use Rattle.index.proofs.fill.index_constraints.Tie as tie
 
 abbrev invariant-loop : tie.invariant-loop
-invariant-loop tables index₀ place end distinct₀ at₀ index distinct at = Entering literals marksFrom (λ j. outside (constraintAt tables j)) place at₀ end index₀ index distinct at
+invariant-loop tables index₀ place end distinct₀ at₀ index distinct at = Entering literals marks_from (λ j. outside (constraint_at tables j)) place at₀ end index₀ index distinct at
 
 abbrev decreases-loop : tie.decreases-loop
 decreases-loop tables index₀ place end distinct₀ at₀ index distinct at = end - at
@@ -24,7 +24,7 @@ decreases-loop tables index₀ place end distinct₀ at₀ index distinct at = e
 small : (c : tie.After-constraint-at invariant-loop decreases-loop) → outside c.constraint-at.result < literals
 small c = omega (arith, c.constraint-at.ensures, c.before.before.before.constraint-span.ensures.facts_below _ c.before.before.loop.invariant.reached c.before.loop-test.true, facts_below c.before.before.before.before.before.requires.0)
 
-front : (c : tie.After-constraint-at invariant-loop decreases-loop) → outside c.constraint-at.result * rowWords + rowWords ≤ marksFrom
+front : (c : tie.After-constraint-at invariant-loop decreases-loop) → outside c.constraint-at.result * row_words + row_words ≤ marks_from
 front c = omega (arith, small c)
 
 cast-place : tie.Need-overflow-cast-place invariant-loop decreases-loop
@@ -34,7 +34,7 @@ constraint-span-requires : tie.Need-constraint-span-requires invariant-loop decr
 constraint-span-requires c κs = c.before.requires
 
 loop-holds : tie.Need-loop-init invariant-loop decreases-loop
-loop-holds c = none-entered _ _ c.constraint-span.ensures.low _ _
+loop-holds c = none_entered _ _ c.constraint-span.ensures.low _ _
 
 constraint-at-requires : tie.Need-constraint-at-requires invariant-loop decreases-loop
 constraint-at-requires c κs = omega (arith, c.before.before.constraint-span.ensures.high)
@@ -57,8 +57,8 @@ loop-less c = omega arith
 loop-again : tie.Need-loop-preserved invariant-loop decreases-loop
 loop-again c =
     ⊎_elim
-    (λ w. rw w.1 (one-new c.before.before.before.before.before.loop.invariant c.before.before.before.before.loop-test.true _ (ap outside c.before.before.before.constraint-at.ensures) (small c.before.before.before) (front c.before.before.before) _ _ c.before.mark-in.ensures.0 c.before.mark-in.ensures.1 w.0.taken))
-    (λ w. rw w.1 (one_again c.before.before.before.before.before.loop.invariant c.before.before.before.before.loop-test.true _ (ap outside c.before.before.before.constraint-at.ensures) (small c.before.before.before) (front c.before.before.before) _ _ c.before.mark-in.ensures.0 c.before.mark-in.ensures.1 w.0.left))
+    (λ w. rw w.1 (one_new c.before.before.before.before.before.loop.invariant c.before.before.before.before.loop-test.true _ (ap outside c.before.before.before.constraint-at.ensures) (small c.before.before.before) (front c.before.before.before) _ _ c.before.mark_in.ensures.0 c.before.mark_in.ensures.1 w.0.taken))
+    (λ w. rw w.1 (one_again c.before.before.before.before.before.loop.invariant c.before.before.before.before.loop-test.true _ (ap outside c.before.before.before.constraint-at.ensures) (small c.before.before.before) (front c.before.before.before) _ _ c.before.mark_in.ensures.0 c.before.mark_in.ensures.1 w.0.left))
     c.if1.branch
 
 returns : tie.Need-returns invariant-loop decreases-loop
@@ -67,7 +67,7 @@ returns c =
     let span = c.before.before.constraint-span.ensures in (
       omega (arith, w.few, w.inside, span.high),
       (
-        λ q xs before out e. all-entered w c.loop-test.false _ (ap (map outside) span.is ∙ span-map outside (constraintAt c.before.before.before.before.args.tables.now) c.before.before.constraint-span.result.from c.before.before.constraint-span.result.end) literals literals q xs before (omega arith) (omega arith) (λ j. out _) e,
+        λ q xs before out e. all-entered w c.loop-test.false _ (ap (map outside) span.is ∙ span-map outside (constraint_at c.before.before.before.before.args.tables.now) c.before.before.constraint-span.result.from c.before.before.constraint-span.result.end) literals literals q xs before (omega arith) (omega arith) (λ j. out _) e,
         w.kept,
       ),
     )

@@ -5,29 +5,29 @@ use native.Mathlib.Omega.{arith}
 use borrow.Author.Rules.{rules}
 use borrow.Author.Tests.{not-true, not-false}
 use Rattle.theory.specs.Rule.{count}
-use Rattle.items.specs.Item.{maxRules}
-use Rattle.tables.specs.Layout.{programIn}
+use Rattle.items.specs.Item.{max_rules}
+use Rattle.tables.specs.Layout.{program_in}
 use Rattle.tables.proofs.ProgramHeld.{facts_below, rules-below}
 use Rattle.index.specs.Literal.{literals}
-use Rattle.index.specs.Index.{inForceBut}
-use Rattle.index.proofs.RulesIndexed.{Indexing, none_passed, none-there, rule-off, rule-on, all-left-out, all-indexed, all-sized}
+use Rattle.index.specs.Index.{in_force_but}
+use Rattle.index.proofs.RulesIndexed.{Indexing, none_passed, none_there, rule-off, rule-on, all-left_out, all-indexed, all-sized}
 use Rattle.index.proofs.fill.index_rules.Statement.{statement}
 use Rattle.index.proofs.fill.index_rules.Tie as tie
 
 abbrev invariant-loop : tie.invariant-loop
-invariant-loop tables off index₀ missing₀ rules i₀ index missing i = Indexing (programIn tables) (inForceBut (programIn tables) off) index missing i
+invariant-loop tables off index₀ missing₀ rules i₀ index missing i = Indexing (program_in tables) (in_force_but (program_in tables) off) index missing i
 
 abbrev decreases-loop : tie.decreases-loop
 decreases-loop tables off index₀ missing₀ rules i₀ index missing i = rules - i
 
 -- the rule is one of the program
-known : (c : tie.In-loop invariant-loop decreases-loop) → c.before.loop.i < count (programIn c.before.before.before.args.tables.now)
+known : (c : tie.In-loop invariant-loop decreases-loop) → c.before.loop.i < count (program_in c.before.before.before.args.tables.now)
 known c = omega (arith, c.loop-test.true, c.before.before.rules-of.ensures)
 
-inside : (c : tie.In-loop invariant-loop decreases-loop) → c.before.loop.i < maxRules
+inside : (c : tie.In-loop invariant-loop decreases-loop) → c.before.loop.i < max_rules
 inside c = omega (arith, known c, rules-below c.before.before.before.requires.0)
 
-all-passed : (c : tie.After-loop invariant-loop decreases-loop) → count (programIn c.before.before.before.args.tables.now) ≤ c.before.loop.i
+all-passed : (c : tie.After-loop invariant-loop decreases-loop) → count (program_in c.before.before.before.args.tables.now) ≤ c.before.loop.i
 all-passed c = omega (arith, c.loop-test.false, c.before.before.rules-of.ensures)
 
 rules-of-requires : tie.Need-rules-of-requires invariant-loop decreases-loop
@@ -92,21 +92,21 @@ loop-less-2 c = omega arith
 
 loop-again-2 : tie.Need-loop-preserved-2 invariant-loop decreases-loop
 loop-again-2 c =
-    let well-formed = c.before.before.before.before.before.before.before.before.before.requires.0 in
-    let few = rules-below well-formed in
+    let well_formed = c.before.before.before.before.before.before.before.before.before.requires.0 in
+    let few = rules-below well_formed in
     let w = c.before.before.before.before.before.before.before.loop.invariant in
-    let free = none-there few w (known c.before.before.before.before.before.before) in
+    let free = none_there few w (known c.before.before.before.before.before.before) in
     let premises = c.before.before.index-rule.ensures.1 in
     let constraints = c.index-constraints.ensures.1 in
     rule-on few w (known c.before.before.before.before.before.before) (not-false _ (sym c.before.before.before.before.before.is-left-out.ensures ∙ c.before.before.before.before.if1.false)) _ _ premises.1 constraints.1 _
-    (constraints.0 _ _ _ free (premises.0 literals literals _ (omega (arith, facts_below well-formed)) (omega arith) w.rows free))
+    (constraints.0 _ _ _ free (premises.0 literals literals _ (omega (arith, facts_below well_formed)) (omega arith) w.rows free))
 
 returns : tie.Need-returns invariant-loop decreases-loop
 returns c =
     let off = c.before.before.before.args.off.now in
     let w = c.before.loop.invariant in
     let passed = all-passed c in
-    (all-indexed off w passed (rules-below c.before.before.before.requires.0), (all-left-out off w passed, all-sized off w passed))
+    (all-indexed off w passed (rules-below c.before.before.before.requires.0), (all-left_out off w passed, all-sized off w passed))
 
 pub index-rules-spec : {M : Type 1} → statement M
 index-rules-spec =

@@ -1,7 +1,7 @@
 -- `rule_field`: the high byte stands first.
 use Prim.Native.Nat.{◌+◌}
 use native.Mathlib.Omega.{arith}
-use Rattle.items.proofs.Bodies.{rule-field-at}
+use Rattle.items.proofs.Bodies.{rule-field_at}
 use borrow.Author.Rules.{rules}
 use Rattle.items.proofs.item.rule_field.Statement.{statement}
 use Rattle.items.proofs.item.rule_field.Tie as tie
@@ -28,7 +28,7 @@ add-result-2 : tie.Need-overflow-add-result-2
 add-result-2 c = omega (arith, c.before.shared-slice-known.given c.before.before.args.at, c.shared-slice-known2.given (c.before.before.args.at + 1))
 
 returns : tie.Need-returns
-returns c = rule-field-at _ _ c.before.before.requires
+returns c = rule-field_at _ _ c.before.before.requires
 
 pub rule-field-spec : {M : Type 1} → statement M
 rule-field-spec =

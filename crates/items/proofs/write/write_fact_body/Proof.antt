@@ -4,7 +4,7 @@ use native.Mathlib.Numerals.{add-one}
 use mathlib.Core.List.{◌∷◌}
 use lib.ListN.{length-set}
 use Rattle.items.specs.Item.{narrow}
-use Rattle.items.specs.Write.{factField}
+use Rattle.items.specs.Write.{fact_field}
 use Rattle.items.proofs.PlacedBytes.{stored}
 use borrow.Author.Rules.{rules}
 use Rattle.items.proofs.write.write_fact_body.Statement.{statement}
@@ -28,7 +28,7 @@ same_length c = search rules
 returns : tie.Need-returns
 returns c =
     let a = c.args in
-    rw add-one (stored (a.kind ∷ factField narrow a.number) a.out.now a.at c.requires.1)
+    rw add-one (stored (a.kind ∷ fact_field narrow a.number) a.out.now a.at c.requires.1)
 
 pub write-fact-body-spec : {M : Type 1} → statement M
 write-fact-body-spec =

@@ -3,7 +3,7 @@ use native.Mathlib.Omega.{arith}
 use native.Mathlib.Numerals.{add-one, add-two}
 use lib.ListN.{length-set}
 use mathlib.Core.List.{◌∷◌}
-use Rattle.items.specs.Write.{ruleField}
+use Rattle.items.specs.Write.{rule_field}
 use Rattle.items.proofs.PlacedBytes.{stored}
 use borrow.Author.Rules.{rules}
 use Rattle.items.proofs.write.write_rule_body.Statement.{statement}
@@ -36,7 +36,7 @@ same_length c = search rules
 returns : tie.Need-returns
 returns c =
     let a = c.args in
-    rw (add-one, add-two) (stored (a.kind ∷ ruleField a.number) a.out.now a.at c.requires)
+    rw (add-one, add-two) (stored (a.kind ∷ rule_field a.number) a.out.now a.at c.requires)
 
 pub write-rule-body-spec : {M : Type 1} → statement M
 write-rule-body-spec =

@@ -2,7 +2,7 @@
 use native.Mathlib.Omega.{arith}
 use native.Mathlib.Numerals.{add-one, add-two, add-three}
 use lib.ListN.{length-set}
-use Rattle.items.specs.Write.{stepItem}
+use Rattle.items.specs.Write.{step_item}
 use Rattle.items.proofs.PlacedBytes.{stored}
 use borrow.Author.Rules.{rules}
 use Rattle.items.proofs.write.write_step_item.Statement.{statement}
@@ -45,7 +45,7 @@ same_length c = search rules
 returns : tie.Need-returns
 returns c =
     let a = c.before.args in
-    rw (add-one, add-two, add-three) (stored (stepItem narrow a.fact.0 a.rule.0) a.out.now a.at c.before.requires.1)
+    rw (add-one, add-two, add-three) (stored (step_item narrow a.fact.0 a.rule.0) a.out.now a.at c.before.requires.1)
 
 pub write-step-item-spec : {M : Type 1} → statement M
 write-step-item-spec =

@@ -1,7 +1,7 @@
 -- `is_stable`: the index of the rules that are not listed, what is derived with the absent facts held out, and whether the two sets have the same facts.
 use mathlib.Core.Path.{◌∙◌}
 use native.Mathlib.Omega.{arith}
-use Rattle.tables.specs.Layout.{programIn}
+use Rattle.tables.specs.Layout.{program_in}
 use Rattle.tables.proofs.ProgramHeld.{facts_below}
 use Rattle.judge.proofs.LeastTested.{tested}
 use borrow.Author.Rules.{rules}
@@ -32,8 +32,8 @@ same-facts-requires c κs = search rules
 returns : tie.Need-returns
 returns c =
     let w = c.before.before.before.before.before.before.before.before.before.before.before.before.before.before.before.requires.0 in
-    c.same-facts.ensures
-    ∙ tested (programIn c.before.before.before.before.before.before.before.before.before.before.before.before.before.before.before.args.tables.now) w.in_bounds (omega (arith, facts_below w)) c.before.before.before.before.before.before.before.before.before.before.before.index-rules.new.1.1.0 c.before.before.before.before.before.before.before.before.before.before.before.before.before.before.before.args.set.now c.before.before.before.before.before.before.before.hold-none.new.1.1.0 c.before.before.before.hold-absent.new.1.1.1.0 c.before.before.before.hold-absent.new.1.1.1.1.0 c.before.before.before.hold-absent.ensures.0 c.before.before.before.before.before.before.before.hold-none.ensures.1 c.before.before.before.hold-absent.ensures.1 _ c.before.before.before.before.before.before.before.before.before.before.before.index-rules.ensures.1.0 _ c.before.before.facts-of.ensures
+    c.same_facts.ensures
+    ∙ tested (program_in c.before.before.before.before.before.before.before.before.before.before.before.before.before.before.before.args.tables.now) w.in_bounds (omega (arith, facts_below w)) c.before.before.before.before.before.before.before.before.before.before.before.index-rules.new.1.1.0 c.before.before.before.before.before.before.before.before.before.before.before.before.before.before.before.args.set.now c.before.before.before.before.before.before.before.hold-none.new.1.1.0 c.before.before.before.hold-absent.new.1.1.1.0 c.before.before.before.hold-absent.new.1.1.1.1.0 c.before.before.before.hold-absent.ensures.0 c.before.before.before.before.before.before.before.hold-none.ensures.1 c.before.before.before.hold-absent.ensures.1 _ c.before.before.before.before.before.before.before.before.before.before.before.index-rules.ensures.1.0 _ c.before.before.facts-of.ensures
 
 pub is-stable-spec : {M : Type 1} → statement M
 is-stable-spec =

@@ -7,7 +7,7 @@ use native.Mathlib.Omega.{arith}
 use borrow.Author.Tests.{not-true, not-false}
 use Rattle.theory.specs.Rule.{range}
 use Rattle.items.specs.Item.{has}
-use Rattle.theory.proofs.ListWalks.{Decides, whole-decides, not_tested, all_pass, one-fails, one_passes}
+use Rattle.theory.proofs.ListWalks.{Decides, whole-decides, not_tested, all_pass, one_fails, one_passes}
 use Rattle.theory.proofs.Lists.{range_all, range_cons, range-end}
 use Rattle.judge.proofs.stable.same_facts.Statement.{statement}
 use Rattle.judge.proofs.stable.same_facts.Tie as tie
@@ -19,8 +19,8 @@ abbrev decreases-loop : tie.decreases-loop
 decreases-loop a b facts f₀ f = facts - f
 
 -- what the comparison of the two answers tells
-compared : (c : tie.After-in-set2 invariant-loop decreases-loop) (t : Bool) → beq c.before.in-set.result c.in-set2.result ≡ t → beq (has c.before.before.before.before.before.before.args.a.now c.before.before.before.loop.f) (has c.before.before.before.before.before.before.args.b.now c.before.before.before.loop.f) ≡ t
-compared c t q = ap₂ beq (sym c.before.in-set.ensures) (sym c.in-set2.ensures) ∙ q
+compared : (c : tie.After-in-set2 invariant-loop decreases-loop) (t : Bool) → beq c.before.in_set.result c.in-set2.result ≡ t → beq (has c.before.before.before.before.before.before.args.a.now c.before.before.before.loop.f) (has c.before.before.before.before.before.before.args.b.now c.before.before.before.loop.f) ≡ t
+compared c t q = ap₂ beq (sym c.before.in_set.ensures) (sym c.in-set2.ensures) ∙ q
 
 loop-holds : tie.Need-loop-init invariant-loop decreases-loop
 loop-holds c = (omega arith, not_tested (whole-decides _ _) _ (range_all c.before.before.args.facts))
@@ -32,7 +32,7 @@ in-set-requires-2 : tie.Need-in-set-requires-2 invariant-loop decreases-loop
 in-set-requires-2 c κs = search rules
 
 returns : tie.Need-returns invariant-loop decreases-loop
-returns c = one-fails c.before.before.before.before.loop.invariant.1 _ _ (range_cons _ _ c.before.before.before.loop-test.true) (compared c.before _ (not-true _ c.if1.true))
+returns c = one_fails c.before.before.before.before.loop.invariant.1 _ _ (range_cons _ _ c.before.before.before.loop-test.true) (compared c.before _ (not-true _ c.if1.true))
 
 add-f : tie.Need-overflow-add-f invariant-loop decreases-loop
 add-f c = search rules

@@ -7,12 +7,12 @@ use borrow.Author.Tests.{eq-eqb}
 use borrow.Fn.Kinds.{In}
 use borrow.Fn.PlainCycle.{Measures, is, falls, and}
 use lib.ListN.{length-set}
-use Rattle.items.specs.Item.{narrow, maxFacts, has}
-use Rattle.tables.specs.Layout.{premiseAt, programIn}
+use Rattle.items.specs.Item.{narrow, max_facts, has}
+use Rattle.tables.specs.Layout.{premise_at, program_in}
 use Rattle.tables.proofs.ProgramHeld.{facts_below}
-use Rattle.kept_steps.specs.Keep.{stepsBy, place_of}
-use Rattle.kept_steps.proofs.StepsPlaced.{rule-known, span-placed}
-use Rattle.kept_steps.proofs.KeepLaws.{kept-already, new-kept, Asking, none_kept, one_kept, all-kept}
+use Rattle.kept_steps.specs.Keep.{steps_by, place_of}
+use Rattle.kept_steps.proofs.StepsPlaced.{rule_known, span-placed}
+use Rattle.kept_steps.proofs.KeepLaws.{kept-already, new_kept, Asking, none_kept, one_kept, all-kept}
 use Rattle.kept_steps.proofs.keep.keep_premises.Reads as keep-premises
 use Rattle.kept_steps.proofs.keep.keep_premises.Kinds as keep-premises-kinds
 use Rattle.kept_steps.proofs.keep.+keep_premises_keep_step.Lts-keep_premises as keep-premises-lts
@@ -61,13 +61,13 @@ calls t = (
 )
 
 abbrev keep-premises-Inv-loop : keep-premises-lts.invariant-loop
-keep-premises-Inv-loop tables row places k kept₀ end place₀ kept place = Asking (programIn tables) (stepsBy (programIn tables) row) places (premiseAt tables) place₀ end kept₀ kept place
+keep-premises-Inv-loop tables row places k kept₀ end place₀ kept place = Asking (program_in tables) (steps_by (program_in tables) row) places (premise_at tables) place₀ end kept₀ kept place
 
 abbrev keep-premises-μ-loop : keep-premises-lts.decreases-loop
 keep-premises-μ-loop tables row places k kept₀ end place₀ kept place = end - place
 
 -- a premise is one of the facts, and its step stands before
-fact-inside : (t : ℕ) (c : keep-premises-lts.After-premise-at (calls t) (keep-premises-at t) keep-premises.Post keep-premises-Inv-loop keep-premises-μ-loop) → c.premise-at.result < maxFacts narrow
+fact-inside : (t : ℕ) (c : keep-premises-lts.After-premise-at (calls t) (keep-premises-at t) keep-premises.Post keep-premises-Inv-loop keep-premises-μ-loop) → c.premise-at.result < max_facts narrow
 fact-inside t c =
     omega
     (arith, c.premise-at.ensures, c.before.before.before.premise-span.ensures.facts_below _ c.before.before.loop.invariant.reached c.before.loop-test.true, facts_below c.before.before.before.before.before.before.requires.1.0)
@@ -84,7 +84,7 @@ keep-premises-shared-slice-read-t13 : (t : ℕ) → keep-premises-lts.Need-share
 keep-premises-shared-slice-read-t13 t c = omega arith
 
 keep-premises-premise-span-requires : (t : ℕ) → keep-premises-lts.Need-premise-span-requires (calls t) (keep-premises-at t) keep-premises.Post keep-premises-Inv-loop keep-premises-μ-loop
-keep-premises-premise-span-requires t c κs = (c.before.before.requires.1.0, rule-known _ c.before.before.args.row.now c.before.before.requires.1.1.traced _ c.before.before.requires.1.1.inside)
+keep-premises-premise-span-requires t c κs = (c.before.before.requires.1.0, rule_known _ c.before.before.args.row.now c.before.before.requires.1.1.traced _ c.before.before.requires.1.1.inside)
 
 keep-premises-loop-holds : (t : ℕ) → keep-premises-lts.Need-loop-init (calls t) (keep-premises-at t) keep-premises.Post keep-premises-Inv-loop keep-premises-μ-loop
 keep-premises-loop-holds t c = none_kept _ _ _ _ _ _ _ c.premise-span.ensures.low c.before.before.before.requires.1.1.cells
@@ -141,7 +141,7 @@ keep-step-keep-premises-requires t c κs =
     )
 
 keep-step-returns : (t : ℕ) → keep-step-lts.Need-returns (keep-premises-below t, keep-premises.Post) (keep-step-at t) keep-step.Post
-keep-step-returns t c = (new-kept c.before.before.before.args.row.now c.before.before.before.args.kept.now c.before.before.before.requires.1.1.traced c.before.before.before.requires.1.1.placed c.before.before.before.requires.1.1.inside (omega (arith, c.before.before.before.requires.1.1.few, c.before.before.before.requires.1.1.cells)) c.keep-premises.ensures.0, c.keep-premises.ensures.1)
+keep-step-returns t c = (new_kept c.before.before.before.args.row.now c.before.before.before.args.kept.now c.before.before.before.requires.1.1.traced c.before.before.before.requires.1.1.placed c.before.before.before.requires.1.1.inside (omega (arith, c.before.before.before.requires.1.1.few, c.before.before.before.requires.1.1.cells)) c.keep-premises.ensures.0, c.keep-premises.ensures.1)
 
 pub +keep-premises-keep-step-spec : {M : Type 1} → statement M
 +keep-premises-keep-step-spec = close μ-keep-premises μ-keep-step (λ t. keep-premises-lts.spec

@@ -4,11 +4,11 @@ use mathlib.Core.Path.{refl}
 use native.Mathlib.Omega.{arith}
 use borrow.Author.Rules.{rules}
 use lib.ListN.{length}
-use Rattle.items.specs.Item.{narrow, maxFacts}
+use Rattle.items.specs.Item.{narrow, max_facts}
 use Rattle.kept_steps.specs.Keep.{place_of}
 use Rattle.kept_steps.proofs.StepsPlaced.{own-few, own-placed}
 use Rattle.kept_steps.proofs.KeepLaws.{kept_for}
-use Rattle.kept_steps.proofs.StepsRetained.{grounds-kept, rules-kept}
+use Rattle.kept_steps.proofs.StepsRetained.{grounds_kept, rules-kept}
 use Rattle.kept_steps.proofs.keep.keep_grounds.Statement.{statement}
 use Rattle.kept_steps.proofs.keep.keep_grounds.Tie as tie
 
@@ -41,8 +41,8 @@ retain-requires c κs = search rules
 
 returns : tie.Need-returns
 returns c =
-    let kept = kept_for (maxFacts narrow) c.before.before.before.before.before.before.before.before.before.before.requires.1.1.0 c.before.before.before.before.before.before.before.place-steps.ensures c.before.before.before.before.before.before.before.before.before.before.requires.1.1.1 c.before.before.before.keep-step.ensures.0 in
-    (grounds-kept c.before.before.before.before.before.before.before.before.before.before.args.row.now c.before.before.before.before.before.before.before.before.before.before.requires.1.1.0 kept c.retain.new.1.1.0 c.retain.result c.retain.ensures.0, (c.retain.ensures.1, rules-kept c.before.before.before.before.before.before.before.before.before.before.args.row.now c.before.before.before.before.before.before.before.before.before.before.requires.1.1.0 kept c.retain.new.1.1.0 c.retain.result c.retain.ensures.0 (omega (arith, c.retain.ensures.1.0, c.retain.ensures.1.1, c.before.before.before.before.before.before.before.before.before.before.requires.1.0.0))))
+    let kept = kept_for (max_facts narrow) c.before.before.before.before.before.before.before.before.before.before.requires.1.1.0 c.before.before.before.before.before.before.before.place-steps.ensures c.before.before.before.before.before.before.before.before.before.before.requires.1.1.1 c.before.before.before.keep-step.ensures.0 in
+    (grounds_kept c.before.before.before.before.before.before.before.before.before.before.args.row.now c.before.before.before.before.before.before.before.before.before.before.requires.1.1.0 kept c.retain.new.1.1.0 c.retain.result c.retain.ensures.0, (c.retain.ensures.1, rules-kept c.before.before.before.before.before.before.before.before.before.before.args.row.now c.before.before.before.before.before.before.before.before.before.before.requires.1.1.0 kept c.retain.new.1.1.0 c.retain.result c.retain.ensures.0 (omega (arith, c.retain.ensures.1.0, c.retain.ensures.1.1, c.before.before.before.before.before.before.before.before.before.before.requires.1.0.0))))
 
 pub keep-grounds-spec : {M : Type 1} → statement M
 keep-grounds-spec =

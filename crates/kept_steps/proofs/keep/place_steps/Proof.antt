@@ -2,19 +2,19 @@
 use Prim.Native.Nat.{◌-◌}
 use native.Mathlib.Omega.{arith}
 use lib.ListN.{length}
-use Rattle.tables.specs.Layout.{programIn}
-use Rattle.kept_steps.proofs.StepsPlaced.{rule-known, fact-few, Placing, none-placed, one_placed, all_placed}
+use Rattle.tables.specs.Layout.{program_in}
+use Rattle.kept_steps.proofs.StepsPlaced.{rule_known, fact-few, Placing, none_placed, one_placed, all_placed}
 use Rattle.kept_steps.proofs.keep.place_steps.Statement.{statement}
 use Rattle.kept_steps.proofs.keep.place_steps.Tie as tie
 
 abbrev invariant-loop : tie.invariant-loop
-invariant-loop tables row places₀ k₀ places k = Placing (programIn tables) row places k
+invariant-loop tables row places₀ k₀ places k = Placing (program_in tables) row places k
 
 abbrev decreases-loop : tie.decreases-loop
 decreases-loop tables row places₀ k₀ places k = length row - k
 
 loop-holds : tie.Need-loop-init invariant-loop decreases-loop
-loop-holds c = none-placed _ _ _ c.before.requires.1.0.1
+loop-holds c = none_placed _ _ _ c.before.requires.1.0.1
 
 mul-places : tie.Need-overflow-mul-places invariant-loop decreases-loop
 mul-places c = omega arith
@@ -23,7 +23,7 @@ shared-slice-read-places : tie.Need-shared-slice-read-places invariant-loop decr
 shared-slice-read-places c = omega arith
 
 conclusion-requires : tie.Need-conclusion-requires invariant-loop decreases-loop
-conclusion-requires c κs = (c.before.before.before.before.requires.0, rule-known _ c.before.before.before.before.args.row.now c.before.before.before.before.requires.1.1 _ c.before.loop-test.true)
+conclusion-requires c κs = (c.before.before.before.before.requires.0, rule_known _ c.before.before.before.before.args.row.now c.before.before.before.before.requires.1.1 _ c.before.loop-test.true)
 
 cast-number : tie.Need-overflow-cast-number invariant-loop decreases-loop
 cast-number c = omega arith

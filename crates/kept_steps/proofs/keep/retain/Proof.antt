@@ -5,7 +5,7 @@ use mathlib.Core.Logic.{⊎_elim}
 use borrow.Author.Tests.{eq-eqb, ne_eqb}
 use lib.ListN.{length}
 use Rattle.items.specs.Item.{has}
-use Rattle.kept_steps.proofs.StepsRetained.{Retaining, none-retained, one-retained, not-retained, all_retained}
+use Rattle.kept_steps.proofs.StepsRetained.{Retaining, none_retained, one_retained, not-retained, all_retained}
 use Rattle.kept_steps.proofs.keep.retain.Statement.{statement}
 use Rattle.kept_steps.proofs.keep.retain.Tie as tie
 
@@ -16,7 +16,7 @@ abbrev decreases-loop : tie.decreases-loop
 decreases-loop row kept out₀ n₀ k₀ out n k = length row - k
 
 loop-holds : tie.Need-loop-init invariant-loop decreases-loop
-loop-holds c = none-retained _ _ _ c.requires.2
+loop-holds c = none_retained _ _ _ c.requires.2
 
 element-copy-out-if1 : tie.Need-element-copy-out-if1 invariant-loop decreases-loop
 element-copy-out-if1 c = omega arith
@@ -46,7 +46,7 @@ loop-again : tie.Need-loop-preserved invariant-loop decreases-loop
 unfolding has
 loop-again c =
     ⊎_elim
-    (λ w. rw (w.2, w.3) (one-retained c.before.before.before.loop.invariant c.before.before.loop-test.true c.before.before.before.before.requires.0 (eq-eqb _ _ w.0.taken)))
+    (λ w. rw (w.2, w.3) (one_retained c.before.before.before.loop.invariant c.before.before.loop-test.true c.before.before.before.before.requires.0 (eq-eqb _ _ w.0.taken)))
     (λ w. rw (w.1, w.2) (not-retained c.before.before.before.loop.invariant c.before.before.loop-test.true (ne_eqb _ _ w.0.left)))
     c.if1.branch
 

@@ -2,8 +2,8 @@
 use Prim.Native.Nat.{◌-◌}
 use native.Mathlib.Omega.{arith}
 use borrow.Author.Rules.{rules}
-use Rattle.lanes.specs.Lanes.{laneWords}
-use Rattle.lanes.proofs.LanesFit.{Unfit, none-unfit, one-unfit, first_found, none_found}
+use Rattle.lanes.specs.Lanes.{lane_words}
+use Rattle.lanes.proofs.LanesFit.{Unfit, none_unfit, one_unfit, first_found, none_found}
 use Rattle.lanes.proofs.fit.first_fit.Statement.{statement}
 use Rattle.lanes.proofs.fit.first_fit.Tie as tie
 
@@ -11,10 +11,10 @@ abbrev invariant-loop : tie.invariant-loop
 invariant-loop row derived outs w₀ w = Unfit row derived outs w
 
 abbrev decreases-loop : tie.decreases-loop
-decreases-loop row derived outs w₀ w = laneWords - w
+decreases-loop row derived outs w₀ w = lane_words - w
 
 loop-holds : tie.Need-loop-init invariant-loop decreases-loop
-loop-holds c = none-unfit _ _ _
+loop-holds c = none_unfit _ _ _
 
 fit-word-requires : tie.Need-fit-word-requires invariant-loop decreases-loop
 fit-word-requires c κs = search rules
@@ -38,7 +38,7 @@ loop-less : tie.Need-loop-smaller invariant-loop decreases-loop
 loop-less c = omega arith
 
 loop-again : tie.Need-loop-preserved invariant-loop decreases-loop
-loop-again c = one-unfit c.before.before.before.loop.invariant _ c.before.fit_word.ensures (omega (arith, c.if1.false))
+loop-again c = one_unfit c.before.before.before.loop.invariant _ c.before.fit_word.ensures (omega (arith, c.if1.false))
 
 returns-2 : tie.Need-returns-2 invariant-loop decreases-loop
 returns-2 c = none_found c.before.loop.invariant c.loop-test.false

@@ -4,8 +4,8 @@ use mathlib.Core.Path.{sym, ◌∙◌}
 use mathlib.Core.Logic.{⊎_elim}
 use native.Mathlib.Omega.{arith}
 use borrow.Author.Rules.{rules}
-use Rattle.items.specs.Item.{narrow, maxFacts}
-use Rattle.lanes.proofs.LaneMarked.{Marking, none-marked, one-marked, all-marked}
+use Rattle.items.specs.Item.{narrow, max_facts}
+use Rattle.lanes.proofs.LaneMarked.{Marking, none_marked, one_marked, all-marked}
 use Rattle.lanes.proofs.fit.mark_lane.Statement.{statement}
 use Rattle.lanes.proofs.fit.mark_lane.Tie as tie
 
@@ -13,10 +13,10 @@ abbrev invariant-loop : tie.invariant-loop
 invariant-loop derived lane found₀ word bit fact₀ found fact = Marking derived word bit found fact
 
 abbrev decreases-loop : tie.decreases-loop
-decreases-loop derived lane found₀ word bit fact₀ found fact = maxFacts narrow - fact
+decreases-loop derived lane found₀ word bit fact₀ found fact = max_facts narrow - fact
 
 loop-holds : tie.Need-loop-init invariant-loop decreases-loop
-loop-holds c = none-marked _ _ _ _ c.requires.1
+loop-holds c = none_marked _ _ _ _ c.requires.1
 
 mul-has-lane : tie.Need-overflow-mul-has-lane invariant-loop decreases-loop
 mul-has-lane c = search rules
@@ -48,8 +48,8 @@ loop-less c = omega arith
 loop-again : tie.Need-loop-preserved invariant-loop decreases-loop
 loop-again c =
     ⊎_elim
-    (λ w. one-marked c.before.before.before.before.loop.invariant c.before.before.before.loop-test.true 1 (sym w.0.taken ∙ c.before.has-lane.ensures) w.1)
-    (λ w. one-marked c.before.before.before.before.loop.invariant c.before.before.before.loop-test.true 0 (sym w.0.left ∙ c.before.has-lane.ensures) w.1)
+    (λ w. one_marked c.before.before.before.before.loop.invariant c.before.before.before.loop-test.true 1 (sym w.0.taken ∙ c.before.has-lane.ensures) w.1)
+    (λ w. one_marked c.before.before.before.before.loop.invariant c.before.before.before.loop-test.true 0 (sym w.0.left ∙ c.before.has-lane.ensures) w.1)
     c.if1.branch
 
 returns : tie.Need-returns invariant-loop decreases-loop

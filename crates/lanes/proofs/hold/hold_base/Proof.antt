@@ -2,8 +2,8 @@
 use Prim.Native.Nat.{◌-◌}
 use native.Mathlib.Omega.{arith}
 use borrow.Author.Rules.{rules}
-use Rattle.items.specs.Item.{narrow, maxFacts}
-use Rattle.lanes.proofs.FactsHeld.{BaseBelow, none-based, every-based, none-in-base, all-based}
+use Rattle.items.specs.Item.{narrow, max_facts}
+use Rattle.lanes.proofs.FactsHeld.{BaseBelow, none_based, every_based, none_in_base, all-based}
 use Rattle.lanes.proofs.hold.hold_base.Statement.{statement}
 use Rattle.lanes.proofs.hold.hold_base.Tie as tie
 
@@ -11,10 +11,10 @@ abbrev invariant-loop : tie.invariant-loop
 invariant-loop base outs₀ none every fact₀ outs fact = BaseBelow base outs fact
 
 abbrev decreases-loop : tie.decreases-loop
-decreases-loop base outs₀ none every fact₀ outs fact = maxFacts narrow - fact
+decreases-loop base outs₀ none every fact₀ outs fact = max_facts narrow - fact
 
 loop-holds : tie.Need-loop-init invariant-loop decreases-loop
-loop-holds c = none-based _ _ c.requires
+loop-holds c = none_based _ _ c.requires
 
 add-if1 : tie.Need-overflow-add-if1 invariant-loop decreases-loop
 add-if1 c = search rules
@@ -32,7 +32,7 @@ loop-less : tie.Need-loop-smaller invariant-loop decreases-loop
 loop-less c = omega arith
 
 loop-again : tie.Need-loop-preserved invariant-loop decreases-loop
-loop-again c = every-based c.before.before.before.before.before.before.loop.invariant c.put.ensures c.before.before.before.if1.true
+loop-again c = every_based c.before.before.before.before.before.before.loop.invariant c.put.ensures c.before.before.before.if1.true
 
 put-requires-2 : tie.Need-put-requires-2 invariant-loop decreases-loop
 put-requires-2 c κs = search rules
@@ -44,7 +44,7 @@ loop-less-2 : tie.Need-loop-smaller-2 invariant-loop decreases-loop
 loop-less-2 c = omega arith
 
 loop-again-2 : tie.Need-loop-preserved-2 invariant-loop decreases-loop
-loop-again-2 c = none-in-base c.before.before.before.before.before.before.loop.invariant c.put2.ensures c.before.before.before.if1.false
+loop-again-2 c = none_in_base c.before.before.before.before.before.before.loop.invariant c.put2.ensures c.before.before.before.if1.false
 
 returns : tie.Need-returns invariant-loop decreases-loop
 returns c = all-based c.before.loop.invariant c.loop-test.false

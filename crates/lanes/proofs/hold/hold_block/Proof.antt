@@ -3,8 +3,8 @@ use Prim.Native.Nat.{◌-◌, ◌<◌}
 use native.Mathlib.Omega.{arith}
 use borrow.Author.Rules.{rules}
 use lib.ListN.{length, get_or}
-use Rattle.items.specs.Item.{narrow, maxFacts}
-use Rattle.lanes.proofs.FactsHeld.{Holding, none-held, one-held, all_held, fact_small}
+use Rattle.items.specs.Item.{narrow, max_facts}
+use Rattle.lanes.proofs.FactsHeld.{Holding, none_held, one_held, all_held, fact_small}
 use Rattle.lanes.proofs.hold.hold_block.Statement.{statement}
 use Rattle.lanes.proofs.hold.hold_block.Tie as tie
 use Rattle.lanes.proofs.hold.hold_block.Reads as reads
@@ -18,9 +18,9 @@ abbrev decreases-loop : tie.decreases-loop
 decreases-loop row block outs₀ place₀ outs place = length row - place
 
 loop-holds : tie.Need-loop-init invariant-loop decreases-loop
-loop-holds c = none-held _ _ _
+loop-holds c = none_held _ _ _
 
-small : (c : lts.In-loop (hold-fact-reads.Asked, hold-fact-reads.Learnt) reads.Pre reads.Post invariant-loop decreases-loop) → get_or c.before.before.before.args.row.now (length c.before.before.before.args.row.now - 1 - c.before.loop.place) 0 < maxFacts narrow
+small : (c : lts.In-loop (hold-fact-reads.Asked, hold-fact-reads.Learnt) reads.Pre reads.Post invariant-loop decreases-loop) → get_or c.before.before.before.args.row.now (length c.before.before.before.args.row.now - 1 - c.before.loop.place) 0 < max_facts narrow
 small c = fact_small c.before.before.before.args.row.now c.before.loop.place c.before.before.before.requires.1 c.loop-test.true
 
 sub-fact : tie.Need-overflow-sub-fact invariant-loop decreases-loop
@@ -48,7 +48,7 @@ loop-less : tie.Need-loop-smaller invariant-loop decreases-loop
 loop-less c = omega arith
 
 loop-again : tie.Need-loop-preserved invariant-loop decreases-loop
-loop-again c = one-held c.before.before.before.before.loop.invariant c.before.before.before.before.before.before.requires.2 c.before.before.before.loop-test.true c.hold-fact.ensures
+loop-again c = one_held c.before.before.before.before.loop.invariant c.before.before.before.before.before.before.requires.2 c.before.before.before.loop-test.true c.hold-fact.ensures
 
 returns : tie.Need-returns invariant-loop decreases-loop
 returns c = all_held c.before.loop.invariant c.loop-test.false

@@ -2,8 +2,8 @@
 use Prim.Native.Nat.{◌-◌}
 use native.Mathlib.Omega.{arith}
 use borrow.Author.Rules.{rules}
-use Rattle.lanes.specs.Lanes.{laneWords}
-use Rattle.lanes.proofs.FactsHeld.{Lacking, none-lacking, one-lacking, all-lacking}
+use Rattle.lanes.specs.Lanes.{lane_words}
+use Rattle.lanes.proofs.FactsHeld.{Lacking, none_lacking, one_lacking, all-lacking}
 use Rattle.lanes.proofs.hold.hold_fact.Statement.{statement}
 use Rattle.lanes.proofs.hold.hold_fact.Tie as tie
 
@@ -11,13 +11,13 @@ abbrev invariant-loop : tie.invariant-loop
 invariant-loop outs fact block place own₀ first w₀ own w = Lacking block place own w
 
 abbrev decreases-loop : tie.decreases-loop
-decreases-loop outs fact block place own₀ first w₀ own w = laneWords - w
+decreases-loop outs fact block place own₀ first w₀ own w = lane_words - w
 
 mul-first : tie.Need-overflow-mul-first invariant-loop decreases-loop
 mul-first c = search rules
 
 loop-holds : tie.Need-loop-init invariant-loop decreases-loop
-loop-holds c = none-lacking _ _
+loop-holds c = none_lacking _ _
 
 add-guess-word : tie.Need-overflow-add-guess-word invariant-loop decreases-loop
 add-guess-word c = search rules
@@ -38,7 +38,7 @@ loop-less : tie.Need-loop-smaller invariant-loop decreases-loop
 loop-less c = omega arith
 
 loop-again : tie.Need-loop-preserved invariant-loop decreases-loop
-loop-again c = one-lacking c.before.before.loop.invariant _ c.before.loop-test.true c.guess-word.ensures
+loop-again c = one_lacking c.before.before.loop.invariant _ c.before.loop-test.true c.guess-word.ensures
 
 put-requires : tie.Need-put-requires invariant-loop decreases-loop
 put-requires c κs = search rules

@@ -3,8 +3,8 @@ use Prim.Native.Nat.{◌-◌}
 use mathlib.Core.Path.{refl}
 use native.Mathlib.Omega.{arith}
 use borrow.Author.Rules.{rules}
-use Rattle.lanes.specs.Lanes.{laneWords}
-use Rattle.lanes.proofs.WordsJoined.{Joining, none-joined, one-joined, all-joined}
+use Rattle.lanes.specs.Lanes.{lane_words}
+use Rattle.lanes.proofs.WordsJoined.{Joining, none_joined, one_joined, all-joined}
 use Rattle.lanes.proofs.words.join.Statement.{statement}
 use Rattle.lanes.proofs.words.join.Tie as tie
 
@@ -12,13 +12,13 @@ abbrev invariant-loop : tie.invariant-loop
 invariant-loop words₀ fact body from new₀ w₀ words new w = Joining fact body words₀ words new w
 
 abbrev decreases-loop : tie.decreases-loop
-decreases-loop words₀ fact body from new₀ w₀ words new w = laneWords - w
+decreases-loop words₀ fact body from new₀ w₀ words new w = lane_words - w
 
 mul-from : tie.Need-overflow-mul-from invariant-loop decreases-loop
 mul-from c = search rules
 
 loop-holds : tie.Need-loop-init invariant-loop decreases-loop
-loop-holds c = none-joined _ _ _
+loop-holds c = none_joined _ _ _
 
 add-before : tie.Need-overflow-add-before invariant-loop decreases-loop
 add-before c = search rules
@@ -51,7 +51,7 @@ loop-less : tie.Need-loop-smaller invariant-loop decreases-loop
 loop-less c = omega arith
 
 loop-again : tie.Need-loop-preserved invariant-loop decreases-loop
-loop-again c = one-joined c.before.before.before.loop.invariant c.before.before.before.before.requires c.before.before.loop-test.true _ refl
+loop-again c = one_joined c.before.before.before.loop.invariant c.before.before.before.before.requires c.before.before.loop-test.true _ refl
 
 returns : tie.Need-returns invariant-loop decreases-loop
 returns c = all-joined c.before.loop.invariant c.loop-test.false

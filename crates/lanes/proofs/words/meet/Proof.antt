@@ -3,8 +3,8 @@ use Prim.Native.Nat.{◌-◌}
 use mathlib.Core.Path.{refl}
 use native.Mathlib.Omega.{arith}
 use borrow.Author.Rules.{rules}
-use Rattle.lanes.specs.Lanes.{laneWords}
-use Rattle.lanes.proofs.WordsMet.{Meeting, none-met, one-met, all-met}
+use Rattle.lanes.specs.Lanes.{lane_words}
+use Rattle.lanes.proofs.WordsMet.{Meeting, none_met, one_met, all-met}
 use Rattle.lanes.proofs.words.meet.Statement.{statement}
 use Rattle.lanes.proofs.words.meet.Tie as tie
 
@@ -12,13 +12,13 @@ abbrev invariant-loop : tie.invariant-loop
 invariant-loop words fact body₀ from w₀ body w = Meeting fact words body₀ body w
 
 abbrev decreases-loop : tie.decreases-loop
-decreases-loop words fact body₀ from w₀ body w = laneWords - w
+decreases-loop words fact body₀ from w₀ body w = lane_words - w
 
 mul-from : tie.Need-overflow-mul-from invariant-loop decreases-loop
 mul-from c = search rules
 
 loop-holds : tie.Need-loop-init invariant-loop decreases-loop
-loop-holds c = none-met _ _ _
+loop-holds c = none_met _ _ _
 
 add_body : tie.Need-overflow-add-body invariant-loop decreases-loop
 add_body c = search rules
@@ -45,7 +45,7 @@ loop-less : tie.Need-loop-smaller invariant-loop decreases-loop
 loop-less c = omega arith
 
 loop-again : tie.Need-loop-preserved invariant-loop decreases-loop
-loop-again c = one-met c.before.before.before.loop.invariant c.before.before.loop-test.true _ refl
+loop-again c = one_met c.before.before.before.loop.invariant c.before.before.loop-test.true _ refl
 
 returns : tie.Need-returns invariant-loop decreases-loop
 returns c = all-met c.before.loop.invariant c.loop-test.false

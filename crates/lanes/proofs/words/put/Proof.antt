@@ -2,8 +2,8 @@
 use Prim.Native.Nat.{◌-◌}
 use native.Mathlib.Omega.{arith}
 use borrow.Author.Rules.{rules}
-use Rattle.lanes.specs.Lanes.{laneWords}
-use Rattle.lanes.proofs.WordsPut.{Putting, none-put, one-put, all-put}
+use Rattle.lanes.specs.Lanes.{lane_words}
+use Rattle.lanes.proofs.WordsPut.{Putting, none_put, one_put, all-put}
 use Rattle.lanes.proofs.words.put.Statement.{statement}
 use Rattle.lanes.proofs.words.put.Tie as tie
 
@@ -11,13 +11,13 @@ abbrev invariant-loop : tie.invariant-loop
 invariant-loop words₀ fact own from w₀ words w = Putting fact own words₀ words w
 
 abbrev decreases-loop : tie.decreases-loop
-decreases-loop words₀ fact own from w₀ words w = laneWords - w
+decreases-loop words₀ fact own from w₀ words w = lane_words - w
 
 mul-from : tie.Need-overflow-mul-from invariant-loop decreases-loop
 mul-from c = search rules
 
 loop-holds : tie.Need-loop-init invariant-loop decreases-loop
-loop-holds c = none-put _ _ _
+loop-holds c = none_put _ _ _
 
 mul_words : tie.Need-overflow-mul-words invariant-loop decreases-loop
 mul_words c = search rules
@@ -41,7 +41,7 @@ loop-less : tie.Need-loop-smaller invariant-loop decreases-loop
 loop-less c = omega arith
 
 loop-again : tie.Need-loop-preserved invariant-loop decreases-loop
-loop-again c = one-put c.before.before.loop.invariant c.before.before.before.requires c.before.loop-test.true
+loop-again c = one_put c.before.before.loop.invariant c.before.before.before.requires c.before.loop-test.true
 
 returns : tie.Need-returns invariant-loop decreases-loop
 returns c = all-put c.before.loop.invariant c.loop-test.false

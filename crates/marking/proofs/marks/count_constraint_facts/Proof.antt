@@ -2,9 +2,9 @@
 use mathlib.Core.Path.{◌∙◌}
 use native.Mathlib.Omega.{arith}
 use borrow.Author.Rules.{rules}
-use Rattle.items.specs.Item.{narrow, maxFacts}
+use Rattle.items.specs.Item.{narrow, max_facts}
 use Rattle.tables.proofs.ProgramHeld.{facts_below}
-use Rattle.marking.proofs.RulesMarked.{painted-count}
+use Rattle.marking.proofs.RulesMarked.{painted_count}
 use Rattle.marking.proofs.marks.count_constraint_facts.Statement.{statement}
 use Rattle.marking.proofs.marks.count_constraint_facts.Tie as tie
 
@@ -21,7 +21,7 @@ returns : tie.Need-returns
 returns c =
     let l = c.before.before.before.before in
     c.count-marked.ensures
-    ∙ painted-count (maxFacts narrow) _ _ _ l.facts-of.ensures (omega (arith, facts_below l.before.requires)) _ c.before.before.mark-constraint-facts.ensures
+    ∙ painted_count (max_facts narrow) _ _ _ l.facts-of.ensures (omega (arith, facts_below l.before.requires)) _ c.before.before.mark-constraint-facts.ensures
 
 pub count-constraint-facts-spec : {M : Type 1} → statement M
 count-constraint-facts-spec =

@@ -2,9 +2,9 @@
 use Prim.Native.Nat.{◌-◌}
 use mathlib.Core.Logic.{⊎_elim}
 use native.Mathlib.Omega.{arith}
-use Rattle.theory.proofs.ListWalks.{Counting, none-counted, one-counted, not-counted, all-counted}
+use Rattle.theory.proofs.ListWalks.{Counting, none_counted, one_counted, not-counted, all-counted}
 use Rattle.items.specs.Item.{has}
-use Rattle.marking.proofs.MarksPainted.{marked-at, unmarked-at}
+use Rattle.marking.proofs.MarksPainted.{marked-at, unmarked_at}
 use Rattle.marking.proofs.marks.count_marked.Statement.{statement}
 use Rattle.marking.proofs.marks.count_marked.Tie as tie
 
@@ -15,7 +15,7 @@ abbrev decreases-loop : tie.decreases-loop
 decreases-loop marks facts n₀ f₀ n f = facts - f
 
 loop-holds : tie.Need-loop-init invariant-loop decreases-loop
-loop-holds c = none-counted _ _
+loop-holds c = none_counted _ _
 
 element-copy-out-if1 : tie.Need-element-copy-out-if1 invariant-loop decreases-loop
 element-copy-out-if1 c = omega arith
@@ -32,8 +32,8 @@ loop-less c = omega arith
 loop-again : tie.Need-loop-preserved invariant-loop decreases-loop
 loop-again c =
     ⊎_elim
-    (λ t. rw t.1 (one-counted c.before.before.before.loop.invariant c.before.before.loop-test.true (marked-at _ _ t.0.taken)))
-    (λ t. rw t.1 (not-counted c.before.before.before.loop.invariant c.before.before.loop-test.true (unmarked-at _ _ t.0.left)))
+    (λ t. rw t.1 (one_counted c.before.before.before.loop.invariant c.before.before.loop-test.true (marked-at _ _ t.0.taken)))
+    (λ t. rw t.1 (not-counted c.before.before.before.loop.invariant c.before.before.loop-test.true (unmarked_at _ _ t.0.left)))
     c.if1.branch
 
 returns : tie.Need-returns invariant-loop decreases-loop

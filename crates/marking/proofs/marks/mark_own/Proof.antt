@@ -1,15 +1,15 @@
 -- `mark_own`: the elements to come from here give what all give from the start.
 use Prim.Native.Nat.{◌-◌}
 use native.Mathlib.Omega.{arith}
-use Rattle.tables.specs.Layout.{constraintAt, span}
+use Rattle.tables.specs.Layout.{constraint_at, span}
 use Rattle.tables.proofs.ProgramHeld.{facts_below}
 use Rattle.tables.proofs.PartsSpanned.{within}
-use Rattle.marking.proofs.RulesMarked.{MarkingOwn, none-marked, own-marked, one-marked}
+use Rattle.marking.proofs.RulesMarked.{MarkingOwn, none_marked, own-marked, one_marked}
 use Rattle.marking.proofs.marks.mark_own.Statement.{statement}
 use Rattle.marking.proofs.marks.mark_own.Tie as tie
 
 abbrev invariant-loop : tie.invariant-loop
-invariant-loop tables mark marks₀ end place₀ marks place = MarkingOwn (span (constraintAt tables) place₀ end) (constraintAt tables) place₀ end mark marks₀ marks place
+invariant-loop tables mark marks₀ end place₀ marks place = MarkingOwn (span (constraint_at tables) place₀ end) (constraint_at tables) place₀ end mark marks₀ marks place
 
 abbrev decreases-loop : tie.decreases-loop
 decreases-loop tables mark marks₀ end place₀ marks place = end - place
@@ -18,7 +18,7 @@ constraint-span-requires : tie.Need-constraint-span-requires invariant-loop decr
 constraint-span-requires c κs = c.requires.0
 
 loop-holds : tie.Need-loop-init invariant-loop decreases-loop
-loop-holds c = none-marked _ _ (within c.constraint-span.ensures)
+loop-holds c = none_marked _ _ (within c.constraint-span.ensures)
 
 constraint-at-requires : tie.Need-constraint-at-requires invariant-loop decreases-loop
 constraint-at-requires c κs = omega (arith, c.before.before.constraint-span.ensures.high)
@@ -36,7 +36,7 @@ loop-less : tie.Need-loop-smaller invariant-loop decreases-loop
 loop-less c = omega arith
 
 loop-again : tie.Need-loop-preserved invariant-loop decreases-loop
-loop-again c = rw c.constraint-at.ensures (one-marked c.before.before.loop.invariant c.before.loop-test.true)
+loop-again c = rw c.constraint-at.ensures (one_marked c.before.before.loop.invariant c.before.loop-test.true)
 
 returns : tie.Need-returns invariant-loop decreases-loop
 returns c = own-marked c.before.loop.invariant c.loop-test.false _ c.before.before.constraint-span.ensures.is

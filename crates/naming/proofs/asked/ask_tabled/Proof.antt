@@ -1,7 +1,7 @@
 -- `ask_tabled`: the order first, then the buffers.
 use mathlib.Core.Path.{sym, ◌∙◌}
 use borrow.Author.Rules.{rules}
-use Rattle.tables.specs.Layout.{programIn}
+use Rattle.tables.specs.Layout.{program_in}
 use Rattle.questions.proofs.OperationAsked.{order-no, order-yes}
 use Rattle.naming.proofs.asked.ask_tabled.Statement.{statement}
 use Rattle.naming.proofs.asked.ask_tabled.Tie as tie
@@ -19,11 +19,11 @@ ask-buffers-requires : tie.Need-ask-buffers-requires
 ask-buffers-requires c κs = search rules
 
 returns : tie.Need-returns
-returns c = order-no (programIn c.before.before.before.before.before.args.tables.now) _ _ _ (sym c.before.r.given.1 ∙ c.before.before.before.ask-order-of.ensures)
+returns c = order-no (program_in c.before.before.before.before.before.args.tables.now) _ _ _ (sym c.before.r.given.1 ∙ c.before.before.before.ask-order-of.ensures)
 
 returns-2 : tie.Need-returns-2
 returns-2 c =
-    order-yes (programIn c.before.before.before.before.before.args.tables.now) _ _ (sym c.before.enum_told.given.1 ∙ c.before.before.before.ask-order-of.ensures) _ c.ask-buffers.ensures
+    order-yes (program_in c.before.before.before.before.before.args.tables.now) _ _ (sym c.before.enum_told.given.1 ∙ c.before.before.before.ask-order-of.ensures) _ c.ask-buffers.ensures
 
 pub ask-tabled-spec : {M : Type 1} → statement M
 ask-tabled-spec =

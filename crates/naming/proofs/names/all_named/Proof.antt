@@ -6,17 +6,17 @@ use mathlib.Core.Bool.{not, ◌||◌}
 use mathlib.Core.Logic.{⊎_elim}
 use native.Mathlib.Omega.{arith}
 use Rattle.theory.specs.Rule.{range, up_to, count, exception}
-use Rattle.theory.proofs.ListWalks.{Decides, whole-decides, not_tested, all_pass, one-fails, one_passes}
+use Rattle.theory.proofs.ListWalks.{Decides, whole-decides, not_tested, all_pass, one_fails, one_passes}
 use Rattle.theory.proofs.Lists.{range_all, range_cons, range-end}
 use Rattle.items.specs.Item.{has}
-use Rattle.tables.specs.Layout.{programIn}
+use Rattle.tables.specs.Layout.{program_in}
 use Rattle.tables.proofs.ProgramHeld.{rules-below}
-use Rattle.questions.proofs.NamesAsked.{known-unnamed, known-named, not-exception}
+use Rattle.questions.proofs.NamesAsked.{known_unnamed, known_named, not_exception}
 use Rattle.naming.proofs.names.all_named.Statement.{statement}
 use Rattle.naming.proofs.names.all_named.Tie as tie
 
 abbrev invariant-loop : tie.invariant-loop
-invariant-loop tables named rules i₀ i = (i ≤ rules) × Decides (λ j. not (exception (programIn tables) j) || has named j) (up_to (count (programIn tables))) (range i (rules - i))
+invariant-loop tables named rules i₀ i = (i ≤ rules) × Decides (λ j. not (exception (program_in tables) j) || has named j) (up_to (count (program_in tables))) (range i (rules - i))
 
 abbrev decreases-loop : tie.decreases-loop
 decreases-loop tables named rules i₀ i = rules - i
@@ -38,8 +38,8 @@ element-copy-out-if2 c = omega (arith, c.before.before.before.before.rules-of.en
 
 returns : tie.Need-returns invariant-loop decreases-loop
 returns c =
-    one-fails c.before.before.before.before.before.loop.invariant.1 _ _ (range_cons _ _ c.before.before.before.before.loop-test.true)
-    (known-unnamed (exception (programIn c.before.before.before.before.before.before.before.args.tables.now)) c.before.before.before.before.before.before.before.args.named.now c.before.before.before.before.before.loop.i (sym c.before.before.before.is-exception.ensures ∙ c.before.before.if1.true) c.if2.true)
+    one_fails c.before.before.before.before.before.loop.invariant.1 _ _ (range_cons _ _ c.before.before.before.before.loop-test.true)
+    (known_unnamed (exception (program_in c.before.before.before.before.before.before.before.args.tables.now)) c.before.before.before.before.before.before.before.args.named.now c.before.before.before.before.before.loop.i (sym c.before.before.before.is_exception.ensures ∙ c.before.before.if1.true) c.if2.true)
 
 add-i : tie.Need-overflow-add-i invariant-loop decreases-loop
 add-i c = omega (arith, c.before.before.before.before.rules-of.ensures, rules-below c.before.before.before.before.before.requires, c.before.before.loop-test.true)
@@ -50,7 +50,7 @@ loop-less c = omega arith
 loop-again : tie.Need-loop-preserved invariant-loop decreases-loop
 loop-again c = (
   omega arith,
-  one_passes c.before.before.before.loop.invariant.1 _ _ (range_cons _ _ c.before.before.loop-test.true) (⊎_elim (λ w. known-named (exception (programIn c.before.before.before.before.before.args.tables.now)) c.before.before.before.before.before.args.named.now c.before.before.before.loop.i w.2.left) (λ w. not-exception (exception (programIn c.before.before.before.before.before.args.tables.now)) c.before.before.before.before.before.args.named.now c.before.before.before.loop.i (sym c.before.is-exception.ensures ∙ w.left)) c.if1.branch),
+  one_passes c.before.before.before.loop.invariant.1 _ _ (range_cons _ _ c.before.before.loop-test.true) (⊎_elim (λ w. known_named (exception (program_in c.before.before.before.before.before.args.tables.now)) c.before.before.before.before.before.args.named.now c.before.before.before.loop.i w.2.left) (λ w. not_exception (exception (program_in c.before.before.before.before.before.args.tables.now)) c.before.before.before.before.before.args.named.now c.before.before.before.loop.i (sym c.before.is_exception.ensures ∙ w.left)) c.if1.branch),
 )
 
 returns-2 : tie.Need-returns-2 invariant-loop decreases-loop

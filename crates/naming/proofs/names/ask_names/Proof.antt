@@ -4,15 +4,15 @@ use Prim.Native.Nat.{◌-◌}
 use mathlib.Core.Path.{◌≡◌, refl, sym, ap, ◌∙◌}
 use lib.ListN.{length}
 use Rattle.theory.specs.Rule.{exception}
-use Rattle.items.specs.Item.{maxRules}
+use Rattle.items.specs.Item.{max_rules}
 use Rattle.cursors.specs.declared.cursor.Row.TheVariants.{Order}
-use Rattle.tables.specs.Layout.{programIn}
+use Rattle.tables.specs.Layout.{program_in}
 use Rattle.questions.specs.Questions.{names_of, named_in}
 use Rattle.cursors.specs.declared.cursor.Read.TheVariants.{Found}
 use Rattle.cursors.specs.Cursor.{next_at}
 use Rattle.cursors.proofs.Items.{found, closer, row-ended}
 use Rattle.questions.proofs.ItemWalks.{headed, none_read, same_row, past-names}
-use Rattle.questions.proofs.NamesAsked.{Naming, said-yes, said-no, all_asked, not-asked, a-no, a-yes}
+use Rattle.questions.proofs.NamesAsked.{Naming, said_yes, said_no, all_asked, not-asked, a_no, a_yes}
 use Rattle.naming.proofs.names.ask_names.Statement.{statement}
 use Rattle.naming.proofs.names.ask_names.Tie as tie
 use Rattle.naming.proofs.names.ask_names.Reads as reads
@@ -21,7 +21,7 @@ use Rattle.cursors.proofs.cursor.Cursor.next_name.Reads as next-name-reads
 use Rattle.naming.proofs.names.ask_name.Reads as ask-name-reads
 
 abbrev invariant-loop : tie.invariant-loop
-invariant-loop tables bytes named₀ cursor₀ named cursor = (length named ≡ maxRules) × (cursor.row ≡ Order) × Naming (exception (programIn tables)) named₀ (named_in bytes) named bytes cursor
+invariant-loop tables bytes named₀ cursor₀ named cursor = (length named ≡ max_rules) × (cursor.row ≡ Order) × Naming (exception (program_in tables)) named₀ (named_in bytes) named bytes cursor
 
 abbrev decreases-loop : tie.decreases-loop
 decreases-loop tables bytes named₀ cursor₀ named cursor = length bytes - cursor.at
@@ -31,7 +31,7 @@ item-read : (c : tie.After-known-told invariant-loop decreases-loop) → next_at
 item-read c = sym c.before.before.before.next-name.ensures ∙ c.before.item.given.1
 
 loop-holds : tie.Need-loop-init invariant-loop decreases-loop
-loop-holds c = (c.before.requires.1, refl, record { same = refl; names-kept = λ i. refl })
+loop-holds c = (c.before.requires.1, refl, record { same = refl; names_kept = λ i. refl })
 
 next-name-requires : tie.Need-next-name-requires invariant-loop decreases-loop
 next-name-requires c κs = c.loop.invariant.1
@@ -55,7 +55,7 @@ enum-known-answer : tie.Need-enum-known-answer invariant-loop decreases-loop
 enum-known-answer c = search rules
 
 returns-2 : tie.Need-returns-2 invariant-loop decreases-loop
-returns-2 c = (a-no _ _ _ _ _ _ c.before.before.before.before.before.before.before.before.before.before.before.before.loop.invariant.2 _ _ (ap names_of (headed _ _ _ _ _ (item-read c.before.before.before.before.before.before.before.before) c.before.before.before.before.before.before.item2.given.1)) _ (said-no _ _ (sym c.before.answer.given.1 ∙ c.before.before.before.ask-name.ensures.0)), tt)
+returns-2 c = (a_no _ _ _ _ _ _ c.before.before.before.before.before.before.before.before.before.before.before.before.loop.invariant.2 _ _ (ap names_of (headed _ _ _ _ _ (item-read c.before.before.before.before.before.before.before.before) c.before.before.before.before.before.before.item2.given.1)) _ (said_no _ _ (sym c.before.answer.given.1 ∙ c.before.before.before.ask-name.ensures.0)), tt)
 
 enum-told-2 : tie.Need-enum-told-2 invariant-loop decreases-loop
 enum-told-2 c = search rules
@@ -67,7 +67,7 @@ loop-again : tie.Need-loop-preserved invariant-loop decreases-loop
 loop-again c = (
   c.before.before.ask-name.ensures.1.1,
   same_row _ _ _ _ Order (item-read c.before.before.before.before.before.before.before) tt c.before.before.before.before.before.before.before.before.before.before.before.loop.invariant.1,
-  a-yes _ _ _ _ _ _ c.before.before.before.before.before.before.before.before.before.before.before.loop.invariant.2 _ _ (ap names_of (headed _ _ _ _ _ (item-read c.before.before.before.before.before.before.before) c.before.before.before.before.before.item2.given.1)) _ (said-yes _ (sym c.enum-told2.given.1 ∙ c.before.before.ask-name.ensures.0)) (rw c.enum-told2.given.1 at c.before.before.ask-name.ensures.1.0),
+  a_yes _ _ _ _ _ _ c.before.before.before.before.before.before.before.before.before.before.before.loop.invariant.2 _ _ (ap names_of (headed _ _ _ _ _ (item-read c.before.before.before.before.before.before.before) c.before.before.before.before.before.item2.given.1)) _ (said_yes _ (sym c.enum-told2.given.1 ∙ c.before.before.ask-name.ensures.0)) (rw c.enum-told2.given.1 at c.before.before.ask-name.ensures.1.0),
 )
 
 loop-less-2 : tie.Need-loop-smaller-2 invariant-loop decreases-loop

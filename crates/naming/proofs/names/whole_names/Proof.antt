@@ -4,10 +4,10 @@ use Prim.Native.Nat.{◌-◌}
 use mathlib.Core.Path.{◌≡◌, refl, sym, ap, ◌∙◌}
 use lib.ListN.{length}
 use Rattle.cursors.specs.declared.cursor.Row.TheVariants.{Order}
-use Rattle.cursors.specs.Cursor.{itemsAt, orderStart}
+use Rattle.cursors.specs.Cursor.{items_at, order_start}
 use Rattle.cursors.proofs.Items.{found, closer, row-ended}
 use Rattle.questions.specs.Questions.{whole}
-use Rattle.questions.proofs.ItemWalks.{headed, bad-read, same_row}
+use Rattle.questions.proofs.ItemWalks.{headed, bad_read, same_row}
 use Rattle.naming.proofs.names.whole_names.Statement.{statement}
 use Rattle.naming.proofs.names.whole_names.Tie as tie
 use Rattle.naming.proofs.names.whole_names.Reads as reads
@@ -15,7 +15,7 @@ use Rattle.naming.proofs.names.whole_names.Lts as lts
 use Rattle.cursors.proofs.cursor.Cursor.next_name.Reads as next-name-reads
 
 abbrev invariant-loop : tie.invariant-loop
-invariant-loop bytes cursor₀ cursor = (cursor.row ≡ Order) × (whole (itemsAt bytes orderStart) ≡ whole (itemsAt bytes cursor))
+invariant-loop bytes cursor₀ cursor = (cursor.row ≡ Order) × (whole (items_at bytes order_start) ≡ whole (items_at bytes cursor))
 
 abbrev decreases-loop : tie.decreases-loop
 decreases-loop bytes cursor₀ cursor = length bytes - cursor.at
@@ -32,7 +32,7 @@ enum_told c = search rules
 returns : tie.Need-returns invariant-loop decreases-loop
 returns c =
     let w = c.before.before.before.loop.invariant in
-    sym (w.1 ∙ ap whole (bad-read _ _ _ _ (sym c.before.before.next-name.ensures ∙ c.enum_told.given.1) Order tt w.0))
+    sym (w.1 ∙ ap whole (bad_read _ _ _ _ (sym c.before.before.next-name.ensures ∙ c.enum_told.given.1) Order tt w.0))
 
 enum-known-next : tie.Need-enum-known-next invariant-loop decreases-loop
 enum-known-next c = search rules

@@ -2,8 +2,8 @@
 use borrow.Author.Rules.{rules}
 use mathlib.Core.Path.{sym, ap, ◌∙◌}
 use Rattle.questions.specs.Answer.{answer_of}
-use Rattle.questions.specs.Questions.{askOrderQuestions}
-use Rattle.questions.proofs.OperationAsked.{answer-numbered, file-refused, scan-passed, order-questions}
+use Rattle.questions.specs.Questions.{ask_order_questions}
+use Rattle.questions.proofs.OperationAsked.{answer_numbered, file_refused, scan_passed, order-questions}
 use Rattle.naming.proofs.order.ask_order.Statement.{statement}
 use Rattle.naming.proofs.order.ask_order.Tie as tie
 
@@ -17,16 +17,16 @@ enum_told : tie.Need-enum-told
 enum_told c = search rules
 
 ask-order-of-requires : tie.Need-ask-order-of-requires
-ask-order-of-requires c κs = (scan-passed _ _ _ (sym c.before.before.before.scan.ensures.0 ∙ c.before.enum_told.given.1) c.before.before.before.scan.ensures.1).tabled.well-formed
+ask-order-of-requires c κs = (scan_passed _ _ _ (sym c.before.before.before.scan.ensures.0 ∙ c.before.enum_told.given.1) c.before.before.before.scan.ensures.1).tabled.well_formed
 
 returns : tie.Need-returns
-unfolding askOrderQuestions
-returns c = answer-numbered _ _ (sym (ap answer_of (file-refused _ _ _ (sym c.before.before.before.scan.ensures.0 ∙ c.before.r.given.1))))
+unfolding ask_order_questions
+returns c = answer_numbered _ _ (sym (ap answer_of (file_refused _ _ _ (sym c.before.before.before.scan.ensures.0 ∙ c.before.r.given.1))))
 
 returns-2 : tie.Need-returns-2
 returns-2 c =
-    let p = scan-passed _ _ _ (sym c.before.before.before.before.scan.ensures.0 ∙ c.before.before.enum_told.given.1) c.before.before.before.before.scan.ensures.1 in
-    answer-numbered _ _ (c.ask-order-of.ensures ∙ ap answer_of (order-questions _ p.accepted _ p.tabled.program _))
+    let p = scan_passed _ _ _ (sym c.before.before.before.before.scan.ensures.0 ∙ c.before.before.enum_told.given.1) c.before.before.before.before.scan.ensures.1 in
+    answer_numbered _ _ (c.ask-order-of.ensures ∙ ap answer_of (order-questions _ p.accepted _ p.tabled.program _))
 
 pub ask-order-spec : {M : Type 1} → statement M
 ask-order-spec =

@@ -7,18 +7,18 @@ use borrow.Author.Rules.{rules}
 use lib.ListN.{length}
 use Rattle.cursors.specs.declared.cursor.Read.TheVariants as Read
 use Rattle.cursors.specs.declared.cursor.Row.TheVariants.{Order}
-use Rattle.items.specs.Item.{maxRules}
-use Rattle.cursors.specs.Cursor.{next_at, itemsAt}
+use Rattle.items.specs.Item.{max_rules}
+use Rattle.cursors.specs.Cursor.{next_at, items_at}
 use Rattle.cursors.proofs.Items.{found, closer}
 use Rattle.cursors.proofs.NoItemRead.{nothing_read}
 use Rattle.questions.specs.Questions.{names_of, named_in}
 use Rattle.questions.proofs.ItemWalks.{headed, past-names, same_row}
-use Rattle.naming.proofs.RowFilled.{Filling, none_read, all_read, no_name, room-left, one-read}
+use Rattle.naming.proofs.RowFilled.{Filling, none_read, all_read, no_name, room-left, one_read}
 use Rattle.naming.proofs.row.order_row.Statement.{statement}
 use Rattle.naming.proofs.row.order_row.Tie as tie
 
 abbrev invariant-loop : tie.invariant-loop
-invariant-loop order row₀ cursor₀ n₀ row cursor n = (cursor.row ≡ Order) × Filling (named_in order) row (names_of (itemsAt order cursor)) n
+invariant-loop order row₀ cursor₀ n₀ row cursor n = (cursor.row ≡ Order) × Filling (named_in order) row (names_of (items_at order cursor)) n
 
 abbrev decreases-loop : tie.decreases-loop
 decreases-loop order row₀ cursor₀ n₀ row cursor n = length order - cursor.at
@@ -28,10 +28,10 @@ item-read : (c : tie.After-known-told invariant-loop decreases-loop) → next_at
 item-read c = sym c.before.before.before.next-name.ensures ∙ c.before.item.given.1
 
 -- once it names a rule
-one-named : (c : tie.After-known-told2 invariant-loop decreases-loop) → names_of (itemsAt c.before.before.before.before.before.before.before.before.before.args.order.now c.before.before.before.before.before.before.before.loop.cursor) ≡ c.before.item2.given.0.0.0 ∷ names_of (itemsAt c.before.before.before.before.before.before.before.before.before.args.order.now c.before.before.before.before.item.given.0.1.0)
+one-named : (c : tie.After-known-told2 invariant-loop decreases-loop) → names_of (items_at c.before.before.before.before.before.before.before.before.before.args.order.now c.before.before.before.before.before.before.before.loop.cursor) ≡ c.before.item2.given.0.0.0 ∷ names_of (items_at c.before.before.before.before.before.before.before.before.before.args.order.now c.before.before.before.before.item.given.0.1.0)
 one-named c = ap names_of (headed _ _ _ _ _ (item-read c.before.before.before) c.before.item2.given.1)
 
-room : (c : tie.After-known-told2 invariant-loop decreases-loop) → c.before.before.before.before.before.before.before.loop.n < maxRules
+room : (c : tie.After-known-told2 invariant-loop decreases-loop) → c.before.before.before.before.before.before.before.loop.n < max_rules
 room c = room-left c.before.before.before.before.before.before.before.loop.invariant.1 c.before.before.before.before.before.before.before.before.before.requires.0 _ _ (one-named c)
 
 loop-holds : tie.Need-loop-init invariant-loop decreases-loop
@@ -62,7 +62,7 @@ loop-less : tie.Need-loop-smaller invariant-loop decreases-loop
 loop-less c = closer (found _ _ _ _ (item-read c.before.before.before))
 
 loop-again : tie.Need-loop-preserved invariant-loop decreases-loop
-loop-again c = (same_row _ _ _ _ Order (item-read c.before.before.before) tt c.before.before.before.before.before.before.before.loop.invariant.0, one-read c.before.before.before.before.before.before.before.loop.invariant.1 c.before.before.before.before.before.before.before.before.before.requires.0 _ _ (one-named c))
+loop-again c = (same_row _ _ _ _ Order (item-read c.before.before.before) tt c.before.before.before.before.before.before.before.loop.invariant.0, one_read c.before.before.before.before.before.before.before.loop.invariant.1 c.before.before.before.before.before.before.before.before.before.requires.0 _ _ (one-named c))
 
 loop-less-2 : tie.Need-loop-smaller-2 invariant-loop decreases-loop
 loop-less-2 c = closer (found _ _ _ _ (item-read c.before))

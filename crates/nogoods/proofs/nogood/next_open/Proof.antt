@@ -4,7 +4,7 @@ use Prim.Native.Nat.{ℕ, ◌+◌, ◌-◌, ◌*◌, ◌≤◌}
 use mathlib.Core.Bool.{Bool}
 use native.Mathlib.Omega.{arith}
 use borrow.Author.Rules.{rules}
-use Rattle.nogoods.specs.Nogoods.{guesses, mostKept, Stored, Passed}
+use Rattle.nogoods.specs.Nogoods.{guesses, most_kept, Stored, Passed}
 use Rattle.nogoods.proofs.PassedOver.{none_passed, more-passed}
 use Rattle.nogoods.proofs.nogood.next_open.Statement.{statement}
 use Rattle.nogoods.proofs.nogood.next_open.Tie as tie
@@ -13,7 +13,7 @@ abbrev invariant-loop : tie.invariant-loop
 invariant-loop masks values kept from end guess₀ i₀ guess i = (from ≤ guess) × (guess ≤ guesses) × (i ≤ kept) × ((pass : ℕ → Bool) → Stored pass masks values kept → Passed pass from guess)
 
 abbrev decreases-loop : tie.decreases-loop
-decreases-loop masks values kept from end guess₀ i₀ guess i = (guesses - guess) * (mostKept + 1) + (kept - i)
+decreases-loop masks values kept from end guess₀ i₀ guess i = (guesses - guess) * (most_kept + 1) + (kept - i)
 
 loop-holds : tie.Need-loop-init invariant-loop decreases-loop
 loop-holds c = (omega arith, c.requires.1, omega arith, λ pass stored. none_passed pass c.args.from)

@@ -1,6 +1,6 @@
 -- `put_number`: one digit, or the digits of the tenth and then the last.
-use Rattle.panel_lines.proofs.Decimal.{one-digit, more-digits}
-use Rattle.questions.proofs.BytesPut.{begun, next_fits, one-put}
+use Rattle.panel_lines.proofs.Decimal.{one_digit, more-digits}
+use Rattle.questions.proofs.BytesPut.{begun, next_fits, one_put}
 use borrow.Author.Rules.{rules}
 use native.Mathlib.Omega.{arith}
 use Prim.Native.Nat.{ℕ, ◌<◌}
@@ -46,7 +46,7 @@ put-number-put-requires : (t : ℕ) → put-number-lts.Need-put-requires (
   put-number-below t,
   put-number.Post,
 ) (put-number-at t) put-number.Post
-put-number-put-requires t c κs = let a = c.before.before.before.args in rw (one-digit a.n c.before.if1.true) at c.before.before.before.requires.1
+put-number-put-requires t c κs = let a = c.before.before.before.args in rw (one_digit a.n c.before.if1.true) at c.before.before.before.requires.1
 
 put-number-put-number-requires : (t : ℕ) → put-number-lts.Need-put-number-requires (
   put_reads.Asked,
@@ -78,7 +78,7 @@ put-number-put-requires-2 : (t : ℕ) → put-number-lts.Need-put-requires-2 (
   put-number-below t,
   put-number.Post,
 ) (put-number-at t) put-number.Post
-put-number-put-requires-2 t c κs = (one-put (begun _ _ _ c.before.before.before.before.before.before.before.requires.1) _ _ (more-digits _ c.before.before.before.before.before.if1.false) _ _ c.before.before.before.put-number.ensures).fits
+put-number-put-requires-2 t c κs = (one_put (begun _ _ _ c.before.before.before.before.before.before.before.requires.1) _ _ (more-digits _ c.before.before.before.before.before.if1.false) _ _ c.before.before.before.put-number.ensures).fits
 
 put-number-same-length : (t : ℕ) → put-number-lts.Need-same-length (
   put_reads.Asked,
@@ -94,7 +94,7 @@ put-number-returns : (t : ℕ) → put-number-lts.Need-returns (
   put-number-below t,
   put-number.Post,
 ) (put-number-at t) put-number.Post
-put-number-returns t c = rw (one-digit _ c.before.before.before.before.if1.true) c.before.before.put.ensures
+put-number-returns t c = rw (one_digit _ c.before.before.before.before.if1.true) c.before.before.put.ensures
 
 put-number-same-length-2 : (t : ℕ) → put-number-lts.Need-same-length-2 (
   put_reads.Asked,
@@ -110,7 +110,7 @@ put-number-returns-2 : (t : ℕ) → put-number-lts.Need-returns-2 (
   put-number-below t,
   put-number.Post,
 ) (put-number-at t) put-number.Post
-put-number-returns-2 t c = (one-put (begun _ _ _ c.before.before.before.before.before.before.before.before.before.before.requires.1) _ _ (more-digits _ c.before.before.before.before.before.before.before.before.if1.false) _ _ c.before.before.before.before.before.before.put-number.ensures).finish _ _ c.before.before.put2.ensures
+put-number-returns-2 t c = (one_put (begun _ _ _ c.before.before.before.before.before.before.before.before.before.before.requires.1) _ _ (more-digits _ c.before.before.before.before.before.before.before.before.if1.false) _ _ c.before.before.before.before.before.before.put-number.ensures).finish _ _ c.before.before.put2.ensures
 
 pub +put-number-spec : {M : Type 1} → statement M
 +put-number-spec = close μ-put-number λ t. put-number-lts.spec (

@@ -2,27 +2,27 @@
 use mathlib.Core.Path.{refl}
 use mathlib.Core.List.{◌∷◌, ◌++◌}
 use borrow.Author.Rules.{rules}
-use Rattle.panel_lines.specs.Text.{space, newline, field, line, headLine}
-use Rattle.questions.proofs.BytesPut.{Putting, begun, next_fits, one-put}
+use Rattle.panel_lines.specs.Text.{space, newline, field, line, head_line}
+use Rattle.questions.proofs.BytesPut.{Putting, begun, next_fits, one_put}
 use Rattle.panel_lines.proofs.put.put_head.Statement.{statement}
 use Rattle.panel_lines.proofs.put.put_head.Tie as tie
 
 -- what is still to come after each part
-facts-put : (c : tie.After-put-field) → let a = c.before.before.before.args in Putting (headLine a.facts a.rules a.stages) a.at a.out.now (space ∷ (field 0x52 a.rules ++ (space ∷ line 0x53 a.stages))) c.put-field.result c.put-field.new.0
-unfolding headLine line
-facts-put c = one-put (begun _ _ _ c.before.before.before.requires) _ _ refl _ _ c.put-field.ensures
+facts-put : (c : tie.After-put-field) → let a = c.before.before.before.args in Putting (head_line a.facts a.rules a.stages) a.at a.out.now (space ∷ (field 0x52 a.rules ++ (space ∷ line 0x53 a.stages))) c.put-field.result c.put-field.new.0
+unfolding head_line line
+facts-put c = one_put (begun _ _ _ c.before.before.before.requires) _ _ refl _ _ c.put-field.ensures
 
-rules-next : (c : tie.After-put) → let a = c.before.before.before.before.before.before.before.args in Putting (headLine a.facts a.rules a.stages) a.at a.out.now (field 0x52 a.rules ++ (space ∷ line 0x53 a.stages)) c.put.result c.put.new.0
-rules-next c = one-put (facts-put c.before.before.before.before) _ _ refl _ _ c.put.ensures
+rules-next : (c : tie.After-put) → let a = c.before.before.before.before.before.before.before.args in Putting (head_line a.facts a.rules a.stages) a.at a.out.now (field 0x52 a.rules ++ (space ∷ line 0x53 a.stages)) c.put.result c.put.new.0
+rules-next c = one_put (facts-put c.before.before.before.before) _ _ refl _ _ c.put.ensures
 
-rules-put : (c : tie.After-put-field2) → let a = c.before.before.before.before.before.before.before.before.before.before.before.args in Putting (headLine a.facts a.rules a.stages) a.at a.out.now (space ∷ line 0x53 a.stages) c.put-field2.result c.put-field2.new.0
-rules-put c = one-put (rules-next c.before.before.before.before) _ _ refl _ _ c.put-field2.ensures
+rules-put : (c : tie.After-put-field2) → let a = c.before.before.before.before.before.before.before.before.before.before.before.args in Putting (head_line a.facts a.rules a.stages) a.at a.out.now (space ∷ line 0x53 a.stages) c.put-field2.result c.put-field2.new.0
+rules-put c = one_put (rules-next c.before.before.before.before) _ _ refl _ _ c.put-field2.ensures
 
-stages-next : (c : tie.After-put2) → let a = c.before.before.before.before.before.before.before.before.before.before.before.before.before.before.before.args in Putting (headLine a.facts a.rules a.stages) a.at a.out.now (line 0x53 a.stages) c.put2.result c.put2.new.0
-stages-next c = one-put (rules-put c.before.before.before.before) _ _ refl _ _ c.put2.ensures
+stages-next : (c : tie.After-put2) → let a = c.before.before.before.before.before.before.before.before.before.before.before.before.before.before.before.args in Putting (head_line a.facts a.rules a.stages) a.at a.out.now (line 0x53 a.stages) c.put2.result c.put2.new.0
+stages-next c = one_put (rules-put c.before.before.before.before) _ _ refl _ _ c.put2.ensures
 
 put-field-requires : tie.Need-put-field-requires
-unfolding headLine
+unfolding head_line
 put-field-requires c κs = let a = c.before.before.args in
     next_fits (begun _ _ _ c.before.before.requires) _ (space ∷ (field 0x52 a.rules ++ (space ∷ (field 0x53 a.stages ++ newline)))) refl
 

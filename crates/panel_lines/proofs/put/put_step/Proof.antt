@@ -2,22 +2,22 @@
 use mathlib.Core.Path.{refl}
 use mathlib.Core.List.{◌++◌}
 use borrow.Author.Rules.{rules}
-use Rattle.panel_lines.specs.Text.{newline, spaced, stepLine}
+use Rattle.panel_lines.specs.Text.{newline, spaced, step_line}
 use Rattle.questions.specs.Questions.{step_of}
-use Rattle.questions.proofs.BytesPut.{Putting, begun, next_fits, one-put}
+use Rattle.questions.proofs.BytesPut.{Putting, begun, next_fits, one_put}
 use Rattle.panel_lines.proofs.put.put_step.Statement.{statement}
 use Rattle.panel_lines.proofs.put.put_step.Tie as tie
 
 -- what is still to come after each part
-fact-put : (c : tie.After-put-field) → let a = c.before.before.before.args in Putting (stepLine (step_of a.fact a.rule)) a.at a.out.now (spaced a.rule.0 ++ newline) c.put-field.result c.put-field.new.0
-unfolding stepLine
-fact-put c = one-put (begun _ _ _ c.before.before.before.requires) _ _ refl _ _ c.put-field.ensures
+fact-put : (c : tie.After-put-field) → let a = c.before.before.before.args in Putting (step_line (step_of a.fact a.rule)) a.at a.out.now (spaced a.rule.0 ++ newline) c.put-field.result c.put-field.new.0
+unfolding step_line
+fact-put c = one_put (begun _ _ _ c.before.before.before.requires) _ _ refl _ _ c.put-field.ensures
 
-rule-put : (c : tie.After-put-spaced) → let a = c.before.before.before.before.before.before.before.args in Putting (stepLine (step_of a.fact a.rule)) a.at a.out.now newline c.put-spaced.result c.put-spaced.new.0
-rule-put c = one-put (fact-put c.before.before.before.before) _ _ refl _ _ c.put-spaced.ensures
+rule-put : (c : tie.After-put-spaced) → let a = c.before.before.before.before.before.before.before.args in Putting (step_line (step_of a.fact a.rule)) a.at a.out.now newline c.put-spaced.result c.put-spaced.new.0
+rule-put c = one_put (fact-put c.before.before.before.before) _ _ refl _ _ c.put-spaced.ensures
 
 put-field-requires : tie.Need-put-field-requires
-unfolding stepLine
+unfolding step_line
 put-field-requires c κs = next_fits (begun _ _ _ c.before.before.requires) _ (spaced c.before.before.args.rule.0 ++ newline) refl
 
 put-spaced-requires : tie.Need-put-spaced-requires

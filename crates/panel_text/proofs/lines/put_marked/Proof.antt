@@ -3,7 +3,7 @@ use Prim.Native.Nat.{◌-◌}
 use mathlib.Core.Logic.{⊎_elim}
 use native.Mathlib.Omega.{arith}
 use Rattle.panel_lines.specs.Text.{line}
-use Rattle.questions.proofs.MarkedPut.{Passing, none_passed, all-passed, mark-fits, mark-put, mark-passed}
+use Rattle.questions.proofs.MarkedPut.{Passing, none_passed, all-passed, mark_fits, mark_put, mark_passed}
 use Rattle.panel_text.proofs.lines.put_marked.Statement.{statement}
 use Rattle.panel_text.proofs.lines.put_marked.Tie as tie
 
@@ -23,7 +23,7 @@ cast-put-line : tie.Need-overflow-cast-put-line invariant-loop decreases-loop
 cast-put-line c = omega arith
 
 put-line-requires : tie.Need-put-line-requires invariant-loop decreases-loop
-put-line-requires c κs = mark-fits c.before.before.before.before.loop.invariant c.before.before.before.loop-test.true c.before.if1.true
+put-line-requires c κs = mark_fits c.before.before.before.before.loop.invariant c.before.before.before.loop-test.true c.before.if1.true
 
 add-i : tie.Need-overflow-add-i invariant-loop decreases-loop
 add-i c = omega arith
@@ -35,7 +35,7 @@ loop-again : tie.Need-loop-preserved invariant-loop decreases-loop
 loop-again c =
     let inv = c.before.before.before.loop.invariant in
     let h = c.before.before.loop-test.true in
-    ⊎_elim (λ w. rw (w.5, w.6) (mark-put inv h w.0.taken _ _ w.2.ensures)) (λ w. rw (w.1, w.2) (mark-passed inv h w.0.left)) c.if1.branch
+    ⊎_elim (λ w. rw (w.5, w.6) (mark_put inv h w.0.taken _ _ w.2.ensures)) (λ w. rw (w.1, w.2) (mark_passed inv h w.0.left)) c.if1.branch
 
 same_length : tie.Need-same-length invariant-loop decreases-loop
 same_length c = c.before.loop.invariant.putting.kept

@@ -9,7 +9,7 @@ use Rattle.cursors.specs.Cursor.{next_at}
 use Rattle.cursors.proofs.Items.{found, closer}
 use Rattle.questions.proofs.BytesPut.{begun}
 use Rattle.questions.proofs.ItemWalks.{same_row}
-use Rattle.panel_text.proofs.StepLines.{Stepping, refused-put, ended-put, other-passed, step_fits, step-put}
+use Rattle.panel_text.proofs.StepLines.{Stepping, refused-put, ended-put, other_passed, step_fits, step-put}
 use Rattle.panel_text.proofs.lines.put_steps.Statement.{statement}
 use Rattle.panel_text.proofs.lines.put_steps.Tie as tie
 
@@ -61,7 +61,7 @@ loop-less-2 c = closer (found _ _ _ _ (item-read c.before))
 loop-again-2 : tie.Need-loop-preserved-2 invariant-loop decreases-loop
 loop-again-2 c =
     let read = item-read c.before in
-    (same_row _ _ _ _ Steps read tt c.before.before.before.before.before.loop.invariant.0, other-passed _ _ _ _ _ _ c.before.before.before.before.before.loop.invariant.1 _ _ read c.match2.keys2)
+    (same_row _ _ _ _ Steps read tt c.before.before.before.before.before.loop.invariant.0, other_passed _ _ _ _ _ _ c.before.before.before.before.before.loop.invariant.1 _ _ read c.match2.keys2)
 
 enum-told-2 : tie.Need-enum-told-2 invariant-loop decreases-loop
 enum-told-2 c = search rules

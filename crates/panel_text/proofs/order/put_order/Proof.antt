@@ -1,18 +1,18 @@
 -- `put_order`: the plain rules are marked, and the others named.
 use mathlib.Core.Path.{◌≡◌}
 use native.Mathlib.Omega.{arith}
-use Rattle.tables.specs.Layout.{programIn}
+use Rattle.tables.specs.Layout.{program_in}
 use Rattle.tables.proofs.ProgramHeld.{rules-below}
 use Rattle.panel_lines.specs.Text.{ascending}
-use Rattle.theory.specs.Places.{placesMarked}
-use Rattle.panel_text.proofs.AscendingOrder.{unmarked-ascending}
+use Rattle.theory.specs.Places.{places_marked}
+use Rattle.panel_text.proofs.AscendingOrder.{unmarked_ascending}
 use borrow.Author.Rules.{rules}
 use Rattle.panel_text.proofs.order.put_order.Statement.{statement}
 use Rattle.panel_text.proofs.order.put_order.Tie as tie
 
 -- what is not marked is what the order names
-order_is : (c : tie.After-rules-of) → placesMarked 0 c.before.before.mark-plain.new.1.0 c.rules-of.result ≡ ascending (programIn c.before.before.before.before.before.args.tables.now)
-order_is c = unmarked-ascending c.before.before.before.before.before.requires.0 _ c.before.before.mark-plain.ensures _ c.rules-of.ensures
+order_is : (c : tie.After-rules-of) → places_marked 0 c.before.before.mark-plain.new.1.0 c.rules-of.result ≡ ascending (program_in c.before.before.before.before.before.args.tables.now)
+order_is c = unmarked_ascending c.before.before.before.before.before.requires.0 _ c.before.before.mark-plain.ensures _ c.rules-of.ensures
 
 mark-plain-requires : tie.Need-mark-plain-requires
 mark-plain-requires c κs = search rules

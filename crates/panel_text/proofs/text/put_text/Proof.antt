@@ -3,20 +3,20 @@ use mathlib.Core.Path.{◌≡◌, sym, ap, ◌∙◌}
 use native.Mathlib.Omega.{arith}
 use Rattle.reader.specs.Questions.{program_of}
 use Rattle.reader.specs.Accepted.{Accepted}
-use Rattle.reader.proofs.FileAsked.{file-no, file-yes}
-use Rattle.panel_lines.specs.Text.{line, ascending, panelText}
-use Rattle.panel_text.proofs.Lengths.{line-length, few-tabled, text-fits}
-use Rattle.panel_text.proofs.RunLines.{refused-text, accepted-text}
+use Rattle.reader.proofs.FileAsked.{file-no, file_yes}
+use Rattle.panel_lines.specs.Text.{line, ascending, panel_text}
+use Rattle.panel_text.proofs.Lengths.{line-length, few_tabled, text_fits}
+use Rattle.panel_text.proofs.RunLines.{refused-text, accepted_text}
 use borrow.Author.Rules.{rules}
 use Rattle.panel_text.proofs.text.put_text.Statement.{statement}
 use Rattle.panel_text.proofs.text.put_text.Tie as tie
 
 -- past the questions on the file
 accepted-there : (c : tie.After-counts) → Accepted c.before.before.before.before.before.before.args.file.now c.counts.given.0.0
-accepted-there c = file-yes _ _ (sym c.before.before.scan.ensures.0 ∙ c.counts.given.1)
+accepted-there c = file_yes _ _ (sym c.before.before.scan.ensures.0 ∙ c.counts.given.1)
 
 -- a refusal, with its number
-stopped : (c : tie.After-number) → panelText c.before.before.before.before.before.before.before.before.before.args.file.now ≡ line 0x45 c.number.result
+stopped : (c : tie.After-number) → panel_text c.before.before.before.before.before.before.before.before.before.args.file.now ≡ line 0x45 c.number.result
 stopped c = refused-text _ _ (file-no _ _ (sym c.before.before.before.before.before.scan.ensures.0 ∙ c.before.before.before.r.given.1)) ∙ ap (line 0x45) (sym c.number.ensures)
 
 scan-requires : tie.Need-scan-requires
@@ -53,7 +53,7 @@ same-length-2 c = search rules
 returns-2 : tie.Need-returns-2
 returns-2 c =
     let p = accepted-there c.before.before.before.before.before.before in
-    (rw (accepted-text _ p.accepted) c.before.before.put-run.ensures, omega (arith, c.before.before.put-run.ensures.behind, text-fits _ (few-tabled (c.before.before.before.before.before.before.before.before.scan.ensures.1 p.accepted)) p.accepted (ascending (program_of c.before.before.before.before.before.before.before.before.before.before.before.before.args.file.now))))
+    (rw (accepted_text _ p.accepted) c.before.before.put-run.ensures, omega (arith, c.before.before.put-run.ensures.behind, text_fits _ (few_tabled (c.before.before.before.before.before.before.before.before.scan.ensures.1 p.accepted)) p.accepted (ascending (program_of c.before.before.before.before.before.before.before.before.before.before.before.before.args.file.now))))
 
 pub put-text-spec : {M : Type 1} → statement M
 put-text-spec =

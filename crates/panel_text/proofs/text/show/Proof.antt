@@ -3,7 +3,7 @@ use Prim.Native.Nat.{◌-◌}
 use mathlib.Core.Path.{refl}
 use native.Mathlib.Omega.{arith}
 use lib.ListN.{length}
-use Rattle.panel_text.proofs.TextShown.{Copying, too_long, none-copied, one-copied, all-copied}
+use Rattle.panel_text.proofs.TextShown.{Copying, too_long, none_copied, one_copied, all-copied}
 use Rattle.panel_text.proofs.text.show.Statement.{statement}
 use Rattle.panel_text.proofs.text.show.Tie as tie
 
@@ -17,7 +17,7 @@ returns : tie.Need-returns invariant-loop decreases-loop
 returns c = (refl, too_long c.before.args.text.now c.before.args.out.now c.if1.true)
 
 loop-holds : tie.Need-loop-init invariant-loop decreases-loop
-loop-holds c = none-copied _ _ c.if1.false
+loop-holds c = none_copied _ _ c.if1.false
 
 shared-slice-read-out : tie.Need-shared-slice-read-out invariant-loop decreases-loop
 shared-slice-read-out c = omega arith
@@ -32,7 +32,7 @@ loop-less : tie.Need-loop-smaller invariant-loop decreases-loop
 loop-less c = omega arith
 
 loop-again : tie.Need-loop-preserved invariant-loop decreases-loop
-loop-again c = one-copied _ _ _ _ c.before.before.loop.invariant c.before.loop-test.true
+loop-again c = one_copied _ _ _ _ c.before.before.loop.invariant c.before.loop-test.true
 
 same_length : tie.Need-same-length invariant-loop decreases-loop
 same_length c = c.before.loop.invariant.kept

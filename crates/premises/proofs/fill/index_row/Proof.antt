@@ -3,21 +3,21 @@ use Prim.Native.Nat.{◌-◌, ◌≤◌}
 use mathlib.Core.Path.{◌≡◌, refl}
 use native.Mathlib.Omega.{arith}
 use borrow.Author.Tests.{lt-ltb}
-use Rattle.tables.specs.Layout.{programIn}
+use Rattle.tables.specs.Layout.{program_in}
 use Rattle.premises.specs.Filling.{Indexing}
-use Rattle.premises.proofs.NextIndexed.{none-indexed}
-use Rattle.premises.proofs.RowIndexed.{first_of, rule-known, all_asked, all-counted, all-ripe}
+use Rattle.premises.proofs.NextIndexed.{none_indexed}
+use Rattle.premises.proofs.RowIndexed.{first_of, rule_known, all_asked, all-counted, all-ripe}
 use Rattle.premises.proofs.fill.index_row.Statement.{statement}
 use Rattle.premises.proofs.fill.index_row.Tie as tie
 
 abbrev invariant-loop : tie.invariant-loop
-invariant-loop tables row names asks₀ missing₀ awake₀ place₀ asks missing awake place = (place ≤ names) × Indexing (programIn tables) (first_of row names) place asks missing awake
+invariant-loop tables row names asks₀ missing₀ awake₀ place₀ asks missing awake place = (place ≤ names) × Indexing (program_in tables) (first_of row names) place asks missing awake
 
 abbrev decreases-loop : tie.decreases-loop
 decreases-loop tables row names asks₀ missing₀ awake₀ place₀ asks missing awake place = names - place
 
 loop-holds : tie.Need-loop-init invariant-loop decreases-loop
-loop-holds c = (omega arith, none-indexed _ _ c.requires.2)
+loop-holds c = (omega arith, none_indexed _ _ c.requires.2)
 
 mul-t10 : tie.Need-overflow-mul-t10 invariant-loop decreases-loop
 mul-t10 c = omega (arith, c.before.before.requires.1.few)
@@ -26,7 +26,7 @@ element-copy-out-t13 : tie.Need-element-copy-out-t13 invariant-loop decreases-lo
 element-copy-out-t13 c = omega (arith, c.before.before.requires.1.few)
 
 index-next-requires : tie.Need-index-next-requires invariant-loop decreases-loop
-index-next-requires c κs = (c.before.before.before.before.before.before.requires.0, rule-known c.before.before.before.before.before.before.requires.1 _ c.before.before.before.before.loop-test.true, omega (arith, c.before.before.before.before.before.before.requires.1.few, c.before.before.before.before.loop-test.true), omega (arith, c.before.before.index-next-arg.given.0))
+index-next-requires c κs = (c.before.before.before.before.before.before.requires.0, rule_known c.before.before.before.before.before.before.requires.1 _ c.before.before.before.before.loop-test.true, omega (arith, c.before.before.before.before.before.before.requires.1.few, c.before.before.before.before.loop-test.true), omega (arith, c.before.before.index-next-arg.given.0))
 
 add-place : tie.Need-overflow-add-place invariant-loop decreases-loop
 add-place c = omega (arith, c.before.before.before.before.before.before.before.requires.1.few, c.before.before.before.before.before.loop-test.true)

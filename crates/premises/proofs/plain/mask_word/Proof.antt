@@ -5,16 +5,16 @@ use native.Mathlib.Omega.{arith}
 use borrow.Author.Tests.{eq-eqb, ne_eqb}
 use borrow.Author.Rules.{rules}
 use Rattle.items.specs.Item.{has}
-use Rattle.bits.specs.Flags.{wordBits}
+use Rattle.bits.specs.Flags.{word_bits}
 use Rattle.premises.proofs.MaskPut.{WordPut, no-bit, one_bit, bit-off, word-put}
 use Rattle.premises.proofs.plain.mask_word.Statement.{statement}
 use Rattle.premises.proofs.plain.mask_word.Tie as tie
 
 abbrev invariant-loop : tie.invariant-loop
-invariant-loop mask at word₀ bit₀ word bit = (bit ≤ wordBits) × WordPut mask (at * wordBits) bit word
+invariant-loop mask at word₀ bit₀ word bit = (bit ≤ word_bits) × WordPut mask (at * word_bits) bit word
 
 abbrev decreases-loop : tie.decreases-loop
-decreases-loop mask at word₀ bit₀ word bit = wordBits - bit
+decreases-loop mask at word₀ bit₀ word bit = word_bits - bit
 
 loop-holds : tie.Need-loop-init invariant-loop decreases-loop
 loop-holds c = (omega arith, no-bit _ _)

@@ -3,26 +3,26 @@ use Prim.Native.Nat.{◌-◌, ◌<◌, ◌≤◌}
 use native.Mathlib.Omega.{arith}
 use borrow.Author.Rules.{rules}
 use Rattle.tables.proofs.ProgramHeld.{rules-below}
-use Rattle.bits.specs.Flags.{rowWords}
-use Rattle.premises.proofs.MaskPut.{Putting, none-put, one-put, all-put}
+use Rattle.bits.specs.Flags.{row_words}
+use Rattle.premises.proofs.MaskPut.{Putting, none_put, one_put, all-put}
 use Rattle.premises.proofs.plain.put_mask.Statement.{statement}
 use Rattle.premises.proofs.plain.put_mask.Tie as tie
 
 abbrev invariant-loop : tie.invariant-loop
-invariant-loop tables mask index₀ rules at₀ index at = (at ≤ rowWords) × Putting mask at index
+invariant-loop tables mask index₀ rules at₀ index at = (at ≤ row_words) × Putting mask at index
 
 abbrev decreases-loop : tie.decreases-loop
-decreases-loop tables mask index₀ rules at₀ index at = rowWords - at
+decreases-loop tables mask index₀ rules at₀ index at = row_words - at
 
 -- a word that is to be put is one of the row
-inside : (c : tie.In-loop invariant-loop decreases-loop) → c.before.loop.at < rowWords
+inside : (c : tie.In-loop invariant-loop decreases-loop) → c.before.loop.at < row_words
 inside c = omega (arith, c.loop-test.true, c.before.before.rules-of.ensures, rules-below c.before.before.before.requires.0)
 
 rules-of-requires : tie.Need-rules-of-requires invariant-loop decreases-loop
 rules-of-requires c κs = search rules
 
 loop-holds : tie.Need-loop-init invariant-loop decreases-loop
-loop-holds c = (omega arith, rw c.before.requires.2.zeros (none-put _))
+loop-holds c = (omega arith, rw c.before.requires.2.zeros (none_put _))
 
 mul-loop : tie.Need-overflow-mul-loop invariant-loop decreases-loop
 mul-loop c = omega (arith, c.loop.invariant.0)
@@ -46,7 +46,7 @@ loop-less : tie.Need-loop-smaller invariant-loop decreases-loop
 loop-less c = omega (arith, inside c.before)
 
 loop-again : tie.Need-loop-preserved invariant-loop decreases-loop
-loop-again c = (omega (arith, inside c.before), one-put c.before.before.loop.invariant.1 (inside c.before) _ c.mask_word.ensures)
+loop-again c = (omega (arith, inside c.before), one_put c.before.before.loop.invariant.1 (inside c.before) _ c.mask_word.ensures)
 
 returns : tie.Need-returns invariant-loop decreases-loop
 returns c = all-put c.before.loop.invariant.1 _ c.before.before.before.requires.1 (rules-below c.before.before.before.requires.0) (omega (arith, c.loop-test.false, c.before.before.rules-of.ensures))

@@ -1,7 +1,7 @@
 -- `enter`: the words to come from here give what the row gives from the start.
 use Prim.Native.Nat.{◌-◌}
 use native.Mathlib.Omega.{arith}
-use Rattle.bits.specs.Flags.{rowWords}
+use Rattle.bits.specs.Flags.{row_words}
 use Rattle.premises.proofs.CountsLowered.{RowLowering, no_word, next_word, row-lowered}
 use Rattle.premises.proofs.wake.enter.Statement.{statement}
 use Rattle.premises.proofs.wake.enter.Tie as tie
@@ -10,7 +10,7 @@ abbrev invariant-loop : tie.invariant-loop
 invariant-loop asks fact missing₀ awake₀ from at₀ missing awake at = RowLowering asks fact missing₀ awake₀ at missing awake
 
 abbrev decreases-loop : tie.decreases-loop
-decreases-loop asks fact missing₀ awake₀ from at₀ missing awake at = rowWords - at
+decreases-loop asks fact missing₀ awake₀ from at₀ missing awake at = row_words - at
 
 mul-from : tie.Need-overflow-mul-from invariant-loop decreases-loop
 mul-from c = omega arith

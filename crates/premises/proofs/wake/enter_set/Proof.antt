@@ -5,14 +5,14 @@ use native.Mathlib.Omega.{arith}
 use borrow.Author.Tests.{eq-eqb, ne_eqb}
 use borrow.Author.Rules.{rules}
 use Rattle.items.specs.Item.{has}
-use Rattle.tables.specs.Layout.{programIn}
+use Rattle.tables.specs.Layout.{program_in}
 use Rattle.tables.proofs.ProgramHeld.{facts_below}
 use Rattle.premises.proofs.SetEntered.{SetEntering, none_in, one_in, one_out, all_in}
 use Rattle.premises.proofs.wake.enter_set.Statement.{statement}
 use Rattle.premises.proofs.wake.enter_set.Tie as tie
 
 abbrev invariant-loop : tie.invariant-loop
-invariant-loop tables asks set missing₀ awake₀ facts f₀ missing awake f = (f ≤ facts) × SetEntering (programIn tables) (has set) asks missing₀ awake₀ f missing awake
+invariant-loop tables asks set missing₀ awake₀ facts f₀ missing awake f = (f ≤ facts) × SetEntering (program_in tables) (has set) asks missing₀ awake₀ f missing awake
 
 abbrev decreases-loop : tie.decreases-loop
 decreases-loop tables asks set missing₀ awake₀ facts f₀ missing awake f = facts - f

@@ -3,7 +3,7 @@ use Prim.Native.Nat.{◌-◌}
 use native.Mathlib.Omega.{arith}
 use borrow.Author.Rules.{rules}
 use lib.Bits.{and_le_r}
-use Rattle.premises.proofs.CountsLowered.{WordLoweringAny, word-whole, place-lowered, one-wakes, one-sleeps, word-lowered}
+use Rattle.premises.proofs.CountsLowered.{WordLoweringAny, word-whole, place_lowered, one_wakes, one_sleeps, word-lowered}
 use Rattle.premises.proofs.wake.lower.Statement.{statement}
 use Rattle.premises.proofs.wake.lower.Tie as tie
 
@@ -50,13 +50,13 @@ loop-less : tie.Need-loop-smaller invariant-loop decreases-loop
 loop-less c = omega (arith, c.before.before.before.before.before.without-lowest.ensures, and_le_r c.before.before.before.before.before.before.before.before.loop.left (c.before.before.before.before.before.before.before.before.loop.left - 1), c.before.before.before.before.before.before.before.loop-test.true)
 
 loop-again : tie.Need-loop-preserved invariant-loop decreases-loop
-loop-again c = place-lowered c.before.before.before.before.before.before.before.before.loop.invariant (omega (arith, c.before.before.before.before.before.before.before.loop-test.true)) _ _ (omega (arith, c.before.before.before.before.before.before.lowest-bit.ensures.0)) c.before.before.before.before.before.without-lowest.ensures (λ w f l. one-wakes _ f l _ _ (omega (arith, c.before.before.before.before.before.before.lowest-bit.ensures.1, c.before.before.before.before.before.before.before.before.before.requires)) c.before.before.before.one_less.ensures c.mark.ensures c.before.before.if1.true)
+loop-again c = place_lowered c.before.before.before.before.before.before.before.before.loop.invariant (omega (arith, c.before.before.before.before.before.before.before.loop-test.true)) _ _ (omega (arith, c.before.before.before.before.before.before.lowest-bit.ensures.0)) c.before.before.before.before.before.without-lowest.ensures (λ w f l. one_wakes _ f l _ _ (omega (arith, c.before.before.before.before.before.before.lowest-bit.ensures.1, c.before.before.before.before.before.before.before.before.before.requires)) c.before.before.before.one_less.ensures c.mark.ensures c.before.before.if1.true)
 
 loop-less-2 : tie.Need-loop-smaller-2 invariant-loop decreases-loop
 loop-less-2 c = omega (arith, c.before.before.before.without-lowest.ensures, and_le_r c.before.before.before.before.before.before.loop.left (c.before.before.before.before.before.before.loop.left - 1), c.before.before.before.before.before.loop-test.true)
 
 loop-again-2 : tie.Need-loop-preserved-2 invariant-loop decreases-loop
-loop-again-2 c = place-lowered c.before.before.before.before.before.before.loop.invariant (omega (arith, c.before.before.before.before.before.loop-test.true)) _ _ (omega (arith, c.before.before.before.before.lowest-bit.ensures.0)) c.before.before.before.without-lowest.ensures (λ w f l. one-sleeps _ f l _ _ (omega (arith, c.before.before.before.before.lowest-bit.ensures.1, c.before.before.before.before.before.before.before.requires)) c.before.one_less.ensures c.if1.false)
+loop-again-2 c = place_lowered c.before.before.before.before.before.before.loop.invariant (omega (arith, c.before.before.before.before.before.loop-test.true)) _ _ (omega (arith, c.before.before.before.before.lowest-bit.ensures.0)) c.before.before.before.without-lowest.ensures (λ w f l. one_sleeps _ f l _ _ (omega (arith, c.before.before.before.before.lowest-bit.ensures.1, c.before.before.before.before.before.before.before.requires)) c.before.one_less.ensures c.if1.false)
 
 returns : tie.Need-returns invariant-loop decreases-loop
 returns c = word-lowered c.before.loop.invariant c.loop-test.false

@@ -1,7 +1,7 @@
 -- `ask_item`: each way through its code.
 use borrow.Author.Rules.{rules}
 use mathlib.Core.Path.{refl, sym, ◌∙◌}
-use Rattle.proofcheck.proofs.ItemAsked.{premise-asked, constraint-among, constraint-in-set, constraint-barred, none-asked}
+use Rattle.proofcheck.proofs.ItemAsked.{premise_asked, constraint_among, constraint_in_set, constraint_barred, none_asked}
 use Rattle.proofcheck.proofs.own.ask_item.Statement.{statement}
 use Rattle.proofcheck.proofs.own.ask_item.Tie as tie
 
@@ -21,13 +21,13 @@ element-copy-out-if1 : tie.Need-element-copy-out-if1
 element-copy-out-if1 c = c.before.before.before.before.before.requires.below _ c.before.before.item2.given.1
 
 returns : tie.Need-returns
-returns c = constraint-among _ _ _ _ c.before.before.before.before.item2.given.1 c.if1.true
+returns c = constraint_among _ _ _ _ c.before.before.before.before.item2.given.1 c.if1.true
 
 in-set-requires-2 : tie.Need-in-set-requires-2
 in-set-requires-2 c κs = search rules
 
 returns-2 : tie.Need-returns-2
-returns-2 c = constraint-in-set _ _ _ _ c.before.before.before.before.before.before.item2.given.1 (sym c.before.in-set2.ensures ∙ c.if2.true)
+returns-2 c = constraint_in_set _ _ _ _ c.before.before.before.before.before.before.item2.given.1 (sym c.before.in-set2.ensures ∙ c.if2.true)
 
 element-write-marks : tie.Need-element-write-marks
 element-write-marks c = c.before.before.before.before.before.before.before.before.before.requires.below _ c.before.before.before.before.before.before.item2.given.1
@@ -36,13 +36,13 @@ enum_told : tie.Need-enum-told
 enum_told c = search rules
 
 returns-3 : tie.Need-returns-3
-returns-3 c = premise-asked _ _ _ _ _ _ c.before.before.before.before.item.given.1 c.in-set.ensures refl
+returns-3 c = premise_asked _ _ _ _ _ _ c.before.before.before.before.item.given.1 c.in_set.ensures refl
 
 returns-4 : tie.Need-returns-4
-returns-4 c = constraint-barred _ _ _ _ c.before.before.before.before.before.before.item2.given.1 c.before.before.if1.false (sym c.before.in-set2.ensures ∙ c.if2.false)
+returns-4 c = constraint_barred _ _ _ _ c.before.before.before.before.before.before.item2.given.1 c.before.before.if1.false (sym c.before.in-set2.ensures ∙ c.if2.false)
 
 returns-5 : tie.Need-returns-5
-returns-5 c = none-asked _ _ _ c.enum_told.given.1
+returns-5 c = none_asked _ _ _ c.enum_told.given.1
 
 pub ask-item-spec : {M : Type 1} → statement M
 ask-item-spec =

@@ -51,7 +51,7 @@ use denote.Exit.{yes}
 use denote.Triple.Clauses.{ensured, Lasts, lasts}
 use Rattle.theory.specs.Rule.{Rule, FactSet}
 use Rattle.items.specs.Item.{has}
-use Rattle.view.specs.View.{takenAt}
+use Rattle.view.specs.View.{taken_at}
 use Rattle.view.specs.declared.RuleView.{RuleView}
 use Rattle.view.specs.declared.range.Taken.{Taken}
 use Rattle.view.specs.contracts.RuleView as T
@@ -67,9 +67,9 @@ use Rattle.view.proofs.next_item.Symbol as next-item-def
 use Rattle.view.proofs.next_item.Symbol.{name as #view·next-item}
 use Rattle.view.proofs.next_item.Met as next-item-thm
 use Rattle.proofcheck.specs.declared.own.Told.{Told}
-use Rattle.proofcheck.specs.Viewed.{ruleAhead, MayView, MayAsk, ItemAnswered, Fitted}
+use Rattle.proofcheck.specs.Viewed.{rule_ahead, MayView, MayAsk, ItemAnswered, Fitted}
 use Rattle.proofcheck.proofs.ReadByView.{Viewing, all-ahead}
-use Rattle.proofcheck.proofs.ItemAsked.{may-ask, decided, goes_on}
+use Rattle.proofcheck.proofs.ItemAsked.{may_ask, decided, goes_on}
 use Rattle.proofcheck.specs.contracts.own.Told as D
 use Rattle.proofcheck.proofs.own.Told.TheLaws as D'
 use Rattle.proofcheck.specs.contracts.own.ask_item as ask-item
@@ -93,13 +93,13 @@ abbrev stayed : Stays (view-fits.ended).signature.params (view-fits.ended).kept
 stayed = (stay_none_slice (0 ∷ []) tt (plain (λ _. u8)) yes, (stay_none (λ _. usize) yes, (stay_none (λ _. usize) yes, (stay_none_slice (1 ∷ []) tt (plain (λ _. u8)) yes, (stay_ref (2 ∷ []) tt (plain (λ _. Marks)), tt)))))
 
 -- the type of a local
-abbrev typeIn : List Local → ℕ → Ty
-typeIn [] i = ty_bool
-typeIn (local τ h ∷ ls) zero = τ
-typeIn (local τ h ∷ ls) (suc i) = typeIn ls i
+abbrev type_in : List Local → ℕ → Ty
+type_in [] i = ty_bool
+type_in (local τ h ∷ ls) zero = τ
+type_in (local τ h ∷ ls) (suc i) = type_in ls i
 
 abbrev ty : ℕ → Ty
-ty i = typeIn (code.function).locals i
+ty i = type_in (code.function).locals i
 
 -- how a test came out
 is_true : (b : Bool) → Holds b → b ≡ true
@@ -111,11 +111,11 @@ is_false true a = absurd a
 is_false false _ = refl
 
 -- the machine values of a view and of what an item tells
-abbrev viewVal : Bor (List ℕ) → ℕ → ℕ → Val
-viewVal f at end = vstruct (vcons (slice_val f.ref_ptr (length f.now)) (vcons (vint w64 at) (vcons (vint w64 end) vnil)))
+abbrev view_val : Bor (List ℕ) → ℕ → ℕ → Val
+view_val f at end = vstruct (vcons (slice_val f.ref_ptr (length f.now)) (vcons (vint w64 at) (vcons (vint w64 end) vnil)))
 
-abbrev toldVal : Told → Val
-toldVal r = vstruct (vcons (vbool r.over) (vcons (vbool r.fits) (vcons (vint w64 r.rest) vnil)))
+abbrev told_val : Told → Val
+told_val r = vstruct (vcons (vbool r.over) (vcons (vbool r.fits) (vcons (vint w64 r.rest) vnil)))
 
 rest-fits : (r : Told) (u : Val) → Is D.the_row r (u ∷ []) → r.rest < 2 ^ 64
 rest-fits r u is = (LL.owed D.the_type D'.the_laws r (u ∷ []) is).1.1.0.1
@@ -210,27 +210,27 @@ module _ {M : Type 1} {𝓤 : Ura M} (𝓛 : Logic 𝓤) (mem : Memory → SProp
   view-said : (r : RuleView) → ent 𝓤 (ensured 𝓛 view_of.ended (view_of.clauses 𝓛 mem run) (κ₀, tt) (s, (n, (m, tt))) tt r) (fact 𝓤 (IsView s n m r))
   view-said r = ex_e 𝓤 _ (λ ws. snd∗ 𝓤 (sem 𝓛 (lasts view_of.ended (κ₀, tt) (s, (n, (m, tt))) ws)) (fact 𝓤 (IsView s n m r)))
 
-  view-val : (r : RuleView) (u : Val) → IsView s n m r → Is (B κ₀) r (u ∷ []) → u ≡ viewVal s n m
-  view-val r u e is = ap only (LL.tells (T.the_type (named_lft 1 0 tt (κ₀, tt))) (T'.the_laws (named_lft 1 0 tt (κ₀, tt))) r (u ∷ []) is) ∙ (λ i. viewVal (e.0 i) (e.1 i) (e.2 i))
+  view-val : (r : RuleView) (u : Val) → IsView s n m r → Is (B κ₀) r (u ∷ []) → u ≡ view_val s n m
+  view-val r u e is = ap only (LL.tells (T.the_type (named_lft 1 0 tt (κ₀, tt))) (T'.the_laws (named_lft 1 0 tt (κ₀, tt))) r (u ∷ []) is) ∙ (λ i. view_val (e.0 i) (e.1 i) (e.2 i))
 
   -- the call of `next_item`, of the view at the place k
-  abbrev to-next : ℕ → (NextItem 𝓛 mem run).Ghost
-  to-next k = (((κ₀, tt), (q₀, tt), tt, (made k, tt), (viewVal s k m ∷ [], tt)), tt)
+  abbrev to_next : ℕ → (NextItem 𝓛 mem run).Ghost
+  to_next k = (((κ₀, tt), (q₀, tt), tt, (made k, tt), (view_val s k m ∷ [], tt)), tt)
 
   abbrev next-owns : ℕ → Fml
-  next-owns k = owns (B κ₀ ∷ []) (made k, tt) (viewVal s k m ∷ [], tt)
+  next-owns k = owns (B κ₀ ∷ []) (made k, tt) (view_val s k m ∷ [], tt)
 
-  goes-next : (k : ℕ) → k < 2 ^ 64 → ent 𝓤 (⋆ 𝓛 (‵ (flft κ₀ q₀) ∷ ‵ OwnF ∷ [])) (sep 𝓤 ((NextItem 𝓛 mem run).pre (to-next k)) (sem 𝓛 OwnF))
+  goes-next : (k : ℕ) → k < 2 ^ 64 → ent 𝓤 (⋆ 𝓛 (‵ (flft κ₀ q₀) ∷ ‵ OwnF ∷ [])) (sep 𝓤 ((NextItem 𝓛 mem run).pre (to_next k)) (sem 𝓛 OwnF))
   goes-next k k-fits =
       qed 𝓛 (‵ (flft κ₀ q₀) ∷ ‵ OwnF ∷ []) ∵ move ! (1 ∷ []) $ use1 𝓛 (‵ OwnF ⊛ ‵ OwnF) ((shr_slice_copy 𝓛 (named 0) κ₀ u8).twice s (v ∷ [])) $ split ! $
       nothing ! $ owned ! usize (Is usize) (uint_Makes 𝓛 w64) m _ (refl, m-fits) $ fjoin ! $ owned ! usize (Is usize) (uint_Makes 𝓛 w64) k _ (refl, k-fits) $ fjoin ! $ move ! (1 ∷ 0 ∷ []) $ fjoin ! $
-      use1 𝓛 (‵ (OwnV (made k) (viewVal s k m))) (own_shut 𝓛 (T.the_type (named_lft 1 0 tt (κ₀, tt))) (T'.the_laws (named_lft 1 0 tt (κ₀, tt))) (s, (k, (m, tt)))) $
+      use1 𝓛 (‵ (OwnV (made k) (view_val s k m))) (own_shut 𝓛 (T.the_type (named_lft 1 0 tt (κ₀, tt))) (T'.the_laws (named_lft 1 0 tt (κ₀, tt))) (s, (k, (m, tt)))) $
       -- [what the view owns; what file owns; the token]
       nothing ! $ move ! (1 ∷ 0 ∷ []) $ fjoin ! $ nothing ! $ move ! (3 ∷ 0 ∷ []) $ join ! $
-      use2 𝓛 (raw ((NextItem 𝓛 mem run).pre (to-next k))) (qed 𝓛 ((‵ (flft κ₀ q₀) ⊛ ‵ ftrue) ∷ ‵ (next-owns k) ∷ []) ∵ join ! $ frame ! $ done !) $ frame ! $ done !
+      use2 𝓛 (raw ((NextItem 𝓛 mem run).pre (to_next k))) (qed 𝓛 ((‵ (flft κ₀ q₀) ⊛ ‵ ftrue) ∷ ‵ (next-owns k) ∷ []) ∵ join ! $ frame ! $ done !) $ frame ! $ done !
 
   abbrev IsTaken : ℕ → Taken → Type 0
-  IsTaken k t = t ≡ takenAt s.now k m
+  IsTaken k t = t ≡ taken_at s.now k m
 
   next-said : (k : ℕ) (t : Taken) → ent 𝓤 (ensured 𝓛 next-item.ended (next-item.clauses 𝓛 mem run) (κ₀, tt) (made k, tt) tt t) (fact 𝓤 (IsTaken k t))
   next-said k t = ex_e 𝓤 _ (λ ws. snd∗ 𝓤 (sem 𝓛 (lasts next-item.ended (κ₀, tt) (made k, tt) ws)) (fact 𝓤 (IsTaken k t)))
@@ -258,10 +258,10 @@ module _ {M : Type 1} {𝓤 : Ura M} (𝓛 : Logic 𝓤) (mem : Memory → SProp
       nothing ! $ move ! (4 ∷ 0 ∷ []) $ join ! $ move ! (3 ∷ 0 ∷ []) $ join ! $
       use2 𝓛 (raw ((AskItem 𝓛 mem run).pre (to-ask t u ν δ ms))) (qed 𝓛 ((‵ (flft κ₁ q₁) ⊛ ‵ (flft (ν ∷ []) full_share) ⊛ ‵ ftrue) ∷ ‵ (ask-owns t u ν δ ms) ∷ []) ∵ says ! may $ frame ! $ done !) $ frame ! $ done !
 
-  told-val : (r : Told) (u : Val) → Is D.the_row r (u ∷ []) → u ≡ toldVal r
+  told-val : (r : Told) (u : Val) → Is D.the_row r (u ∷ []) → u ≡ told_val r
   told-val r u is = ap only (LL.tells D.the_type D'.the_laws r (u ∷ []) is)
 
-  exits : (c : Bool) (zs : List ℕ) → Fitted (has s₁.now) (ruleAhead s.now n) ys c zs → ent 𝓤 (⋆ 𝓛 (‵ (flft κ₂ q₂) ∷ ‵ (OwnM κ₂ γ zs) ∷ ‵ (flft κ₁ q₁) ∷ ‵ OwnS ∷ ‵ (flft κ₀ q₀) ∷ ‵ OwnF ∷ [])) (Post (vbool c))
+  exits : (c : Bool) (zs : List ℕ) → Fitted (has s₁.now) (rule_ahead s.now n) ys c zs → ent 𝓤 (⋆ 𝓛 (‵ (flft κ₂ q₂) ∷ ‵ (OwnM κ₂ γ zs) ∷ ‵ (flft κ₁ q₁) ∷ ‵ OwnS ∷ ‵ (flft κ₀ q₀) ∷ ‵ OwnF ∷ [])) (Post (vbool c))
   exits c zs e =
       qed 𝓛 (‵ (flft κ₂ q₂) ∷ ‵ (OwnM κ₂ γ zs) ∷ ‵ (flft κ₁ q₁) ∷ ‵ OwnS ∷ ‵ (flft κ₀ q₀) ∷ ‵ OwnF ∷ []) ∵
       suffices ! _ (ends_at 𝓛 view-fits.ended stayed (view-fits.clauses 𝓛 mem run) bound (vbool c) c (tt, (tt, (tt, (tt, (zs, tt))))) (tt, (tt, (tt, (tt, (tt, tt)))))) $ says ! e $
@@ -271,7 +271,7 @@ module _ {M : Type 1} {𝓤 : Ura M} (𝓛 : Logic 𝓤) (mem : Memory → SProp
       move ! (1 ∷ 0 ∷ []) $ fjoin ! $ frame ! $ owned ! bool (Is bool) (bool_Makes 𝓛) c _ refl $ done !
 
   abbrev At-place : Type 0
-  At-place = Standing (has s₁.now) (ruleAhead s.now n) ys s.now m
+  At-place = Standing (has s₁.now) (rule_ahead s.now n) ys s.now m
 
   abbrev Nearer : At-place → At-place → Type 0
   Nearer j i = m - j.at < m - i.at
@@ -288,7 +288,7 @@ module _ {M : Type 1} {𝓤 : Ura M} (𝓛 : Logic 𝓤) (mem : Memory → SProp
     At l₀ l₁ l₂ l₃ l₄ l₅ l₆ l₇ l₈ l₉ l₁₀ l₁₁ i =
         ‵ (flft κ₂ q₂) ∷ ‵ (OwnM κ₂ γ i.marks) ∷ ‵ (flft κ₁ q₁) ∷ ‵ OwnS ∷ ‵ (flft κ₀ q₀) ∷ ‵ OwnF
         ∷ ‵ (froom (ty 11) l₁₁ 0) ∷ ‵ (fdies (ty 11) l₁₁) ∷ ‵ (froom (ty 10) l₁₀ 0) ∷ ‵ (fdies (ty 10) l₁₀) ∷ ‵ (froom (ty 9) l₉ 0) ∷ ‵ (fdies (ty 9) l₉)
-        ∷ ‵ (froom (ty 8) l₈ 0) ∷ ‵ (fdies (ty 8) l₈) ∷ ‵ (froom (ty 7) l₇ 0) ∷ ‵ (fdies (ty 7) l₇) ∷ ‵ (fat full_share (ty 6) l₆ 0 (viewVal s i.at m)) ∷ ‵ (fdies (ty 6) l₆)
+        ∷ ‵ (froom (ty 8) l₈ 0) ∷ ‵ (fdies (ty 8) l₈) ∷ ‵ (froom (ty 7) l₇ 0) ∷ ‵ (fdies (ty 7) l₇) ∷ ‵ (fat full_share (ty 6) l₆ 0 (view_val s i.at m)) ∷ ‵ (fdies (ty 6) l₆)
         ∷ ‵ (fat full_share (ty 5) l₅ 0 (vptr b o)) ∷ ‵ (fdies (ty 5) l₅) ∷ ‵ (fat full_share (ty 4) l₄ 0 v₁) ∷ ‵ (fdies (ty 4) l₄) ∷ ‵ (fat full_share (ty 3) l₃ 0 (vint w64 m)) ∷ ‵ (fdies (ty 3) l₃)
         ∷ ‵ (fat full_share (ty 2) l₂ 0 (vint w64 n)) ∷ ‵ (fdies (ty 2) l₂) ∷ ‵ (fat full_share (ty 1) l₁ 0 v) ∷ ‵ (fdies (ty 1) l₁) ∷ ‵ (froom (ty 0) l₀ 0) ∷ ‵ (fdies (ty 0) l₀) ∷ []
 
@@ -314,8 +314,8 @@ module _ {M : Type 1} {𝓤 : Ura M} (𝓛 : Logic 𝓤) (mem : Memory → SProp
         first ! $ blocks ! $ loops ! 𝓣 Nearer Nearer-wf (At l₀ l₁ l₂ l₃ l₄ l₅ l₆ l₇ l₈ l₉ l₁₀ l₁₁) (λ i.
         -- a turn: the view is copied, and gives its next item
         assigns ! (of_opd ! (load ! (from ! (stop !)) (look ! 16 refl))) (from ! (stop !)) (init ! 10 refl (tt, (((shr_slice_Lawful 𝓛 (named 0) κ₀ u8).typed s (v ∷ []) p).0.1, (record { fits = i.at-fits }, (record { fits = m-fits }, tt))))) $
-        move ! (4 ∷ 5 ∷ []) $ use2 𝓛 (raw ((NextItem 𝓛 mem run).pre (to-next i.at)) ⊛ ‵ OwnF) (goes-next i.at i.at-fits) $ split ! $
-        calls_at ! fm (NextItem 𝓛 mem run) known_next (to-next i.at) (and_then ! (load ! (from ! (stop !)) (look ! 10 refl)) (no_more !)) (λ u₇.
+        move ! (4 ∷ 5 ∷ []) $ use2 𝓛 (raw ((NextItem 𝓛 mem run).pre (to_next i.at)) ⊛ ‵ OwnF) (goes-next i.at i.at-fits) $ split ! $
+        calls_at ! fm (NextItem 𝓛 mem run) known_next (to_next i.at) (and_then ! (load ! (from ! (stop !)) (look ! 10 refl)) (no_more !)) (λ u₇.
         use1 𝓛 (later (some (λ (t : Taken). ((‵ (flft κ₀ q₀) ⊛ ‵ ftrue) ⊛ ‵ (OwnT t u₇)) ⊛ raw (ensured 𝓛 next-item.ended (next-item.clauses 𝓛 mem run) (κ₀, tt) (made i.at, tt) tt t)))) (id⊢ 𝓤 _) $ await ! tt $ pick ! (λ t.
         split ! $ move ! (1 ∷ []) $ use1 𝓛 (raw (fact 𝓤 (IsTaken i.at t))) (next-said i.at t) $ heard ! (IsTaken i.at t) (λ took. split ! $ move ! (1 ∷ []) $
         -- [what is taken; file's token; what file owns; marks' token; what marks own; set's token; what set owns; the locals]
@@ -327,7 +327,7 @@ module _ {M : Type 1} {𝓤 : Ura M} (𝓛 : Logic 𝓤) (mem : Memory → SProp
         use2 𝓛 (later (some (λ (δ : GName). ‵ (OwnM (ν ∷ []) δ i.marks) ⊛ ‵ (LentAgain Marks κ₂ (ν ∷ []) q₂ γ b o δ i.marks)))) (lends_again 𝓛 Marks (named 2) κ₂ (ν ∷ []) q₂ γ b o (named 2) i.marks) $ await ! tt $ pick ! (λ δ. split ! $
         -- [what they own lent; what is kept; the call's token; what is taken; file's token; what file owns; set's token; what set owns; the locals]
         move ! (2 ∷ 0 ∷ []) $ join ! $ move ! (5 ∷ 6 ∷ []) $ join ! $ move ! (3 ∷ 1 ∷ 0 ∷ []) $
-        use3 𝓛 (raw ((AskItem 𝓛 mem run).pre (to-ask t u₇ ν δ i.marks)) ⊛ ‵ OwnS) (goes-ask t u₇ ν δ i.marks (may-ask i.ahead t took)) $ split ! $
+        use3 𝓛 (raw ((AskItem 𝓛 mem run).pre (to-ask t u₇ ν δ i.marks)) ⊛ ‵ OwnS) (goes-ask t u₇ ν δ i.marks (may_ask i.ahead t took)) $ split ! $
         calls_at ! fm (AskItem 𝓛 mem run) known-ask (to-ask t u₇ ν δ i.marks) (and_then ! (load ! (from ! (stop !)) (look ! 13 refl)) (and_then ! (load ! (from ! (stop !)) (look ! 19 refl)) (and_then ! (load ! (from ! (stop !)) (look ! 7 refl)) (no_more !)))) (λ u₈.
         use1 𝓛 (later (some (λ (r : Told). ((‵ (flft κ₁ q₁) ⊛ ‵ (flft (ν ∷ []) full_share) ⊛ ‵ ftrue) ⊛ ‵ ((D.the_row).own_val r (u₈ ∷ []))) ⊛ raw (ensured 𝓛 ask-item.ended (ask-item.clauses 𝓛 mem run) (κ₁, (ν ∷ [], tt)) (asks t δ i.marks) tt r)))) (id⊢ 𝓤 _) $ await ! tt $ pick ! (λ told.
         -- what `ask_item` ensures, at the last marks

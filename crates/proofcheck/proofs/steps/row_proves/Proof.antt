@@ -14,13 +14,13 @@ use Rattle.cursors.proofs.NoItemRead.{nothing_read}
 use Rattle.reader.specs.Questions.{program_of}
 use Rattle.questions.specs.Questions.{steps_of, row_of, step_of}
 use Rattle.questions.proofs.ItemWalks.{same_row}
-use Rattle.questions.proofs.Rows.{stepsFrom, other_item, step-read}
-use Rattle.proofcheck.proofs.RowWalked.{Walking, none-walked, all-walked, walking-along, one-fails, one-fits}
+use Rattle.questions.proofs.Rows.{steps_from, other_item, step-read}
+use Rattle.proofcheck.proofs.RowWalked.{Walking, none_walked, all-walked, walking_along, one_fails, one_fits}
 use Rattle.proofcheck.proofs.steps.row_proves.Statement.{statement}
 use Rattle.proofcheck.proofs.steps.row_proves.Tie as tie
 
 abbrev invariant-loop : tie.invariant-loop
-invariant-loop file tables set fact proof marks₀ ends₀ cursor₀ marks ends cursor = (cursor.row ≡ Steps) × Walking (program_of file) (has set) fact.0 (row_of proof) marks ends (stepsFrom proof cursor)
+invariant-loop file tables set fact proof marks₀ ends₀ cursor₀ marks ends cursor = (cursor.row ≡ Steps) × Walking (program_of file) (has set) fact.0 (row_of proof) marks ends (steps_from proof cursor)
 
 abbrev decreases-loop : tie.decreases-loop
 decreases-loop file tables set fact proof marks₀ ends₀ cursor₀ marks ends cursor = length proof - cursor.at
@@ -30,11 +30,11 @@ item-read : (c : tie.After-known-told invariant-loop decreases-loop) → next_at
 item-read c = sym c.before.before.before.next-step.ensures ∙ c.before.item.given.1
 
 -- once it is a step
-a-step : (c : tie.After-known-told2 invariant-loop decreases-loop) → stepsFrom c.before.before.before.before.before.before.before.before.before.before.before.args.proof.now c.before.before.before.before.before.before.before.loop.cursor ≡ step_of c.before.item2.given.0.0 c.before.item2.given.0.1.0 ∷ stepsFrom c.before.before.before.before.before.before.before.before.before.before.before.args.proof.now c.before.before.before.before.item.given.0.1.0
-a-step c = step-read _ _ _ _ (item-read c.before.before.before) _ _ c.before.item2.given.1
+a_step : (c : tie.After-known-told2 invariant-loop decreases-loop) → steps_from c.before.before.before.before.before.before.before.before.before.before.before.args.proof.now c.before.before.before.before.before.before.before.loop.cursor ≡ step_of c.before.item2.given.0.0 c.before.item2.given.0.1.0 ∷ steps_from c.before.before.before.before.before.before.before.before.before.before.before.args.proof.now c.before.before.before.before.item.given.0.1.0
+a_step c = step-read _ _ _ _ (item-read c.before.before.before) _ _ c.before.item2.given.1
 
 loop-holds : tie.Need-loop-init invariant-loop decreases-loop
-loop-holds c = (refl, none-walked _ _ _ _ _ c.before.before.before.requires.1)
+loop-holds c = (refl, none_walked _ _ _ _ _ c.before.before.before.requires.1)
 
 next-step-requires : tie.Need-next-step-requires invariant-loop decreases-loop
 next-step-requires c κs = c.loop.invariant.0
@@ -49,7 +49,7 @@ step-fits-requires : tie.Need-step-fits-requires invariant-loop decreases-loop
 step-fits-requires c κs = (c.before.before.before.before.before.before.before.before.before.before.before.before.requires.0, c.before.before.before.before.before.before.before.before.loop.invariant.1.size)
 
 returns : tie.Need-returns invariant-loop decreases-loop
-returns c = one-fails c.before.before.before.before.before.before.before.before.before.before.loop.invariant.1 _ _ (a-step c.before.before.before) (sym c.before.step_fits.ensures.0 ∙ not-true _ c.if1.true)
+returns c = one_fails c.before.before.before.before.before.before.before.before.before.before.loop.invariant.1 _ _ (a_step c.before.before.before) (sym c.before.step_fits.ensures.0 ∙ not-true _ c.if1.true)
 
 loop-less : tie.Need-loop-smaller invariant-loop decreases-loop
 loop-less c = closer (found _ _ _ _ (item-read c.before.before.before.before.before.before.before.before))
@@ -57,7 +57,7 @@ loop-less c = closer (found _ _ _ _ (item-read c.before.before.before.before.bef
 loop-again : tie.Need-loop-preserved invariant-loop decreases-loop
 loop-again c = (
   same_row _ _ _ _ Steps (item-read c.before.before.before.before.before.before.before.before) tt c.before.before.before.before.before.before.before.before.before.before.before.before.loop.invariant.0,
-  one-fits c.before.before.before.before.before.before.before.before.before.before.before.before.loop.invariant.1 _ _ (a-step c.before.before.before.before.before) _ (sym c.before.before.before.step_fits.ensures.0 ∙ not-false _ c.before.before.if1.false) (c.before.before.before.step_fits.ensures.1 (not-false _ c.before.before.if1.false)),
+  one_fits c.before.before.before.before.before.before.before.before.before.before.before.before.loop.invariant.1 _ _ (a_step c.before.before.before.before.before) _ (sym c.before.before.before.step_fits.ensures.0 ∙ not-false _ c.before.before.if1.false) (c.before.before.before.step_fits.ensures.1 (not-false _ c.before.before.if1.false)),
 )
 
 loop-less-2 : tie.Need-loop-smaller-2 invariant-loop decreases-loop
@@ -66,7 +66,7 @@ loop-less-2 c = closer (found _ _ _ _ (item-read c.before))
 loop-again-2 : tie.Need-loop-preserved-2 invariant-loop decreases-loop
 loop-again-2 c = (
   same_row _ _ _ _ Steps (item-read c.before) tt c.before.before.before.before.before.loop.invariant.0,
-  walking-along c.before.before.before.before.before.loop.invariant.1 _ (other_item _ _ _ _ (item-read c.before) c.match2.keys2),
+  walking_along c.before.before.before.before.before.loop.invariant.1 _ (other_item _ _ _ _ (item-read c.before) c.match2.keys2),
 )
 
 returns-2 : tie.Need-returns-2 invariant-loop decreases-loop

@@ -5,30 +5,30 @@ use mathlib.Core.Path.{◌≡◌, refl, sym, ◌∙◌}
 use mathlib.Core.Bool.{true, false}
 use native.Mathlib.Omega.{arith}
 use borrow.Author.Tests.{not-true, not-false}
-use Rattle.theory.specs.Rule.{count, withheld, rule as ruleOf}
+use Rattle.theory.specs.Rule.{count, withheld, rule as rule_of}
 use Rattle.theory.proofs.Bools.{never}
-use Rattle.items.specs.Item.{narrow, maxFacts}
-use Rattle.tables.specs.Layout.{programIn}
+use Rattle.items.specs.Item.{narrow, max_facts}
+use Rattle.tables.specs.Layout.{program_in}
 use Rattle.reader.specs.Questions.{program_of}
 use Rattle.questions.specs.Questions.{step_of}
 use Rattle.proofcheck.specs.Steps.{RuleMarked}
-use Rattle.proofcheck.proofs.StepTested.{rule-below, unknown-rule, by-withheld, other-conclusion, fact-few, rule-unfit, bars-decide, fact-barred, fact-free, fact-marked}
+use Rattle.proofcheck.proofs.StepTested.{rule-below, unknown_rule, by_withheld, other_conclusion, fact-few, rule-unfit, bars-decide, fact-barred, fact-free, fact-marked}
 use Rattle.proofcheck.proofs.steps.step_fits.Statement.{statement}
 use Rattle.proofcheck.proofs.steps.step_fits.Tie as tie
 
-known : (c : tie.Else1) → c.before.before.before.before.before.args.rule.0 < count (programIn c.before.before.before.before.before.args.tables.now)
+known : (c : tie.Else1) → c.before.before.before.before.before.args.rule.0 < count (program_in c.before.before.before.before.before.args.tables.now)
 known c = omega (arith, c.before.before.rules-of.ensures, c.if1.false)
 
 -- past the second test
-unread : (c : tie.Else2) → withheld (programIn c.before.before.before.before.before.before.before.args.tables.now) c.before.before.before.before.before.before.before.args.rule.0 ≡ false
+unread : (c : tie.Else2) → withheld (program_in c.before.before.before.before.before.before.before.args.tables.now) c.before.before.before.before.before.before.before.args.rule.0 ≡ false
 unread c = sym c.before.is-withheld.ensures ∙ c.if2.false
 
 -- once the rule concludes the fact
-in_table : (c : tie.Else3) → c.before.before.before.before.before.before.before.before.before.before.before.args.fact.0 < maxFacts narrow
+in_table : (c : tie.Else3) → c.before.before.before.before.before.before.before.before.before.before.before.args.fact.0 < max_facts narrow
 in_table c = fact-few c.before.before.before.before.before.before.before.before.before.before.before.requires.0 c.before.before.before.before.before.before.before.before.before.before.before.args.fact c.before.before.before.before.before.before.before.before.before.before.before.args.rule (known c.before.before.before.before.before.before) c.before.before.before.conclusion.ensures c.if3.false
 
 -- once the rule fits
-constraints-barred : (c : tie.Else4) → RuleMarked (ruleOf (program_of c.before.before.before.before.before.before.before.before.before.before.before.before.before.before.before.args.file.now) c.before.before.before.before.before.before.before.before.before.before.before.before.before.before.before.args.rule.0) c.before.before.before.before.before.before.before.before.before.before.before.before.before.before.before.args.marks.now c.before.rule_fits.new.1.1.1.1.0
+constraints-barred : (c : tie.Else4) → RuleMarked (rule_of (program_of c.before.before.before.before.before.before.before.before.before.before.before.before.before.before.before.args.file.now) c.before.before.before.before.before.before.before.before.before.before.before.before.before.before.before.args.rule.0) c.before.before.before.before.before.before.before.before.before.before.before.before.before.before.before.args.marks.now c.before.rule_fits.new.1.1.1.1.0
 constraints-barred c = c.before.rule_fits.ensures.1 (not-false _ c.if4.false)
 
 rules-of-requires : tie.Need-rules-of-requires
@@ -38,19 +38,19 @@ cast-if1 : tie.Need-overflow-cast-if1
 cast-if1 c = search rules
 
 returns : tie.Need-returns
-returns c = (unknown-rule c.before.before.before.before.before.requires.0 c.before.before.before.before.before.args.fact c.before.before.before.before.before.args.rule _ _ _ (omega (arith, c.before.before.rules-of.ensures, c.if1.true)), λ e. never e refl)
+returns c = (unknown_rule c.before.before.before.before.before.requires.0 c.before.before.before.before.before.args.fact c.before.before.before.before.before.args.rule _ _ _ (omega (arith, c.before.before.rules-of.ensures, c.if1.true)), λ e. never e refl)
 
 is-withheld-requires : tie.Need-is-withheld-requires
 is-withheld-requires c κs = search rules
 
 returns-2 : tie.Need-returns-2
-returns-2 c = (by-withheld c.before.before.before.before.before.before.before.requires.0 c.before.before.before.before.before.before.before.args.fact c.before.before.before.before.before.before.before.args.rule (known c.before.before) _ _ _ (sym c.before.is-withheld.ensures ∙ c.if2.true), λ e. never e refl)
+returns-2 c = (by_withheld c.before.before.before.before.before.before.before.requires.0 c.before.before.before.before.before.before.before.args.fact c.before.before.before.before.before.before.before.args.rule (known c.before.before) _ _ _ (sym c.before.is-withheld.ensures ∙ c.if2.true), λ e. never e refl)
 
 conclusion-requires : tie.Need-conclusion-requires
 conclusion-requires c κs = search rules
 
 returns-3 : tie.Need-returns-3
-returns-3 c = (other-conclusion c.before.before.before.before.before.before.before.before.before.before.before.requires.0 c.before.before.before.before.before.before.before.before.before.before.before.args.fact c.before.before.before.before.before.before.before.before.before.before.before.args.rule (known c.before.before.before.before.before.before) c.before.before.before.conclusion.ensures (unread c.before.before.before.before) _ _ _ c.if3.true, λ e. never e refl)
+returns-3 c = (other_conclusion c.before.before.before.before.before.before.before.before.before.before.before.requires.0 c.before.before.before.before.before.before.before.before.before.before.before.args.fact c.before.before.before.before.before.before.before.before.before.before.before.args.rule (known c.before.before.before.before.before.before) c.before.before.before.conclusion.ensures (unread c.before.before.before.before) _ _ _ c.if3.true, λ e. never e refl)
 
 cast-number : tie.Need-overflow-cast-number
 cast-number c = search rules

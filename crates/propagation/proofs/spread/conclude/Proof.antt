@@ -2,7 +2,7 @@
 use borrow.Author.Rules.{rules}
 use native.Mathlib.Omega.{arith}
 use Rattle.tables.proofs.ProgramHeld.{in_table}
-use Rattle.propagation.proofs.LiteralsTold.{conclusion-literal, read-concluded}
+use Rattle.propagation.proofs.LiteralsTold.{conclusion_literal, read_concluded}
 use Rattle.propagation.proofs.spread.conclude.Statement.{statement}
 use Rattle.propagation.proofs.spread.conclude.Tie as tie
 
@@ -18,12 +18,12 @@ cast-wait c = search rules
 wait-requires : tie.Need-wait-requires
 wait-requires c κs =
     let b = c.before.before.before in
-    (conclusion-literal b.before.requires.0 _ b.before.requires.1.0 _ b.conclusion.ensures, b.before.requires.1.1)
+    (conclusion_literal b.before.requires.0 _ b.before.requires.1.0 _ b.conclusion.ensures, b.before.requires.1.1)
 
 returns : tie.Need-returns
 returns c =
     let b = c.before.before.before.before in
-    read-concluded b.before.requires.0 _ b.before.requires.1.0 _ b.conclusion.ensures c.wait.ensures
+    read_concluded b.before.requires.0 _ b.before.requires.1.0 _ b.conclusion.ensures c.wait.ensures
 
 pub conclude-spec : {M : Type 1} → statement M
 conclude-spec =

@@ -3,24 +3,24 @@
 use Prim.Native.Nat.{ℕ, suc, ◌+◌, ◌-◌}
 use native.Mathlib.Omega.{arith}
 use mathlib.Core.Path.{◌≡◌, refl, ◌∙◌}
-use Rattle.tables.specs.Layout.{programIn}
+use Rattle.tables.specs.Layout.{program_in}
 use Rattle.index.specs.Literal.{outside, literals}
-use Rattle.index.specs.Cells.{onIn}
-use Rattle.propagation.specs.State.{Between, told, toldCount}
-use Rattle.propagation.proofs.LiteralsTold.{top_of, last-inside, last-literal, not-waiting, true-spreads, held-as-before, told-less, passed-less, none-waits, now-settled, held_then}
+use Rattle.index.specs.Cells.{on_in}
+use Rattle.propagation.specs.State.{Between, told, told_count}
+use Rattle.propagation.proofs.LiteralsTold.{top_of, last-inside, last-literal, not-waiting, true_spreads, held-as_before, told-less, passed_less, none_waits, now_settled, held_then}
 use Rattle.propagation.proofs.spread.spread.Statement.{statement}
 use Rattle.propagation.proofs.spread.spread.Tie as tie
 
 abbrev invariant-loop : tie.invariant-loop
 invariant-loop tables index marks₀ missing₀ stack₀ top top₀ marks missing stack top' =
-    Between (programIn tables) (onIn index) marks missing stack top' × ((k : ℕ) → told marks (outside k) ≡ told marks₀ (outside k))
+    Between (program_in tables) (on_in index) marks missing stack top' × ((k : ℕ) → told marks (outside k) ≡ told marks₀ (outside k))
 
 abbrev decreases-loop : tie.decreases-loop
 decreases-loop tables index marks₀ missing₀ stack₀ top top₀ marks missing stack top' =
-    (literals + top') - toldCount marks
+    (literals + top') - told_count marks
 
 -- the literal on top
-here : (c : tie.In-loop invariant-loop decreases-loop) → Between (programIn c.before.before.args.tables.now) (onIn c.before.before.args.index.now) c.before.loop.marks c.before.loop.missing c.before.loop.stack (suc (c.before.loop.top - 1))
+here : (c : tie.In-loop invariant-loop decreases-loop) → Between (program_in c.before.before.args.tables.now) (on_in c.before.before.args.index.now) c.before.loop.marks c.before.loop.missing c.before.loop.stack (suc (c.before.loop.top - 1))
 here c = top_of c.before.loop.invariant.0 c.loop-test.true
 
 loop-holds : tie.Need-loop-init invariant-loop decreases-loop
@@ -47,22 +47,22 @@ element-write-marks c = last-literal (here c.before.before.before)
 tell-requires : tie.Need-tell-requires invariant-loop decreases-loop
 tell-requires c κs =
     let b = c.before.before.before.before.before.before in
-    ((b.before.before.requires.0, last-literal (here b)), true-spreads (here b) c.before.before.before.if1.true)
+    ((b.before.before.requires.0, last-literal (here b)), true_spreads (here b) c.before.before.before.if1.true)
 
 loop-less : tie.Need-loop-smaller invariant-loop decreases-loop
 loop-less c = told-less c.before.before.before.before.before.before.before.before.loop.invariant.0 c.before.before.before.before.before.before.before.loop-test.true c.before.before.before.before.if1.true _ _ c.tell.ensures.1
 
 loop-again : tie.Need-loop-preserved invariant-loop decreases-loop
-loop-again c = (c.tell.ensures.0, λ k. held-as-before (here c.before.before.before.before.before.before.before) c.before.before.before.before.if1.true c.tell.ensures.1 k ∙ c.before.before.before.before.before.before.before.before.loop.invariant.1 k)
+loop-again c = (c.tell.ensures.0, λ k. held-as_before (here c.before.before.before.before.before.before.before) c.before.before.before.before.if1.true c.tell.ensures.1 k ∙ c.before.before.before.before.before.before.before.before.loop.invariant.1 k)
 
 loop-less-2 : tie.Need-loop-smaller-2 invariant-loop decreases-loop
-loop-less-2 c = passed-less c.before.before.before.before.loop.invariant.0 c.before.before.before.loop-test.true
+loop-less-2 c = passed_less c.before.before.before.before.loop.invariant.0 c.before.before.before.loop-test.true
 
 loop-again-2 : tie.Need-loop-preserved-2 invariant-loop decreases-loop
 loop-again-2 c = (not-waiting (here c.before.before.before) c.if1.false, c.before.before.before.before.loop.invariant.1)
 
 returns : tie.Need-returns invariant-loop decreases-loop
-returns c = (now-settled (none-waits c.before.loop.invariant.0 c.loop-test.false), λ k. held_then (none-waits c.before.loop.invariant.0 c.loop-test.false) k ∙ c.before.loop.invariant.1 k)
+returns c = (now_settled (none_waits c.before.loop.invariant.0 c.loop-test.false), λ k. held_then (none_waits c.before.loop.invariant.0 c.loop-test.false) k ∙ c.before.loop.invariant.1 k)
 
 pub spread-spec : {M : Type 1} → statement M
 spread-spec =

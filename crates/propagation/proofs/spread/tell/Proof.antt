@@ -2,35 +2,35 @@
 use Prim.Native.Nat.{◌/◌, ◌<◌}
 use native.Mathlib.Omega.{arith}
 use borrow.Author.Rules.{rules}
-use Rattle.items.specs.Item.{maxRules}
-use Rattle.tables.specs.Layout.{programIn}
+use Rattle.items.specs.Item.{max_rules}
+use Rattle.tables.specs.Layout.{program_in}
 use Rattle.tables.proofs.ProgramHeld.{rules-below}
-use Rattle.bits.specs.Flags.{wordBits, total, NoneBefore}
-use Rattle.index.specs.Cells.{onIn}
+use Rattle.bits.specs.Flags.{word_bits, total, NoneBefore}
+use Rattle.index.specs.Cells.{on_in}
 use Rattle.propagation.specs.State.{Onward}
-use Rattle.propagation.proofs.LiteralsTold.{nothing_yet, Telling, none_told, all_told, RuleTold, one-taken, turn_on, turn-concluded}
+use Rattle.propagation.proofs.LiteralsTold.{nothing_yet, Telling, none_told, all_told, RuleTold, one_taken, turn_on, turn_concluded}
 use Rattle.propagation.proofs.spread.tell.Statement.{statement}
 use Rattle.propagation.proofs.spread.tell.Tie as tie
 
 abbrev invariant-loop : tie.invariant-loop
 invariant-loop tables index literal marks₀ missing₀ stack₀ top left₀ from₀ top₀ marks missing stack left from top' =
-    Telling (programIn tables) (onIn index) left marks missing stack top' × Onward marks₀ top marks top' × NoneBefore from left
+    Telling (program_in tables) (on_in index) left marks missing stack top' × Onward marks₀ top marks top' × NoneBefore from left
 
 abbrev decreases-loop : tie.decreases-loop
 decreases-loop tables index literal marks₀ missing₀ stack₀ top left₀ from₀ top₀ marks missing stack left from top' = total left
 
 -- the rule taken
-rule_told : (c : tie.After-known-told invariant-loop decreases-loop) → RuleTold c.before.before.before.before.before.loop.invariant.0 c.before.before.before.take-from.ensures.1.0 (rules-below c.before.before.before.before.before.before.before.before.requires.0.0.well-formed) c.before.rule.given.0.0 c.before.rule.given.1
-rule_told c = one-taken c.before.before.before.before.before.loop.invariant.0 c.before.before.before.take-from.ensures.1.0 (rules-below c.before.before.before.before.before.before.before.before.requires.0.0.well-formed) c.before.rule.given.0.0 c.before.rule.given.1
+rule_told : (c : tie.After-known-told invariant-loop decreases-loop) → RuleTold c.before.before.before.before.before.loop.invariant.0 c.before.before.before.take-from.ensures.1.0 (rules-below c.before.before.before.before.before.before.before.before.requires.0.0.well_formed) c.before.rule.given.0.0 c.before.rule.given.1
+rule_told c = one_taken c.before.before.before.before.before.loop.invariant.0 c.before.before.before.take-from.ensures.1.0 (rules-below c.before.before.before.before.before.before.before.before.requires.0.0.well_formed) c.before.rule.given.0.0 c.before.rule.given.1
 
-in_table : (c : tie.After-known-told invariant-loop decreases-loop) → c.before.rule.given.0.0 < maxRules
+in_table : (c : tie.After-known-told invariant-loop decreases-loop) → c.before.rule.given.0.0 < max_rules
 in_table c = c.before.before.before.take-from.ensures.0.inside _ c.before.rule.given.1
 
 falls : (c : tie.After-known-told invariant-loop decreases-loop) → total c.before.before.before.take-from.new.0 < total c.before.before.before.before.before.loop.left
 falls c = c.before.before.before.take-from.ensures.0.less _ c.before.rule.given.1
 
 -- no word before that of the rule taken has a bit left
-before-there : (c : tie.After-known-told invariant-loop decreases-loop) → NoneBefore (c.before.rule.given.0.0 / wordBits) c.before.before.before.take-from.new.0
+before-there : (c : tie.After-known-told invariant-loop decreases-loop) → NoneBefore (c.before.rule.given.0.0 / word_bits) c.before.before.before.take-from.new.0
 before-there c = c.before.before.before.take-from.ensures.1.1 _ c.before.rule.given.1
 
 row-of-requires : tie.Need-row-of-requires invariant-loop decreases-loop
@@ -58,7 +58,7 @@ element-copy-out-missing : tie.Need-element-copy-out-missing invariant-loop decr
 element-copy-out-missing c = in_table c
 
 sub-missing : tie.Need-overflow-sub-missing invariant-loop decreases-loop
-sub-missing c = (rule_told c.before).some-missing
+sub-missing c = (rule_told c.before).some_missing
 
 element-write-missing : tie.Need-element-write-missing invariant-loop decreases-loop
 element-write-missing c = in_table c.before
@@ -70,13 +70,13 @@ element-copy-out-if1 : tie.Need-element-copy-out-if1 invariant-loop decreases-lo
 element-copy-out-if1 c = in_table c.before
 
 conclude-requires : tie.Need-conclude-requires invariant-loop decreases-loop
-conclude-requires c κs = (c.before.before.before.before.before.before.before.before.before.before.before.before.before.requires.0.0.well-formed, ((rule_told c.before.before.before.before.before).rule-known, c.before.before.before.before.before.before.before.before.before.before.loop.invariant.0.spreading.on_stack))
+conclude-requires c κs = (c.before.before.before.before.before.before.before.before.before.before.before.before.before.requires.0.0.well_formed, ((rule_told c.before.before.before.before.before).rule_known, c.before.before.before.before.before.before.before.before.before.before.loop.invariant.0.spreading.on_stack))
 
 loop-less : tie.Need-loop-smaller invariant-loop decreases-loop
 loop-less c = falls c.before.before.before.before.before.before
 
 loop-again : tie.Need-loop-preserved invariant-loop decreases-loop
-loop-again c = let t = turn-concluded _ _ _ _ _ (rule_told c.before.before.before.before.before.before) c.before.before.before.before.before.before.before.before.before.before.before.loop.invariant.1 c.before.before.before.if1.true _ _ _ c.conclude.ensures in (t.0, t.1, before-there c.before.before.before.before.before.before)
+loop-again c = let t = turn_concluded _ _ _ _ _ (rule_told c.before.before.before.before.before.before) c.before.before.before.before.before.before.before.before.before.before.before.loop.invariant.1 c.before.before.before.if1.true _ _ _ c.conclude.ensures in (t.0, t.1, before-there c.before.before.before.before.before.before)
 
 loop-less-2 : tie.Need-loop-smaller-2 invariant-loop decreases-loop
 loop-less-2 c = falls c.before.before.before

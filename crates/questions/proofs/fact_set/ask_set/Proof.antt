@@ -1,10 +1,10 @@
 -- `ask_set`: the file first, then the set.
 use borrow.Author.Rules.{rules}
 use mathlib.Core.Path.{sym, ap, ◌∙◌}
-use Rattle.reader.proofs.FileAsked.{file-yes}
+use Rattle.reader.proofs.FileAsked.{file_yes}
 use Rattle.questions.specs.Answer.{answer_of}
-use Rattle.questions.specs.Questions.{askSetQuestions}
-use Rattle.questions.proofs.OperationAsked.{answer-numbered, file-refused, set-questions}
+use Rattle.questions.specs.Questions.{ask_set_questions}
+use Rattle.questions.proofs.OperationAsked.{answer_numbered, file_refused, set-questions}
 use Rattle.questions.proofs.fact_set.ask_set.Statement.{statement}
 use Rattle.questions.proofs.fact_set.ask_set.Tie as tie
 
@@ -24,13 +24,13 @@ ask-set-of-requires : tie.Need-ask-set-of-requires
 ask-set-of-requires c κs = search rules
 
 returns : tie.Need-returns
-unfolding askSetQuestions
-returns c = answer-numbered _ _ (sym (ap answer_of (file-refused _ _ _ (sym c.before.before.before.scan.ensures.0 ∙ c.before.r.given.1))))
+unfolding ask_set_questions
+returns c = answer_numbered _ _ (sym (ap answer_of (file_refused _ _ _ (sym c.before.before.before.scan.ensures.0 ∙ c.before.r.given.1))))
 
 returns-2 : tie.Need-returns-2
 returns-2 c =
-    let p = file-yes _ _ (sym c.before.before.before.before.before.scan.ensures.0 ∙ c.before.before.before.counts.given.1) in
-    answer-numbered _ _ (c.ask-set-of.ensures ∙ ap answer_of (set-questions _ p.accepted _ _ p.facts))
+    let p = file_yes _ _ (sym c.before.before.before.before.before.scan.ensures.0 ∙ c.before.before.before.counts.given.1) in
+    answer_numbered _ _ (c.ask-set-of.ensures ∙ ap answer_of (set-questions _ p.accepted _ _ p.facts))
 
 pub ask-set-spec : {M : Type 1} → statement M
 ask-set-spec =

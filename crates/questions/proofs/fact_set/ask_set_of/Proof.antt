@@ -2,7 +2,7 @@
 use native.Mathlib.Omega.{arith}
 use mathlib.Core.Path.{sym, ap, ◌∙◌}
 use Rattle.questions.specs.Answer.{answer_of}
-use Rattle.questions.proofs.OperationAsked.{wrong-length, not-bits, bits}
+use Rattle.questions.proofs.OperationAsked.{wrong_length, not-bits, bits}
 use borrow.Author.Rules.{rules}
 use Rattle.questions.proofs.fact_set.ask_set_of.Statement.{statement}
 use Rattle.questions.proofs.fact_set.ask_set_of.Tie as tie
@@ -11,7 +11,7 @@ use Rattle.questions.proofs.fact_set.ask_set_of.Lts as lts
 use Rattle.questions.proofs.fact_set.zero_or_one.Reads as zero-or-one-reads
 
 returns : tie.Need-returns
-returns c = sym (ap answer_of (wrong-length c.before.before.args.facts c.before.before.args.set.now (λ e. omega arith)))
+returns c = sym (ap answer_of (wrong_length c.before.before.args.facts c.before.before.args.set.now (λ e. omega arith)))
 
 zero-or-one-requires : tie.Need-zero-or-one-requires
 zero-or-one-requires c κs = search rules

@@ -7,7 +7,7 @@ use native.Mathlib.Omega.{arith}
 use lib.ListN.{length, get_or, drop, drop_of_length-le}
 use lib.Seq.{drop-cons}
 use lib.Dec.{leb}
-use Rattle.theory.proofs.ListWalks.{Decides, whole-decides, all_pass, one-fails, one_passes}
+use Rattle.theory.proofs.ListWalks.{Decides, whole-decides, all_pass, one_fails, one_passes}
 use Rattle.questions.proofs.fact_set.zero_or_one.Statement.{statement}
 use Rattle.questions.proofs.fact_set.zero_or_one.Tie as tie
 use Rattle.questions.proofs.fact_set.zero_or_one.Reads as reads
@@ -26,7 +26,7 @@ shared-slice-read-if1 : tie.Need-shared-slice-read-if1 invariant-loop decreases-
 shared-slice-read-if1 c = search rules
 
 returns : tie.Need-returns invariant-loop decreases-loop
-returns c = one-fails c.before.before.before.loop.invariant _ _ (drop-cons _ _ 0 c.before.before.loop-test.true) (lt-leb (get_or c.before.before.before.before.args.set.now c.before.before.before.loop.i 0) 1 (omega arith))
+returns c = one_fails c.before.before.before.loop.invariant _ _ (drop-cons _ _ 0 c.before.before.loop-test.true) (lt-leb (get_or c.before.before.before.before.args.set.now c.before.before.before.loop.i 0) 1 (omega arith))
 
 add-i : tie.Need-overflow-add-i invariant-loop decreases-loop
 add-i c = search rules

@@ -1,10 +1,10 @@
 -- `ask_row`: the file first, then the asked fact and the row.
 use borrow.Author.Rules.{rules}
 use mathlib.Core.Path.{sym, ap, ◌∙◌}
-use Rattle.reader.proofs.FileAsked.{file-yes}
+use Rattle.reader.proofs.FileAsked.{file_yes}
 use Rattle.questions.specs.Answer.{answer_of}
-use Rattle.questions.specs.Questions.{askRowQuestions}
-use Rattle.questions.proofs.OperationAsked.{answer-numbered, file-refused, row-questions}
+use Rattle.questions.specs.Questions.{ask_row_questions}
+use Rattle.questions.proofs.OperationAsked.{answer_numbered, file_refused, row-questions}
 use Rattle.questions.proofs.row.ask_row.Statement.{statement}
 use Rattle.questions.proofs.row.ask_row.Tie as tie
 
@@ -24,13 +24,13 @@ ask-row-of-requires : tie.Need-ask-row-of-requires
 ask-row-of-requires c κs = search rules
 
 returns : tie.Need-returns
-unfolding askRowQuestions
-returns c = answer-numbered _ _ (sym (ap answer_of (file-refused _ _ _ (sym c.before.before.before.scan.ensures.0 ∙ c.before.r.given.1))))
+unfolding ask_row_questions
+returns c = answer_numbered _ _ (sym (ap answer_of (file_refused _ _ _ (sym c.before.before.before.scan.ensures.0 ∙ c.before.r.given.1))))
 
 returns-2 : tie.Need-returns-2
 returns-2 c =
-    let p = file-yes _ _ (sym c.before.before.before.before.before.scan.ensures.0 ∙ c.before.before.before.counts.given.1) in
-    answer-numbered _ _ (c.ask-row-of.ensures ∙ ap answer_of (row-questions _ p.accepted _ _ _ p.facts))
+    let p = file_yes _ _ (sym c.before.before.before.before.before.scan.ensures.0 ∙ c.before.before.before.counts.given.1) in
+    answer_numbered _ _ (c.ask-row-of.ensures ∙ ap answer_of (row-questions _ p.accepted _ _ _ p.facts))
 
 pub ask-row-spec : {M : Type 1} → statement M
 ask-row-spec =

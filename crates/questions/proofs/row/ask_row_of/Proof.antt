@@ -2,7 +2,7 @@
 use native.Mathlib.Omega.{arith}
 use mathlib.Core.Path.{sym, ap, ◌∙◌}
 use Rattle.questions.specs.Answer.{answer_of}
-use Rattle.questions.proofs.OperationAsked.{fact-too-high, not-steps, steps}
+use Rattle.questions.proofs.OperationAsked.{fact_too_high, not-steps, steps}
 use borrow.Author.Rules.{rules}
 use Rattle.questions.proofs.row.ask_row_of.Statement.{statement}
 use Rattle.questions.proofs.row.ask_row_of.Tie as tie
@@ -11,7 +11,7 @@ use Rattle.questions.proofs.row.ask_row_of.Lts as lts
 use Rattle.questions.proofs.row.whole_steps.Reads as whole-steps-reads
 
 returns : tie.Need-returns
-returns c = sym (ap answer_of (fact-too-high c.before.before.args.facts c.before.before.args.fact _ (omega arith)))
+returns c = sym (ap answer_of (fact_too_high c.before.before.args.facts c.before.before.args.fact _ (omega arith)))
 
 whole-steps-requires : tie.Need-whole-steps-requires
 whole-steps-requires c κs = search rules

@@ -4,10 +4,10 @@ use Prim.Native.Nat.{◌-◌}
 use mathlib.Core.Path.{◌≡◌, refl, sym, ap, ◌∙◌}
 use lib.ListN.{length}
 use Rattle.cursors.specs.declared.cursor.Row.TheVariants.{Steps}
-use Rattle.cursors.specs.Cursor.{itemsAt, stepsStart}
+use Rattle.cursors.specs.Cursor.{items_at, steps_start}
 use Rattle.cursors.proofs.Items.{found, closer, row-ended}
 use Rattle.questions.specs.Questions.{whole}
-use Rattle.questions.proofs.ItemWalks.{headed, bad-read, same_row}
+use Rattle.questions.proofs.ItemWalks.{headed, bad_read, same_row}
 use Rattle.questions.proofs.row.whole_steps.Statement.{statement}
 use Rattle.questions.proofs.row.whole_steps.Tie as tie
 use Rattle.questions.proofs.row.whole_steps.Reads as reads
@@ -15,7 +15,7 @@ use Rattle.questions.proofs.row.whole_steps.Lts as lts
 use Rattle.cursors.proofs.cursor.Cursor.next_step.Reads as next-step-reads
 
 abbrev invariant-loop : tie.invariant-loop
-invariant-loop row cursor₀ cursor = (cursor.row ≡ Steps) × (whole (itemsAt row stepsStart) ≡ whole (itemsAt row cursor))
+invariant-loop row cursor₀ cursor = (cursor.row ≡ Steps) × (whole (items_at row steps_start) ≡ whole (items_at row cursor))
 
 abbrev decreases-loop : tie.decreases-loop
 decreases-loop row cursor₀ cursor = length row - cursor.at
@@ -32,7 +32,7 @@ enum_told c = search rules
 returns : tie.Need-returns invariant-loop decreases-loop
 returns c =
     let w = c.before.before.before.loop.invariant in
-    sym (w.1 ∙ ap whole (bad-read _ _ _ _ (sym c.before.before.next-step.ensures ∙ c.enum_told.given.1) Steps tt w.0))
+    sym (w.1 ∙ ap whole (bad_read _ _ _ _ (sym c.before.before.next-step.ensures ∙ c.enum_told.given.1) Steps tt w.0))
 
 enum-known-next : tie.Need-enum-known-next invariant-loop decreases-loop
 enum-known-next c = search rules

@@ -8,12 +8,12 @@ use lib.ListN.{length}
 use Rattle.items.specs.declared.item.Item.{Item}
 use Rattle.cursors.specs.declared.cursor.Cursor.{Cursor}
 use Rattle.cursors.specs.declared.cursor.Read.TheVariants.{Found}
-use Rattle.items.specs.Item.{narrow, maxFacts, maxBytes}
+use Rattle.items.specs.Item.{narrow, max_facts, max_bytes}
 use Rattle.cursors.specs.Cursor.{next_at}
 use Rattle.cursors.proofs.Items.{found, closer}
 use Rattle.reader.specs.Scanning.{Scanning, Late}
 use Rattle.reader.proofs.BodyAsked.{refused, cut_off}
-use Rattle.reader.proofs.FileAsked.{said-no}
+use Rattle.reader.proofs.FileAsked.{said_no}
 use Rattle.reader.proofs.BodyRead.{has_room}
 use Rattle.reader.proofs.scan.scan_rules.Statement.{statement}
 use Rattle.reader.proofs.scan.scan_rules.Tie as tie
@@ -34,10 +34,10 @@ module _ (k : tie.After-known-told2 invariant-loop decreases-loop) where
   abbrev here : Cursor
   here = k.before.before.before.before.loop.cursor
 
-  short : length file ≤ maxBytes
+  short : length file ≤ max_bytes
   short = k.before.before.before.before.before.before.pre.0
 
-  small : k.before.before.before.before.before.before.args.facts < maxFacts narrow
+  small : k.before.before.before.before.before.before.args.facts < max_facts narrow
   small = k.before.before.before.before.before.before.pre.1
 
   -- where the items after the first start
@@ -51,7 +51,7 @@ module _ (k : tie.After-known-told2 invariant-loop decreases-loop) where
   item-read = sym k.before.before.before.next-in-body.ensures ∙ k.before.item.given.1
 
 loop-holds : tie.Need-loop-init invariant-loop decreases-loop
-loop-holds c = (λ c₀ w. w, c.before.requires.2.1.rest-late)
+loop-holds c = (λ c₀ w. w, c.before.requires.2.1.rest_late)
 
 next-in-body-requires : tie.Need-next-in-body-requires invariant-loop decreases-loop
 next-in-body-requires c κs = (c.loop.invariant.0 _ c.before.before.requires.2.1.scanned).verdict.body
@@ -60,7 +60,7 @@ enum-known-r : tie.Need-enum-known-r invariant-loop decreases-loop
 enum-known-r c = search rules
 
 returns : tie.Need-returns invariant-loop decreases-loop
-returns c = λ c₀ w. said-no _ (refused (c.before.before.before.before.loop.invariant.0 c₀ w).verdict _ _ (sym c.before.before.before.next-in-body.ensures ∙ c.before.r.given.1))
+returns c = λ c₀ w. said_no _ (refused (c.before.before.before.before.loop.invariant.0 c₀ w).verdict _ _ (sym c.before.before.before.next-in-body.ensures ∙ c.before.r.given.1))
 
 enum-known-item : tie.Need-enum-known-item invariant-loop decreases-loop
 enum-known-item c = search rules
@@ -110,7 +110,7 @@ enum-told-2 : tie.Need-enum-told-2 invariant-loop decreases-loop
 enum-told-2 c = search rules
 
 returns-4 : tie.Need-returns-4 invariant-loop decreases-loop
-returns-4 c = λ c₀ w. said-no _ (cut_off (c.before.before.before.loop.invariant.0 c₀ w).verdict _ (sym c.before.before.next-in-body.ensures ∙ c.enum-told2.given.1))
+returns-4 c = λ c₀ w. said_no _ (cut_off (c.before.before.before.loop.invariant.0 c₀ w).verdict _ (sym c.before.before.next-in-body.ensures ∙ c.enum-told2.given.1))
 
 pub scan-rules-spec : {M : Type 1} → statement M
 scan-rules-spec =

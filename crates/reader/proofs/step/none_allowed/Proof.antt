@@ -1,7 +1,7 @@
--- `none_allowed`: question 7, then 51.
+-- `none_allowed_lem`: question 7, then 51.
 use borrow.Author.Tests.{eq-eqb, ne_eqb}
-use Rattle.reader.proofs.step.none_allowed.Statement.{statement}
-use Rattle.reader.proofs.step.none_allowed.Tie as tie
+use Rattle.reader.proofs.step.none_allowed_lem.Statement.{statement}
+use Rattle.reader.proofs.step.none_allowed_lem.Tie as tie
 
 returns : tie.Need-returns
 returns c = rw (eq-eqb c.before.args.rules 0 c.if1.true)

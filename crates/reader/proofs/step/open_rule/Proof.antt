@@ -1,16 +1,16 @@
 -- `open_rule`: questions 6 and 8, then the rule.
 use native.Mathlib.Omega.{arith}
 use Rattle.cursors.proofs.Items.{found}
-use Rattle.reader.proofs.BodyAsked.{conclusion-too-high, too-many-rules}
+use Rattle.reader.proofs.BodyAsked.{conclusion_too_high, too_many_rules}
 use Rattle.reader.proofs.BodyRead.{goes_on, refuses, rule-scanned}
 use Rattle.reader.proofs.step.open_rule.Statement.{statement}
 use Rattle.reader.proofs.step.open_rule.Tie as tie
 
 returns : tie.Need-returns
-returns c = λ s marks c₀ here short small w e. refuses (conclusion-too-high w.verdict (found _ _ _ _ e) c.if1.true)
+returns c = λ s marks c₀ here short small w e. refuses (conclusion_too_high w.verdict (found _ _ _ _ e) c.if1.true)
 
 returns-2 : tie.Need-returns-2
-returns-2 c = λ s marks c₀ here short small w e. refuses (too-many-rules w.verdict (found _ _ _ _ e) c.before.before.if1.false c.if2.true)
+returns-2 c = λ s marks c₀ here short small w e. refuses (too_many_rules w.verdict (found _ _ _ _ e) c.before.before.if1.false c.if2.true)
 
 store-rule-requires : tie.Need-store-rule-requires
 store-rule-requires c κs =

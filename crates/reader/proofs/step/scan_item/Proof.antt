@@ -3,7 +3,7 @@ use mathlib.Core.Path.{◌∙◌}
 use borrow.Author.Rules.{rules}
 use Rattle.cursors.proofs.Items.{found}
 use Rattle.reader.proofs.BodyAsked.{other_row}
-use Rattle.reader.proofs.BodyRead.{refuses, unread-refused, found_as, read_as}
+use Rattle.reader.proofs.BodyRead.{refuses, unread_refused, found_as, read_as}
 use Rattle.reader.proofs.step.scan_item.Statement.{statement}
 use Rattle.reader.proofs.step.scan_item.Tie as tie
 
@@ -52,7 +52,7 @@ returns-4 c = λ s len late c₀ here short small w e. c.end-file.ensures s _ le
 returns-5 : tie.Need-returns-5
 returns-5 c = λ s len late c₀ here short small w e.
     rw c.refuse-unread.ensures
-    (refuses (unread-refused w (read_as e c.before.before.item5.given.1) (λ f q. late f (c.before.before.item5.given.1 ∙ q))))
+    (refuses (unread_refused w (read_as e c.before.before.item5.given.1) (λ f q. late f (c.before.before.item5.given.1 ∙ q))))
 
 returns-6 : tie.Need-returns-6
 returns-6 c = λ s len late c₀ here short small w e. refuses (other_row w.verdict (found _ _ _ _ e) c.match.keys6)

@@ -5,19 +5,19 @@ use native.Mathlib.Omega.{arith}
 use borrow.Author.Rules.{rules}
 use Rattle.items.specs.declared.refusal.Refusal.{Refusal}
 use Rattle.cursors.proofs.Items.{found}
-use Rattle.reader.proofs.BodyAsked.{own-premise, own-too-high}
-use Rattle.reader.proofs.BodyRead.{goes_on, refuses, none_allowed, some-opened, premise-scanned}
+use Rattle.reader.proofs.BodyAsked.{own-premise, own-too_high}
+use Rattle.reader.proofs.BodyRead.{goes_on, refuses, none_allowed_lem, some_opened, premise_scanned}
 use Rattle.reader.proofs.step.take_premise.Statement.{statement}
 use Rattle.reader.proofs.step.take_premise.Tie as tie
 
 returns : tie.Need-returns
-returns c = λ s marks c₀ here short small w e. refuses (own-too-high w.verdict (own-premise _) (found _ _ _ _ e) c.if1.true)
+returns c = λ s marks c₀ here short small w e. refuses (own-too_high w.verdict (own-premise _) (found _ _ _ _ e) c.if1.true)
 
 none-allowed-requires : tie.Need-none-allowed-requires
 none-allowed-requires c κs = search rules
 
 returns-2 : tie.Need-returns-2
-returns-2 c = λ s marks c₀ here short small w e. refuses (none_allowed w (own-premise _) (found _ _ _ _ e) c.before.before.before.if1.false c.before.if2.true ∙ ap (λ (r : Refusal). some r) (sym c.none_allowed.ensures))
+returns-2 c = λ s marks c₀ here short small w e. refuses (none_allowed_lem w (own-premise _) (found _ _ _ _ e) c.before.before.before.if1.false c.before.if2.true ∙ ap (λ (r : Refusal). some r) (sym c.none_allowed_lem.ensures))
 
 add-tables : tie.Need-overflow-add-tables
 add-tables c = let r = c.before.before.before.before.before.requires in omega (arith, r.within, r.rules, c.before.if2.false)
@@ -35,7 +35,7 @@ add-t10 : tie.Need-overflow-add-t10
 add-t10 c = let r = c.before.before.before.before.before.before.before.requires in omega (arith, r.within, r.rules, c.before.before.before.if2.false)
 
 returns-3 : tie.Need-returns-3
-returns-3 c = λ s marks c₀ here short small w e. goes_on (some-opened w c.before.before.before.if2.false) (premise-scanned w c.before.before.before.if2.false small (found _ _ _ _ e) c.before.before.before.before.before.if1.false)
+returns-3 c = λ s marks c₀ here short small w e. goes_on (some_opened w c.before.before.before.if2.false) (premise_scanned w c.before.before.before.if2.false small (found _ _ _ _ e) c.before.before.before.before.before.if1.false)
 
 pub take-premise-spec : {M : Type 1} → statement M
 take-premise-spec =

@@ -4,13 +4,13 @@ use mathlib.Core.Path.{◌∙◌}
 use mathlib.Core.Logic.{⊎_elim}
 use native.Mathlib.Omega.{arith}
 use Rattle.items.specs.Item.{has}
-use Rattle.marking.specs.Marks.{barredIn}
-use Rattle.results.proofs.MarksWritten.{Marking, factMarkBy, none_written, one_written, all-written, a-derived, a-rejected, an-open, fact-marks}
+use Rattle.marking.specs.Marks.{barred_in}
+use Rattle.results.proofs.MarksWritten.{Marking, fact_mark_by, none_written, one_written, all-written, a_derived, a_rejected, an_open, fact-marks}
 use Rattle.results.proofs.marks.write_fact_marks.Statement.{statement}
 use Rattle.results.proofs.marks.write_fact_marks.Tie as tie
 
 abbrev invariant-loop : tie.invariant-loop
-invariant-loop marks facts out₀ f₀ out f = Marking (factMarkBy (has marks) (barredIn marks)) facts out₀ out f
+invariant-loop marks facts out₀ f₀ out f = Marking (fact_mark_by (has marks) (barred_in marks)) facts out₀ out f
 
 abbrev decreases-loop : tie.decreases-loop
 decreases-loop marks facts out₀ f₀ out f = facts - f
@@ -35,10 +35,10 @@ loop-less c = omega arith
 
 loop-again : tie.Need-loop-preserved invariant-loop decreases-loop
 loop-again c = one_written _ _ _ _ _ c.before.before.before.loop.invariant c.before.before.before.before.requires.1 c.before.before.loop-test.true _
-    (⊎_elim (λ w. w.1 ∙ a-derived _ _ w.0.taken) (λ v. ⊎_elim (λ w. w.3 ∙ a-rejected _ _ w.0.left w.2.taken) (λ w. w.3 ∙ an-open _ _ w.0.left w.2.left) v) c.if1.branch)
+    (⊎_elim (λ w. w.1 ∙ a_derived _ _ w.0.taken) (λ v. ⊎_elim (λ w. w.3 ∙ a_rejected _ _ w.0.left w.2.taken) (λ w. w.3 ∙ an_open _ _ w.0.left w.2.left) v) c.if1.branch)
 
 same_length : tie.Need-same-length invariant-loop decreases-loop
-same_length c = c.before.loop.invariant.length-kept
+same_length c = c.before.loop.invariant.length_kept
 
 returns : tie.Need-returns invariant-loop decreases-loop
 returns c = λ P s e d r. all-written _ _ _ _ _ c.before.loop.invariant c.loop-test.false ∙ fact-marks P s _ _ _ _ e d r

@@ -5,23 +5,23 @@ use mathlib.Core.Bool.{Bool}
 use native.Mathlib.Omega.{arith}
 use borrow.Author.Rules.{rules}
 use lib.ListN.{length, length-set}
-use Rattle.theory.specs.Rule.{mem, count, inForce}
-use Rattle.theory.specs.Run.{Stand, ruleMark}
+use Rattle.theory.specs.Rule.{mem, count, in_force}
+use Rattle.theory.specs.Run.{Stand, rule_mark}
 use Rattle.items.specs.Item.{has}
-use Rattle.tables.specs.Layout.{programIn}
+use Rattle.tables.specs.Layout.{program_in}
 use Rattle.tables.proofs.ProgramHeld.{in_table}
 use Rattle.results.proofs.MarksWritten.{Marking, none_written, one_written, all-written}
 use Rattle.results.proofs.marks.write_rule_marks.Statement.{statement}
 use Rattle.results.proofs.marks.write_rule_marks.Tie as tie
 
 abbrev invariant-loop : tie.invariant-loop
-invariant-loop tables applied derived out₀ rules i₀ out i = (length out ≡ length out₀) × ((s : Stand) → has applied ≡ (λ j. mem j s.applied) → has derived ≡ s.derived → Marking (ruleMark (programIn tables) (inForce (programIn tables)) s) (count (programIn tables)) out₀ out i)
+invariant-loop tables applied derived out₀ rules i₀ out i = (length out ≡ length out₀) × ((s : Stand) → has applied ≡ (λ j. mem j s.applied) → has derived ≡ s.derived → Marking (rule_mark (program_in tables) (in_force (program_in tables)) s) (count (program_in tables)) out₀ out i)
 
 abbrev decreases-loop : tie.decreases-loop
 decreases-loop tables applied derived out₀ rules i₀ out i = rules - i
 
 -- the rule looked at is one of the program
-inside : (c : tie.In-loop invariant-loop decreases-loop) → c.before.loop.i < count (programIn c.before.before.before.before.args.tables.now)
+inside : (c : tie.In-loop invariant-loop decreases-loop) → c.before.loop.i < count (program_in c.before.before.before.before.args.tables.now)
 inside c = omega (arith, c.loop-test.true, c.before.before.rules-of.ensures)
 
 rules-of-requires : tie.Need-rules-of-requires invariant-loop decreases-loop

@@ -5,28 +5,28 @@ use native.Mathlib.Omega.{arith}
 use lib.ListN.{get_or}
 use Rattle.theory.specs.Rule.{count, rule}
 use Rattle.items.specs.declared.item.FactId.{FactId}
-use Rattle.items.specs.Item.{narrow, maxFacts}
-use Rattle.tables.specs.Layout.{programIn}
-use Rattle.tables.proofs.ProgramHeld.{facts_below, conclusion-below}
+use Rattle.items.specs.Item.{narrow, max_facts}
+use Rattle.tables.specs.Layout.{program_in}
+use Rattle.tables.proofs.ProgramHeld.{facts_below, conclusion_below}
 use Rattle.results.proofs.StepsWritten.{Writing, none_written, all-written, one_written}
 use Rattle.results.proofs.steps.write_steps.Statement.{statement}
 use Rattle.results.proofs.steps.write_steps.Tie as tie
 
 abbrev invariant-loop : tie.invariant-loop
-invariant-loop tables fired count out₀ k₀ out k = Writing (programIn tables) fired count out₀ out k
+invariant-loop tables fired count out₀ k₀ out k = Writing (program_in tables) fired count out₀ out k
 
 abbrev decreases-loop : tie.decreases-loop
 decreases-loop tables fired count out₀ k₀ out k = count - k
 
 -- the rule whose step is next
-known : (c : tie.In-loop invariant-loop decreases-loop) → get_or c.before.before.before.args.fired.now c.before.loop.k 0 < count (programIn c.before.before.before.args.tables.now)
+known : (c : tie.In-loop invariant-loop decreases-loop) → get_or c.before.before.before.args.fired.now c.before.loop.k 0 < count (program_in c.before.before.before.args.tables.now)
 known c = c.before.before.before.requires.1.1 _ c.loop-test.true
 
-concluded : (c : tie.After-conclusion invariant-loop decreases-loop) → c.conclusion.result.0 ≡ (rule (programIn c.before.before.before.before.before.args.tables.now) (get_or c.before.before.before.before.before.args.fired.now c.before.before.before.loop.k 0)).conclusion
+concluded : (c : tie.After-conclusion invariant-loop decreases-loop) → c.conclusion.result.0 ≡ (rule (program_in c.before.before.before.before.before.args.tables.now) (get_or c.before.before.before.before.before.args.fired.now c.before.before.before.loop.k 0)).conclusion
 concluded c = ap (λ (f : FactId). f.0) c.conclusion.ensures
 
-few-facts : (c : tie.After-conclusion invariant-loop decreases-loop) → c.conclusion.result.0 < maxFacts narrow
-few-facts c = omega (arith, concluded c, conclusion-below c.before.before.before.before.before.requires.0 (known c.before.before), facts_below c.before.before.before.before.before.requires.0)
+few_facts : (c : tie.After-conclusion invariant-loop decreases-loop) → c.conclusion.result.0 < max_facts narrow
+few_facts c = omega (arith, concluded c, conclusion_below c.before.before.before.before.before.requires.0 (known c.before.before), facts_below c.before.before.before.before.before.requires.0)
 
 loop-holds : tie.Need-loop-init invariant-loop decreases-loop
 loop-holds c = none_written _ _ _ _
@@ -44,7 +44,7 @@ mul-write-step-item : tie.Need-overflow-mul-write-step-item invariant-loop decre
 mul-write-step-item c = omega (arith, c.before.before.before.loop-test.true, c.before.before.before.before.before.before.requires.1.0)
 
 write-step-item-requires : tie.Need-write-step-item-requires invariant-loop decreases-loop
-write-step-item-requires c κs = (few-facts c.before, omega (arith, c.before.before.before.loop-test.true, c.before.before.before.before.before.before.requires.1.0, c.before.before.before.before.loop.invariant.length-kept))
+write-step-item-requires c κs = (few_facts c.before, omega (arith, c.before.before.before.loop-test.true, c.before.before.before.before.before.before.requires.1.0, c.before.before.before.before.loop.invariant.length_kept))
 
 add-k : tie.Need-overflow-add-k invariant-loop decreases-loop
 add-k c = omega (arith, c.before.before.before.before.before.before.loop-test.true, c.before.before.before.before.before.before.before.before.before.requires.1.0)
@@ -56,7 +56,7 @@ loop-again : tie.Need-loop-preserved invariant-loop decreases-loop
 loop-again c = one_written c.before.before.before.before.before.before.before.loop.invariant c.before.before.before.before.before.before.loop-test.true c.before.before.before.before.before.before.before.before.before.requires.1.0.0 _ _ refl (concluded c.before.before.before.before) _ c.before.before.write-step-item.ensures c.before.before.write-step-item.auto.0
 
 same_length : tie.Need-same-length invariant-loop decreases-loop
-same_length c = c.before.loop.invariant.length-kept
+same_length c = c.before.loop.invariant.length_kept
 
 returns : tie.Need-returns invariant-loop decreases-loop
 returns c = all-written c.before.loop.invariant c.loop-test.false

@@ -11,7 +11,7 @@ facts-of-requires c κs = search rules
 write-fact-marks-requires : tie.Need-write-fact-marks-requires
 write-fact-marks-requires c κs =
     let same = c.before.facts-of.ensures in
-    (omega (arith, same, facts_below c.before.before.before.before.before.requires.0), omega (arith, same, c.before.before.before.before.before.requires.1.facts-fit))
+    (omega (arith, same, facts_below c.before.before.before.before.before.requires.0), omega (arith, same, c.before.before.before.before.before.requires.1.facts_fit))
 
 write-rule-marks-requires : tie.Need-write-rule-marks-requires
 write-rule-marks-requires c κs = search rules
@@ -19,7 +19,7 @@ write-rule-marks-requires c κs = search rules
 write-steps-requires : tie.Need-write-steps-requires
 write-steps-requires c κs =
     let w = c.before.before.before.before.before.before.before.before.before.before.before.before.before.requires.1 in
-    (c.before.before.before.before.before.before.before.before.before.before.before.before.before.requires.0, ((omega (arith, w.few, w.row-places), w.row-places, w.steps-fit), w.known))
+    (c.before.before.before.before.before.before.before.before.before.before.before.before.before.requires.0, ((omega (arith, w.few, w.row_places), w.row_places, w.steps_fit), w.known))
 
 same_length : tie.Need-same-length
 same_length c = search rules

@@ -1,9 +1,9 @@
 -- `run_in_memory`: the order is read into a row, and the stages are taken along it.
 use mathlib.Core.Path.{◌≡◌}
 use borrow.Author.Rules.{rules}
-use Rattle.theory.specs.Run.{stageCount}
-use Rattle.tables.specs.Layout.{programIn}
-use Rattle.run.specs.Stands.{runIn, Held}
+use Rattle.theory.specs.Run.{stage_count}
+use Rattle.tables.specs.Layout.{program_in}
+use Rattle.run.specs.Stands.{run_in, Held}
 use Rattle.run.proofs.StandsKept.{order-read}
 use Rattle.run.proofs.RunHeld.{run-counted}
 use Rattle.run.proofs.stages.run_in_memory.Statement.{statement}
@@ -20,8 +20,8 @@ all-stages-requires c κs =
 
 returns : tie.Need-returns
 returns c =
-    let held : Held (programIn c.before.before.before.before.before.before.before.before.args.tables.now) (runIn c.before.before.before.before.before.before.before.before.args.tables.now c.before.before.before.before.before.before.before.before.args.order.now) c.all-stages.new.1.1.1.0 c.all-stages.new.1.1.1.1.0 c.all-stages.new.1.1.1.1.1.0 c.all-stages.result.steps = rw c.before.before.before.before.before.order_row.ensures.0 at c.all-stages.ensures.0 in
-    let staged : c.all-stages.result.stages ≡ stageCount (runIn c.before.before.before.before.before.before.before.before.args.tables.now c.before.before.before.before.before.before.before.before.args.order.now) = rw c.before.before.before.before.before.order_row.ensures.0 at c.all-stages.ensures.1 in
+    let held : Held (program_in c.before.before.before.before.before.before.before.before.args.tables.now) (run_in c.before.before.before.before.before.before.before.before.args.tables.now c.before.before.before.before.before.before.before.before.args.order.now) c.all-stages.new.1.1.1.0 c.all-stages.new.1.1.1.1.0 c.all-stages.new.1.1.1.1.1.0 c.all-stages.result.steps = rw c.before.before.before.before.before.order_row.ensures.0 at c.all-stages.ensures.0 in
+    let staged : c.all-stages.result.stages ≡ stage_count (run_in c.before.before.before.before.before.before.before.before.args.tables.now c.before.before.before.before.before.before.before.before.args.order.now) = rw c.before.before.before.before.before.order_row.ensures.0 at c.all-stages.ensures.1 in
     (held, run-counted c.before.before.before.before.before.before.before.before.requires.0 _ held staged)
 
 pub run-in-memory-spec : {M : Type 1} → statement M

@@ -2,7 +2,7 @@
 use native.Mathlib.Omega.{arith}
 use borrow.Author.Rules.{rules}
 use Rattle.tables.proofs.ProgramHeld.{facts_below}
-use Rattle.run.proofs.Outcomes.{written-there}
+use Rattle.run.proofs.Outcomes.{written_there}
 use Rattle.run.proofs.MemoryShown.{outset-held}
 use Rattle.run.proofs.StandsKept.{steps-there, fired-below}
 use Rattle.run.proofs.RunHeld.{may_write}
@@ -12,13 +12,13 @@ use Rattle.run.proofs.stages.run_tabled.Tie as tie
 run-in-memory-requires : tie.Need-run-in-memory-requires
 run-in-memory-requires c κs =
     let p = c.before.before.before.before.before.before.before.requires in
-    (p.0, (p.1.order-fits, outset-held _))
+    (p.0, (p.1.order_fits, outset-held _))
 
 write-results-requires : tie.Need-write-results-requires
 write-results-requires c κs =
     let p = c.before.before.before.before.before.before.before.before.before.before.before.before.before.before.requires in
     let h = c.before.before.before.before.before.before.run-in-memory.ensures.0.holds in
-    (p.0, may_write (facts_below p.0) h p.1 _ _ h.fired-places (omega arith) (fired-below (facts_below p.0) h))
+    (p.0, may_write (facts_below p.0) h p.1 _ _ h.fired_places (omega arith) (fired-below (facts_below p.0) h))
 
 cast-t24 : tie.Need-overflow-cast-t24
 cast-t24 c = search rules
@@ -40,9 +40,9 @@ returns c =
     let held = c.before.before.before.before.before.before.before.before.before.before.before.before.before.before.run-in-memory.ensures.0 in
     let counted = c.before.before.before.before.before.before.before.before.before.before.before.before.before.before.run-in-memory.ensures.1 in
     let wrote = c.before.before.before.before.before.before.before.write-results.ensures in
-    written-there _ _ _ _ _ _ _ _ _ _ counted.stages-counted counted.steps-counted
+    written_there _ _ _ _ _ _ _ _ _ _ counted.stages_counted counted.steps_counted
     (wrote.0 _ held.holds.shows.d held.holds.shows.r)
-    (wrote.1.0 _ held.holds.shows.d held.applied-shown)
+    (wrote.1.0 _ held.holds.shows.d held.applied_shown)
     (steps-there (facts_below c.before.before.before.before.before.before.before.before.before.before.before.before.before.before.before.before.before.before.before.before.before.before.requires.0) held.holds c.before.before.before.before.before.before.before.before.before.before.before.before.before.before.before.before.before.before.before.before.before.before.args.steps.now wrote.1.1)
 
 pub run-tabled-spec : {M : Type 1} → statement M

@@ -2,7 +2,7 @@
 use mathlib.Core.Path.{sym, ap, ◌∙◌}
 use borrow.Author.Rules.{rules}
 use Rattle.reader.specs.declared.answer.FileCounts.{FileCounts}
-use Rattle.search.proofs.SearchAsked.{order-short, too_many, within-limits}
+use Rattle.search.proofs.SearchAsked.{order-short, too_many, within_limits}
 use Rattle.search.proofs.asked.ask_limits.Statement.{statement}
 use Rattle.search.proofs.asked.ask_limits.Tie as tie
 
@@ -22,7 +22,7 @@ returns-2 : tie.Need-returns-2
 returns-2 c = too_many _ _ _ c.before.before.before.before.requires.1 c.before.before.if1.false (sym c.before.too-many-guesses.ensures ∙ c.if2.true)
 
 returns-3 : tie.Need-returns-3
-returns-3 c = within-limits _ _ _ c.before.before.before.before.requires.1 c.before.before.if1.false (sym c.before.too-many-guesses.ensures ∙ c.if2.false)
+returns-3 c = within_limits _ _ _ c.before.before.before.before.requires.1 c.before.before.if1.false (sym c.before.too-many-guesses.ensures ∙ c.if2.false)
 
 pub ask-limits-spec : {M : Type 1} → statement M
 ask-limits-spec = tie.close (tie.spec cast-if1 mul-if1 returns too-many-guesses-requires returns-2 returns-3)

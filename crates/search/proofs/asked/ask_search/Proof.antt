@@ -1,7 +1,7 @@
 -- `ask_search`: the buffers, then the limits.
 use mathlib.Core.Path.{sym, ◌∙◌}
 use borrow.Author.Rules.{rules}
-use Rattle.search.proofs.SearchAsked.{buffers-refuse, limits-decide}
+use Rattle.search.proofs.SearchAsked.{buffers_refuse, limits_decide}
 use Rattle.search.proofs.asked.ask_search.Statement.{statement}
 use Rattle.search.proofs.asked.ask_search.Tie as tie
 
@@ -18,10 +18,10 @@ ask-limits-requires : tie.Need-ask-limits-requires
 ask-limits-requires c κs = search rules
 
 returns : tie.Need-returns
-returns c = buffers-refuse _ _ _ _ _ _ (sym c.before.r.given.1 ∙ c.before.before.before.ask-buffers.ensures)
+returns c = buffers_refuse _ _ _ _ _ _ (sym c.before.r.given.1 ∙ c.before.before.before.ask-buffers.ensures)
 
 returns-2 : tie.Need-returns-2
-returns-2 c = c.ask-limits.ensures ∙ limits-decide _ _ _ _ _ (sym c.before.enum_told.given.1 ∙ c.before.before.before.ask-buffers.ensures)
+returns-2 c = c.ask-limits.ensures ∙ limits_decide _ _ _ _ _ (sym c.before.enum_told.given.1 ∙ c.before.before.before.ask-buffers.ensures)
 
 pub ask-search-spec : {M : Type 1} → statement M
 ask-search-spec =

@@ -4,10 +4,10 @@ use mathlib.Core.Path.{◌≡◌, refl, sym, ◌∙◌}
 use native.Mathlib.Omega.{arith}
 use lib.ListN.{take}
 use lib.Seq.{length-take-le}
-use Rattle.theory.specs.Rule.{inForce}
+use Rattle.theory.specs.Rule.{in_force}
 use Rattle.theory.specs.Search.{guessed}
-use Rattle.items.specs.Item.{narrow, maxFacts}
-use Rattle.tables.specs.Layout.{programIn}
+use Rattle.items.specs.Item.{narrow, max_facts}
+use Rattle.tables.specs.Layout.{program_in}
 use Rattle.tables.proofs.ProgramHeld.{facts_below}
 use Rattle.search.proofs.Guesses.{guesses-counted, guesses-listed, taken-few}
 use borrow.Author.Rules.{rules}
@@ -15,12 +15,12 @@ use Rattle.search.proofs.found.find_set.Statement.{statement}
 use Rattle.search.proofs.found.find_set.Tie as tie
 
 -- the facts fit
-few-facts : (c : tie.Start) → (programIn c.args.tables.now).facts ≤ maxFacts narrow
-few-facts c = omega (arith, facts_below c.requires.0)
+few_facts : (c : tie.Start) → (program_in c.args.tables.now).facts ≤ max_facts narrow
+few_facts c = omega (arith, facts_below c.requires.0)
 
 -- the row has the facts to guess
-listed : (c : tie.After-list-down) → take c.list-down.result c.list-down.new.1.1.0 ≡ guessed (programIn c.before.before.before.before.before.before.args.tables.now) (inForce (programIn c.before.before.before.before.before.before.args.tables.now))
-listed c = c.list-down.ensures.1 ∙ guesses-listed _ (few-facts c.before.before.before.before.before.before) _ c.before.before.before.before.mark-constraint-facts.ensures _ c.before.before.facts-of.ensures
+listed : (c : tie.After-list-down) → take c.list-down.result c.list-down.new.1.1.0 ≡ guessed (program_in c.before.before.before.before.before.before.args.tables.now) (in_force (program_in c.before.before.before.before.before.before.args.tables.now))
+listed c = c.list-down.ensures.1 ∙ guesses-listed _ (few_facts c.before.before.before.before.before.before) _ c.before.before.before.before.mark-constraint-facts.ensures _ c.before.before.facts-of.ensures
 
 mark-constraint-facts-requires : tie.Need-mark-constraint-facts-requires
 mark-constraint-facts-requires c κs = search rules
@@ -30,7 +30,7 @@ facts-of-requires c κs = search rules
 
 list-down-requires : tie.Need-list-down-requires
 list-down-requires c κs =
-    (omega (arith, few-facts c.before.before.before.before.before, c.before.facts-of.ensures), omega (arith, guesses-counted _ (few-facts c.before.before.before.before.before) _ c.before.before.before.mark-constraint-facts.ensures _ c.before.facts-of.ensures, c.before.before.before.before.before.requires.1), refl)
+    (omega (arith, few_facts c.before.before.before.before.before, c.before.facts-of.ensures), omega (arith, guesses-counted _ (few_facts c.before.before.before.before.before) _ c.before.before.before.mark-constraint-facts.ensures _ c.before.facts-of.ensures, c.before.before.before.before.before.requires.1), refl)
 
 slice-aggregate-earliest : tie.Need-slice-aggregate-earliest
 slice-aggregate-earliest c = sym (length-take-le _ _ (omega (arith, c.before.before.before.list-down.ensures.0, c.before.facts.given.0)))

@@ -3,15 +3,15 @@ use Prim.Native.Nat.{◌≤◌}
 use mathlib.Core.Path.{◌≡◌, sym, ◌∙◌}
 use lib.ListN.{length}
 use lib.Seq.{length-take-le}
-use Rattle.theory.specs.Rule.{inForce}
-use Rattle.theory.specs.Stable.{orderFor}
+use Rattle.theory.specs.Rule.{in_force}
+use Rattle.theory.specs.Stable.{order_for}
 use Rattle.items.specs.Item.{has}
 use Rattle.items.specs.Write.{over}
 use Rattle.reader.specs.Questions.{program_of}
 use Rattle.questions.specs.Questions.{naming}
 use Rattle.run.proofs.RunAsked.{run-there}
 use Rattle.search.proofs.SearchAsked.{AllYesses, all_yes}
-use Rattle.search.proofs.RunUnder.{front-inside, may-run-to, not-refused, found-there}
+use Rattle.search.proofs.RunUnder.{front-inside, may_run_to, not-refused, found_there}
 use borrow.Author.Rules.{rules}
 use Rattle.search.proofs.found.run_to.Statement.{statement}
 use Rattle.search.proofs.found.run_to.Tie as tie
@@ -21,15 +21,15 @@ yesses : (c : tie.Start) → AllYesses c.args.file.now (length c.args.fact-marks
 yesses c = all_yes _ _ _ _ _ c.requires.0
 
 -- the order is that of the file's program
-order_is : (c : tie.After-write-order) → (c.write-order.new.1.1.0 ≡ over (naming (orderFor (program_of c.before.before.before.before.before.before.before.args.file.now) (inForce (program_of c.before.before.before.before.before.before.before.args.file.now)) (has c.before.before.before.before.before.before.before.args.set.now))) c.before.before.before.before.before.before.before.args.order.now) × (c.write-order.result ≡ length (naming (orderFor (program_of c.before.before.before.before.before.before.before.args.file.now) (inForce (program_of c.before.before.before.before.before.before.before.args.file.now)) (has c.before.before.before.before.before.before.before.args.set.now))))
+order_is : (c : tie.After-write-order) → (c.write-order.new.1.1.0 ≡ over (naming (order_for (program_of c.before.before.before.before.before.before.before.args.file.now) (in_force (program_of c.before.before.before.before.before.before.before.args.file.now)) (has c.before.before.before.before.before.before.before.args.set.now))) c.before.before.before.before.before.before.before.args.order.now) × (c.write-order.result ≡ length (naming (order_for (program_of c.before.before.before.before.before.before.before.args.file.now) (in_force (program_of c.before.before.before.before.before.before.before.args.file.now)) (has c.before.before.before.before.before.before.before.args.set.now))))
 order_is c = rw c.before.before.before.before.before.before.before.requires.1.program at c.write-order.ensures
 
 -- the order lies inside its buffer
 inside : (c : tie.After-write-order) → c.write-order.result ≤ length c.write-order.new.1.1.0
-inside c = front-inside (naming (orderFor (program_of c.before.before.before.before.before.before.before.args.file.now) (inForce (program_of c.before.before.before.before.before.before.before.args.file.now)) (has c.before.before.before.before.before.before.before.args.set.now))) c.before.before.before.before.before.before.before.args.order.now _ _ (order_is c)
+inside c = front-inside (naming (order_for (program_of c.before.before.before.before.before.before.before.args.file.now) (in_force (program_of c.before.before.before.before.before.before.before.args.file.now)) (has c.before.before.before.before.before.before.before.args.set.now))) c.before.before.before.before.before.before.before.args.order.now _ _ (order_is c)
 
 write-order-requires : tie.Need-write-order-requires
-write-order-requires c κs = (c.before.before.before.before.before.before.requires.1.well-formed, rw c.before.before.before.before.before.before.requires.1.program (yesses c.before.before.before.before.before.before).order-fits)
+write-order-requires c κs = (c.before.before.before.before.before.before.requires.1.well_formed, rw c.before.before.before.before.before.before.requires.1.program (yesses c.before.before.before.before.before.before).order_fits)
 
 slice-reshare-prefix-run-tabled : tie.Need-slice-reshare-prefix-run-tabled
 slice-reshare-prefix-run-tabled c = inside c.before.before
@@ -40,7 +40,7 @@ slice-aggregate-run-tabled c = sym (length-take-le _ _ (inside c.before.before.b
 run-tabled-requires : tie.Need-run-tabled-requires
 run-tabled-requires c κs =
     let s = c.before.before.before.before.before.before.before.before.before.before.before.before.before in
-    (s.requires.1.well-formed, may-run-to _ s.args.fact-marks.now s.args.rule-marks.now s.args.steps.now _ (yesses s) _ _ _ (order_is c.before.before.before.before.before.before) s.requires.1)
+    (s.requires.1.well_formed, may_run_to _ s.args.fact-marks.now s.args.rule-marks.now s.args.steps.now _ (yesses s) _ _ _ (order_is c.before.before.before.before.before.before) s.requires.1)
 
 enum-known-stages : tie.Need-enum-known-stages
 enum-known-stages c = search rules
@@ -61,7 +61,7 @@ same-length-4 : tie.Need-same-length-4
 same-length-4 c = search rules
 
 returns : tie.Need-returns
-returns c = found-there _ _ _ _ _ (yesses c.before.before.before.before.before.before.before.before.before.before.before.before.before.before.before.before.before.before.before.before.before.before.before) _ _ _ (order_is c.before.before.before.before.before.before.before.before.before.before.before.before.before.before.before.before) _ _ _ _ (c.before.before.before.before.before.before.before.before.before.run-tabled.ensures ∙ run-there c.before.before.before.before.before.before.before.before.before.before.before.before.before.before.before.before.before.before.before.before.before.before.before.requires.1 _ _ _ _) _ _ c.before.stages.given.1
+returns c = found_there _ _ _ _ _ (yesses c.before.before.before.before.before.before.before.before.before.before.before.before.before.before.before.before.before.before.before.before.before.before.before) _ _ _ (order_is c.before.before.before.before.before.before.before.before.before.before.before.before.before.before.before.before) _ _ _ _ (c.before.before.before.before.before.before.before.before.before.run-tabled.ensures ∙ run-there c.before.before.before.before.before.before.before.before.before.before.before.before.before.before.before.before.before.before.before.before.before.before.before.requires.1 _ _ _ _) _ _ c.before.stages.given.1
 
 same-length-5 : tie.Need-same-length-5
 same-length-5 c = search rules

@@ -7,60 +7,60 @@ use native.Mathlib.Omega.{arith}
 use borrow.Author.Rules.{rules}
 use borrow.Author.Tests.{eq-eqb, ne_eqb}
 use lib.ListN.{get_or}
-use Rattle.theory.specs.Rule.{all, clear, inForce, count, rule}
+use Rattle.theory.specs.Rule.{all, clear, in_force, count, rule}
 use Rattle.theory.specs.Run.{Stand}
-use Rattle.theory.proofs.Withheld.{read-on}
+use Rattle.theory.proofs.Withheld.{read_on}
 use Rattle.items.specs.declared.item.FactId.{FactId}
-use Rattle.items.specs.Item.{narrow, maxFacts, maxRules, has}
-use Rattle.tables.specs.Layout.{constraintAt, span, programIn}
-use Rattle.tables.proofs.ProgramHeld.{facts_below, conclusion-below}
-use Rattle.tables.proofs.PartsSpanned.{within, Testing, none-tested, all_tested, test-fails, test-passes}
+use Rattle.items.specs.Item.{narrow, max_facts, max_rules, has}
+use Rattle.tables.specs.Layout.{constraint_at, span, program_in}
+use Rattle.tables.proofs.ProgramHeld.{facts_below, conclusion_below}
+use Rattle.tables.proofs.PartsSpanned.{within, Testing, none_tested, all_tested, test_fails, test_passes}
 use Rattle.bits.specs.Flags.{total}
 use Rattle.stage.specs.Look.{Looking}
-use Rattle.stage.proofs.FirstFound.{Onward, Turn, turn, none_found, held-room, resting, mark-in, mark-out, mark-barred, passed_over, concluded, rejected-already, constraint-met}
+use Rattle.stage.proofs.FirstFound.{Onward, Turn, turn, none_found, held-room, resting, mark_in, mark_out, mark_barred, passed_over, concluded, rejected-already, constraint_met}
 use Rattle.stage.proofs.eligible.first_eligible.Statement.{statement}
 use Rattle.stage.proofs.eligible.first_eligible.Tie as tie
 
 abbrev invariant-loop : tie.invariant-loop
 invariant-loop tables row index marks missing fired count awake place rule f end at₀ at =
-    Testing (λ k. not (has marks k)) (span (constraintAt tables) at₀ end) (constraintAt tables) at₀ end at
+    Testing (λ k. not (has marks k)) (span (constraint_at tables) at₀ end) (constraint_at tables) at₀ end at
 
 abbrev decreases-loop : tie.decreases-loop
 decreases-loop tables row index marks missing fired count awake place rule f end at₀ at = end - at
 
 abbrev invariant-rules : tie.invariant-rules
-invariant-rules tables row index marks₀ missing₀ fired₀ count awake₀ marks missing fired awake = Onward (programIn tables) row marks₀ missing₀ fired₀ count awake₀ marks missing fired awake
+invariant-rules tables row index marks₀ missing₀ fired₀ count awake₀ marks missing fired awake = Onward (program_in tables) row marks₀ missing₀ fired₀ count awake₀ marks missing fired awake
 
 abbrev decreases-rules : tie.decreases-rules
 decreases-rules tables row index marks₀ missing₀ fired₀ count awake₀ marks missing fired awake = total awake
 
 -- once a place is taken
-fell : (c : tie.After-known-told invariant-loop decreases-loop invariant-rules decreases-rules) → (c.before.lowest.given.0.0 < maxRules) × (total c.before.before.before.take.new.0 < total c.before.before.before.before.before.rules.awake)
+fell : (c : tie.After-known-told invariant-loop decreases-loop invariant-rules decreases-rules) → (c.before.lowest.given.0.0 < max_rules) × (total c.before.before.before.take.new.0 < total c.before.before.before.before.before.rules.awake)
 fell c = let f = c.before.before.before.take.ensures.0 in (f.inside _ c.before.lowest.given.1, f.less _ c.before.lowest.given.1)
 
-on-turn : (c : tie.After-known-told invariant-loop decreases-loop invariant-rules decreases-rules) (order : List ℕ) (s : Stand) (p : ℕ → Bool) → Looking (programIn c.before.before.before.before.before.before.args.tables.now) c.before.before.before.before.before.before.args.row.now order c.before.before.before.before.before.before.args.marks.now c.before.before.before.before.before.before.args.missing.now c.before.before.before.before.before.before.args.fired.now c.before.before.before.before.before.before.args.count c.before.before.before.before.before.before.args.awake.now s p → Turn (programIn c.before.before.before.before.before.before.args.tables.now) c.before.before.before.before.before.before.args.row.now order c.before.before.before.before.before.rules.marks c.before.before.before.before.before.rules.missing c.before.before.before.before.before.rules.fired c.before.before.before.before.before.before.args.count c.before.before.before.take.new.0 s c.before.lowest.given.0.0
+on-turn : (c : tie.After-known-told invariant-loop decreases-loop invariant-rules decreases-rules) (order : List ℕ) (s : Stand) (p : ℕ → Bool) → Looking (program_in c.before.before.before.before.before.before.args.tables.now) c.before.before.before.before.before.before.args.row.now order c.before.before.before.before.before.before.args.marks.now c.before.before.before.before.before.before.args.missing.now c.before.before.before.before.before.before.args.fired.now c.before.before.before.before.before.before.args.count c.before.before.before.before.before.before.args.awake.now s p → Turn (program_in c.before.before.before.before.before.before.args.tables.now) c.before.before.before.before.before.before.args.row.now order c.before.before.before.before.before.rules.marks c.before.before.before.before.before.rules.missing c.before.before.before.before.before.rules.fired c.before.before.before.before.before.before.args.count c.before.before.before.take.new.0 s c.before.lowest.given.0.0
 on-turn c order s p w =
     let v = c.before.before.before.before.before.rules.invariant order s p w in
     turn v.1 (facts_below c.before.before.before.before.before.before.requires.0) (c.before.before.before.take.ensures.1 v.0 v.1.flags) c.before.lowest.given.1
 
 -- at the stand that is held
-here : (c : tie.After-known-told invariant-loop decreases-loop invariant-rules decreases-rules) → Turn (programIn c.before.before.before.before.before.before.args.tables.now) c.before.before.before.before.before.before.args.row.now c.before.before.before.before.before.before.requires.1.1.order c.before.before.before.before.before.rules.marks c.before.before.before.before.before.rules.missing c.before.before.before.before.before.rules.fired c.before.before.before.before.before.before.args.count c.before.before.before.take.new.0 c.before.before.before.before.before.before.requires.1.1.at c.before.lowest.given.0.0
+here : (c : tie.After-known-told invariant-loop decreases-loop invariant-rules decreases-rules) → Turn (program_in c.before.before.before.before.before.before.args.tables.now) c.before.before.before.before.before.before.args.row.now c.before.before.before.before.before.before.requires.1.1.order c.before.before.before.before.before.rules.marks c.before.before.before.before.before.rules.missing c.before.before.before.before.before.rules.fired c.before.before.before.before.before.before.args.count c.before.before.before.take.new.0 c.before.before.before.before.before.before.requires.1.1.at c.before.lowest.given.0.0
 here c = on-turn c _ _ _ c.before.before.before.before.before.before.requires.1.1.looking
 
 -- once its rule is known not to be withheld
-read : (c : tie.Else1 invariant-loop decreases-loop invariant-rules decreases-rules) → inForce (programIn c.before.before.before.before.before.before.before.before.before.args.tables.now) (get_or c.before.before.before.before.before.before.before.before.before.args.row.now c.before.before.before.before.lowest.given.0.0 0) ≡ true
-read c = read-on _ _ (sym c.before.is-withheld.ensures ∙ c.if1.false)
+read : (c : tie.Else1 invariant-loop decreases-loop invariant-rules decreases-rules) → in_force (program_in c.before.before.before.before.before.before.before.before.before.args.tables.now) (get_or c.before.before.before.before.before.before.before.before.before.args.row.now c.before.before.before.before.lowest.given.0.0 0) ≡ true
+read c = read_on _ _ (sym c.before.is-withheld.ensures ∙ c.if1.false)
 
 -- once its rule's conclusion is read
-few-facts : (c : tie.After-conclusion invariant-loop decreases-loop invariant-rules decreases-rules) → c.conclusion.result.0 < maxFacts narrow
-few-facts c = omega (arith, ap (λ (f : FactId). f.0) c.conclusion.ensures, conclusion-below c.before.before.before.before.before.before.before.before.before.before.requires.0 (here c.before.before.before.before).known, facts_below c.before.before.before.before.before.before.before.before.before.before.requires.0)
+few_facts : (c : tie.After-conclusion invariant-loop decreases-loop invariant-rules decreases-rules) → c.conclusion.result.0 < max_facts narrow
+few_facts c = omega (arith, ap (λ (f : FactId). f.0) c.conclusion.ensures, conclusion_below c.before.before.before.before.before.before.before.before.before.before.requires.0 (here c.before.before.before.before).known, facts_below c.before.before.before.before.before.before.before.before.before.before.requires.0)
 
 -- once a constraint was met, and once none was
-met : (c : tie.Then4 invariant-loop decreases-loop invariant-rules decreases-rules) → clear (has c.before.before.before.before.before.before.before.before.before.before.before.before.before.before.before.before.before.before.before.before.rules.marks) (rule (programIn c.before.before.before.before.before.before.before.before.before.before.before.before.before.before.before.before.before.before.before.before.before.args.tables.now) (get_or c.before.before.before.before.before.before.before.before.before.before.before.before.before.before.before.before.before.before.before.before.before.args.row.now c.before.before.before.before.before.before.before.before.before.before.before.before.before.before.before.before.lowest.given.0.0 0)).constraints ≡ false
+met : (c : tie.Then4 invariant-loop decreases-loop invariant-rules decreases-rules) → clear (has c.before.before.before.before.before.before.before.before.before.before.before.before.before.before.before.before.before.before.before.before.rules.marks) (rule (program_in c.before.before.before.before.before.before.before.before.before.before.before.before.before.before.before.before.before.before.before.before.before.args.tables.now) (get_or c.before.before.before.before.before.before.before.before.before.before.before.before.before.before.before.before.before.before.before.before.before.args.row.now c.before.before.before.before.before.before.before.before.before.before.before.before.before.before.before.before.lowest.given.0.0 0)).constraints ≡ false
 unfolding has
 met c =
     ap (all _) c.before.before.before.before.before.constraint-span.ensures.is
-    ∙ sym (test-fails c.before.before.before.before.loop.invariant c.before.before.before.loop-test.true (rw (← c.before.before.constraint-at.ensures) (ap not (eq-eqb _ _ c.if4.true))))
+    ∙ sym (test_fails c.before.before.before.before.loop.invariant c.before.before.before.loop-test.true (rw (← c.before.before.constraint-at.ensures) (ap not (eq-eqb _ _ c.if4.true))))
 
 rules-holds : tie.Need-rules-init invariant-loop decreases-loop invariant-rules decreases-rules
 rules-holds c = λ order s p w. (p, w)
@@ -96,28 +96,28 @@ cast_f : tie.Need-overflow-cast-f invariant-loop decreases-loop invariant-rules 
 cast_f c = search rules
 
 element-copy-out-if2 : tie.Need-element-copy-out-if2 invariant-loop decreases-loop invariant-rules decreases-rules
-element-copy-out-if2 c = few-facts c.before
+element-copy-out-if2 c = few_facts c.before
 
 rules-less-2 : tie.Need-rules-smaller-2 invariant-loop decreases-loop invariant-rules decreases-rules
 rules-less-2 c = (fell c.before.before.before.before.before.before.before).1
 
 rules-again-2 : tie.Need-rules-preserved-2 invariant-loop decreases-loop invariant-rules decreases-rules
-rules-again-2 c = λ order s p w. let t = on-turn c.before.before.before.before.before.before.before order s p w in t.refused (concluded t.holds _ (mark-in _ c.before.before.before.conclusion.ensures c.if2.true)) _ _ _ t.holds t.rests
+rules-again-2 c = λ order s p w. let t = on-turn c.before.before.before.before.before.before.before order s p w in t.refused (concluded t.holds _ (mark_in _ c.before.before.before.conclusion.ensures c.if2.true)) _ _ _ t.holds t.rests
 
 element-copy-out-if3 : tie.Need-element-copy-out-if3 invariant-loop decreases-loop invariant-rules decreases-rules
-element-copy-out-if3 c = few-facts c.before.before.before
+element-copy-out-if3 c = few_facts c.before.before.before
 
 rules-less-3 : tie.Need-rules-smaller-3 invariant-loop decreases-loop invariant-rules decreases-rules
 rules-less-3 c = (fell c.before.before.before.before.before.before.before.before.before).1
 
 rules-again-3 : tie.Need-rules-preserved-3 invariant-loop decreases-loop invariant-rules decreases-rules
-rules-again-3 c = λ order s p w. let t = on-turn c.before.before.before.before.before.before.before.before.before order s p w in t.refused (rejected-already t.holds _ (mark-barred _ c.before.before.before.before.before.conclusion.ensures c.if3.true)) _ _ _ t.holds t.rests
+rules-again-3 c = λ order s p w. let t = on-turn c.before.before.before.before.before.before.before.before.before order s p w in t.refused (rejected-already t.holds _ (mark_barred _ c.before.before.before.before.before.conclusion.ensures c.if3.true)) _ _ _ t.holds t.rests
 
 constraint-span-requires : tie.Need-constraint-span-requires invariant-loop decreases-loop invariant-rules decreases-rules
 constraint-span-requires c κs = (c.before.before.before.before.before.before.before.before.before.before.before.before.before.before.before.requires.0, (here c.before.before.before.before.before.before.before.before.before).known)
 
 loop-holds : tie.Need-loop-init invariant-loop decreases-loop invariant-rules decreases-rules
-loop-holds c = none-tested _ (within c.constraint-span.ensures)
+loop-holds c = none_tested _ (within c.constraint-span.ensures)
 
 constraint-at-requires : tie.Need-constraint-at-requires invariant-loop decreases-loop invariant-rules decreases-rules
 constraint-at-requires c κs = omega (arith, c.before.before.constraint-span.ensures.high)
@@ -131,7 +131,7 @@ rules-less-4 : tie.Need-rules-smaller-4 invariant-loop decreases-loop invariant-
 rules-less-4 c = (fell c.before.before.before.before.before.before.before.before.before.before.before.before.before.before.before).1
 
 rules-again-4 : tie.Need-rules-preserved-4 invariant-loop decreases-loop invariant-rules decreases-rules
-rules-again-4 c = λ order s p w. let t = on-turn c.before.before.before.before.before.before.before.before.before.before.before.before.before.before.before order s p w in t.refused (constraint-met t.holds _ (met c)) _ _ _ t.holds t.rests
+rules-again-4 c = λ order s p w. let t = on-turn c.before.before.before.before.before.before.before.before.before.before.before.before.before.before.before order s p w in t.refused (constraint_met t.holds _ (met c)) _ _ _ t.holds t.rests
 
 add_at : tie.Need-overflow-add-at invariant-loop decreases-loop invariant-rules decreases-rules
 add_at c = omega (arith, c.before.before.before.before.before.constraint-span.ensures.high)
@@ -141,7 +141,7 @@ loop-less c = omega arith
 
 loop-again : tie.Need-loop-preserved invariant-loop decreases-loop invariant-rules decreases-rules
 unfolding has
-loop-again c = test-passes c.before.before.before.before.loop.invariant c.before.before.before.loop-test.true (rw (← c.before.before.constraint-at.ensures) (ap not (ne_eqb _ _ c.if4.false)))
+loop-again c = test_passes c.before.before.before.before.loop.invariant c.before.before.before.loop-test.true (rw (← c.before.before.constraint-at.ensures) (ap not (ne_eqb _ _ c.if4.false)))
 
 trial-requires : tie.Need-trial-requires invariant-loop decreases-loop invariant-rules decreases-rules
 trial-requires c κs =
@@ -151,10 +151,10 @@ trial-requires c κs =
       (
         p.1.0,
         (
-          (held-room (facts_below p.0) t.holds, t.holds.fired-places),
+          (held-room (facts_below p.0) t.holds, t.holds.fired_places),
           (
             (
-              mark-out _ c.before.before.before.before.before.before.before.before.before.before.before.conclusion.ensures c.before.before.before.before.before.before.before.before.if2.false,
+              mark_out _ c.before.before.before.before.before.before.before.before.before.before.before.conclusion.ensures c.before.before.before.before.before.before.before.before.if2.false,
               ap (all _) c.before.before.before.before.before.constraint-span.ensures.is ∙ sym (all_tested c.before.before.before.before.loop.invariant c.before.before.before.loop-test.false),
             ),
             resting p.1.0.1 t.holds t.rests,
@@ -177,7 +177,7 @@ rules-again-5 c =
     λ order s p w.
     let t = on-turn c.before.before.before.before.before.before.before.before.before.before.before.before.before.before.before.before.before.before order s p w in
     let f = rw c.enum-told2.given.1 at (c.before.before.trial.ensures s t.holds t.premises-in t.excepted (read c.before.before.before.before.before.before.before.before.before.before.before.before.before.before.before)) in
-    t.refused f.not-eligible _ _ _ f.holds f.rests
+    t.refused f.not_eligible _ _ _ f.holds f.rests
 
 returns : tie.Need-returns invariant-loop decreases-loop invariant-rules decreases-rules
 returns c = λ order s p w. let v = c.before.before.before.before.rules.invariant order s p w in none_found v.1 _ (c.before.before.take.ensures.1 v.0 v.1.flags) c.enum_told.given.1

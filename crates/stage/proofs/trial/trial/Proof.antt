@@ -3,13 +3,13 @@ use mathlib.Core.Path.{◌∙◌}
 use native.Mathlib.Omega.{arith}
 use borrow.Author.Rules.{rules}
 use lib.ListN.{length-set}
-use Rattle.tables.specs.Layout.{programIn}
+use Rattle.tables.specs.Layout.{program_in}
 use Rattle.tables.proofs.ProgramHeld.{facts_below}
 use Rattle.stage.proofs.TrialMade.{Trying, trying}
 use Rattle.stage.proofs.trial.trial.Statement.{statement}
 use Rattle.stage.proofs.trial.trial.Tie as tie
 
-one-trial : (c : tie.After-conclusion) → Trying (programIn c.before.before.before.before.args.tables.now) c.before.before.before.before.args.rule.0 c.before.before.before.before.args.index.now c.before.before.before.before.args.marks.now c.before.before.before.before.args.missing.now c.before.before.before.before.args.count c.before.mark-own.new.1.1.1.0 c.conclusion.result
+one-trial : (c : tie.After-conclusion) → Trying (program_in c.before.before.before.before.args.tables.now) c.before.before.before.before.args.rule.0 c.before.before.before.before.args.index.now c.before.before.before.before.args.marks.now c.before.before.before.before.args.missing.now c.before.before.before.before.args.count c.before.mark-own.new.1.1.1.0 c.conclusion.result
 one-trial c =
     let p = c.before.before.before.before.requires in
     trying _ p.0.0.in_bounds (facts_below p.0.0) _ p.0.1 _ p.1.0.0 p.1.0.1 _ _ p.1.1.0.0 p.1.1.1.0.0 p.1.1.1.0.1 _ p.1.1.1.1 _ c.before.mark-own.ensures _ c.conclusion.ensures

@@ -2,7 +2,7 @@
 use native.Mathlib.Omega.{arith}
 use borrow.Author.Rules.{rules}
 use Rattle.tables.proofs.ProgramHeld.{in_table}
-use Rattle.tables.proofs.PartsSpanned.{premises-spanned}
+use Rattle.tables.proofs.PartsSpanned.{premises_spanned}
 use Rattle.tables.proofs.own.premise_span.Statement.{statement}
 use Rattle.tables.proofs.own.premise_span.Tie as tie
 
@@ -37,7 +37,7 @@ wide-requires-2 : tie.Need-wide-requires-2
 wide-requires-2 c κs = search rules
 
 returns : tie.Need-returns
-returns c = premises-spanned c.before.before.before.before.before.requires.0 c.before.before.before.before.before.requires.1 _ _ c.before.before.wide.ensures c.wide2.ensures
+returns c = premises_spanned c.before.before.before.before.before.requires.0 c.before.before.before.before.before.requires.1 _ _ c.before.before.wide.ensures c.wide2.ensures
 
 pub premise-span-spec : {M : Type 1} → statement M
 premise-span-spec =

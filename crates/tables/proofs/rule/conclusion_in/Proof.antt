@@ -4,7 +4,7 @@ use mathlib.Core.Path.{ap}
 use borrow.Author.Rules.{rules}
 use Rattle.items.specs.declared.item.FactId.{FactId}
 use Rattle.items.specs.Item.{has}
-use Rattle.tables.proofs.ProgramHeld.{conclusion-below}
+use Rattle.tables.proofs.ProgramHeld.{conclusion_below}
 use Rattle.tables.proofs.rule.conclusion_in.Statement.{statement}
 use Rattle.tables.proofs.rule.conclusion_in.Tie as tie
 
@@ -17,7 +17,7 @@ cast-number c = search rules
 shared-slice-read-result : tie.Need-shared-slice-read-result
 shared-slice-read-result c =
     let p = c.before.before.before.before.requires in
-    omega (arith, ap (λ (g : FactId). g.0) c.before.before.conclusion.ensures, conclusion-below p.0.0 p.0.1, p.1)
+    omega (arith, ap (λ (g : FactId). g.0) c.before.before.conclusion.ensures, conclusion_below p.0.0 p.0.1, p.1)
 
 returns : tie.Need-returns
 unfolding has

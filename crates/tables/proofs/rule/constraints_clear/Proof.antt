@@ -6,13 +6,13 @@ use native.Mathlib.Omega.{arith}
 use borrow.Author.Tests.{eq-eqb, ne_eqb}
 use Rattle.items.specs.Item.{has}
 use Rattle.theory.specs.Rule.{all}
-use Rattle.tables.specs.Layout.{constraintAt, span}
-use Rattle.tables.proofs.PartsSpanned.{within, Testing, none-tested, all_tested, test-fails, test-passes}
+use Rattle.tables.specs.Layout.{constraint_at, span}
+use Rattle.tables.proofs.PartsSpanned.{within, Testing, none_tested, all_tested, test_fails, test_passes}
 use Rattle.tables.proofs.rule.constraints_clear.Statement.{statement}
 use Rattle.tables.proofs.rule.constraints_clear.Tie as tie
 
 abbrev invariant-loop : tie.invariant-loop
-invariant-loop tables set end place₀ place = Testing (λ f. not (has set f)) (span (constraintAt tables) place₀ end) (constraintAt tables) place₀ end place
+invariant-loop tables set end place₀ place = Testing (λ f. not (has set f)) (span (constraint_at tables) place₀ end) (constraint_at tables) place₀ end place
 
 abbrev decreases-loop : tie.decreases-loop
 decreases-loop tables set end place₀ place = end - place
@@ -21,7 +21,7 @@ constraint-span-requires : tie.Need-constraint-span-requires invariant-loop decr
 constraint-span-requires c κs = c.before.requires.0
 
 loop-holds : tie.Need-loop-init invariant-loop decreases-loop
-loop-holds c = none-tested _ (within c.constraint-span.ensures)
+loop-holds c = none_tested _ (within c.constraint-span.ensures)
 
 constraint-at-requires : tie.Need-constraint-at-requires invariant-loop decreases-loop
 constraint-at-requires c κs = omega (arith, c.before.before.constraint-span.ensures.high)
@@ -35,7 +35,7 @@ shared-slice-read-if1 c =
 returns : tie.Need-returns invariant-loop decreases-loop
 unfolding has
 returns c =
-    test-fails c.before.before.before.before.loop.invariant c.before.before.before.loop-test.true (rw (← c.before.before.constraint-at.ensures) (ap not (eq-eqb _ _ c.if1.true)))
+    test_fails c.before.before.before.before.loop.invariant c.before.before.before.loop-test.true (rw (← c.before.before.constraint-at.ensures) (ap not (eq-eqb _ _ c.if1.true)))
     ∙ ap (all _) (sym c.before.before.before.before.before.constraint-span.ensures.is)
 
 add-place : tie.Need-overflow-add-place invariant-loop decreases-loop
@@ -46,7 +46,7 @@ loop-less c = omega arith
 
 loop-again : tie.Need-loop-preserved invariant-loop decreases-loop
 unfolding has
-loop-again c = test-passes c.before.before.before.before.loop.invariant c.before.before.before.loop-test.true (rw (← c.before.before.constraint-at.ensures) (ap not (ne_eqb _ _ c.if1.false)))
+loop-again c = test_passes c.before.before.before.before.loop.invariant c.before.before.before.loop-test.true (rw (← c.before.before.constraint-at.ensures) (ap not (ne_eqb _ _ c.if1.false)))
 
 returns-2 : tie.Need-returns-2 invariant-loop decreases-loop
 returns-2 c = all_tested c.before.loop.invariant c.loop-test.false ∙ ap (all _) (sym c.before.before.constraint-span.ensures.is)

@@ -1,7 +1,7 @@
 -- `take_item`: each way of the read at the front is a law of `RangeItems`.
 use borrow.Author.Rules.{rules}
 use mathlib.Core.Path.{sym, ◌∙◌}
-use Rattle.view.proofs.RangeItems.{empty-range, none-taken, other-there, premise-taken, constraint-taken}
+use Rattle.view.proofs.RangeItems.{empty-range, none_taken, other_there, premise_taken, constraint_taken}
 use Rattle.view.proofs.range.take_item.Statement.{statement}
 use Rattle.view.proofs.range.take_item.Tie as tie
 
@@ -21,16 +21,16 @@ enum-known-item-3 : tie.Need-enum-known-item-3
 enum-known-item-3 c = search rules
 
 returns-2 : tie.Need-returns-2
-returns-2 c = premise-taken _ _ _ c.before.before.before.before.before.before.before.if1.false _ _ (sym c.before.before.before.before.before.before.next-in-body.ensures ∙ c.before.before.before.before.item.given.1) _ c.before.item2.given.1
+returns-2 c = premise_taken _ _ _ c.before.before.before.before.before.before.before.if1.false _ _ (sym c.before.before.before.before.before.before.next-in-body.ensures ∙ c.before.before.before.before.item.given.1) _ c.before.item2.given.1
 
 returns-3 : tie.Need-returns-3
-returns-3 c = constraint-taken _ _ _ c.before.before.before.before.before.before.before.if1.false _ _ (sym c.before.before.before.before.before.before.next-in-body.ensures ∙ c.before.before.before.before.item.given.1) _ c.before.item3.given.1
+returns-3 c = constraint_taken _ _ _ c.before.before.before.before.before.before.before.if1.false _ _ (sym c.before.before.before.before.before.before.next-in-body.ensures ∙ c.before.before.before.before.item.given.1) _ c.before.item3.given.1
 
 returns-4 : tie.Need-returns-4
-returns-4 c = other-there _ _ _ c.before.before.before.before.before.if1.false _ _ (sym c.before.before.before.before.next-in-body.ensures ∙ c.before.before.item.given.1) c.match2.keys3
+returns-4 c = other_there _ _ _ c.before.before.before.before.before.if1.false _ _ (sym c.before.before.before.before.next-in-body.ensures ∙ c.before.before.item.given.1) c.match2.keys3
 
 returns-5 : tie.Need-returns-5
-returns-5 c = none-taken _ _ _ c.before.before.if1.false _ (sym c.before.next-in-body.ensures) c.match.keys2
+returns-5 c = none_taken _ _ _ c.before.before.if1.false _ (sym c.before.next-in-body.ensures) c.match.keys2
 
 pub take-item-spec : {M : Type 1} → statement M
 take-item-spec =

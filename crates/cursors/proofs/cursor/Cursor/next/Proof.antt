@@ -1,5 +1,5 @@
 -- `Cursor::next`: the read of its row.
-use Rattle.cursors.proofs.ReadNumbers.{read-answered}
+use Rattle.cursors.proofs.ReadNumbers.{read_answered}
 use borrow.Author.Rules.{rules}
 use Rattle.cursors.proofs.cursor.Cursor.next.Statement.{statement}
 use Rattle.cursors.proofs.cursor.Cursor.next.Tie as tie
@@ -29,16 +29,16 @@ next-step-requires : tie.Need-next-step-requires
 next-step-requires c κs = search rules
 
 returns : tie.Need-returns
-returns c = read-answered _ _ _ c.next-opening.ensures
+returns c = read_answered _ _ _ c.next-opening.ensures
 
 returns-2 : tie.Need-returns-2
-returns-2 c = read-answered _ _ _ c.next-in-body.ensures
+returns-2 c = read_answered _ _ _ c.next-in-body.ensures
 
 returns-3 : tie.Need-returns-3
-returns-3 c = read-answered _ _ _ c.next-name.ensures
+returns-3 c = read_answered _ _ _ c.next-name.ensures
 
 returns-4 : tie.Need-returns-4
-returns-4 c = read-answered _ _ _ c.next-step.ensures
+returns-4 c = read_answered _ _ _ c.next-step.ensures
 
 pub next-spec : {M : Type 1} → statement M
 next-spec =

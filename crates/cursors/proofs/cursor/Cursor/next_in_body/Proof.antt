@@ -1,7 +1,7 @@
 -- `Cursor::next_in_body`: there is no kind or none of the row, as the laws of `OneRow` say, or it is `read_kind`'s.
 use mathlib.Core.Path.{◌∙◌}
 use Rattle.cursors.specs.declared.cursor.Row.TheVariants.{Body}
-use Rattle.cursors.proofs.OneRow.{past-rule-kinds, no-rule-kind, nothing-there, unlike}
+use Rattle.cursors.proofs.OneRow.{past-rule_kinds, no-rule_kind, nothing-there, unlike}
 use borrow.Author.Rules.{rules}
 use Rattle.cursors.proofs.cursor.Cursor.next_in_body.Statement.{statement}
 use Rattle.cursors.proofs.cursor.Cursor.next_in_body.Tie as tie
@@ -32,7 +32,7 @@ returns-3 c = search rules
 
 returns-4 : tie.Need-returns-4
 returns-4 c =
-    c.stay2.ensures ∙ unlike _ _ Body c.before.before.before.before.before.before.requires c.before.before.before.before.if1.false (past-rule-kinds _ c.before.before.if2.true c.before.match.rest.0.1 c.before.match.rest.1)
+    c.stay2.ensures ∙ unlike _ _ Body c.before.before.before.before.before.before.requires c.before.before.before.before.if1.false (past-rule_kinds _ c.before.before.if2.true c.before.match.rest.0.1 c.before.match.rest.1)
 
 read-kind-requires-3 : tie.Need-read-kind-requires-3
 read-kind-requires-3 c κs = search rules
@@ -57,7 +57,7 @@ returns-7 c = search rules
 
 returns-8 : tie.Need-returns-8
 returns-8 c =
-    c.stay3.ensures ∙ unlike _ _ Body c.before.before.before.before.before.before.requires c.before.before.before.before.if1.false (no-rule-kind _ c.before.before.if2.false c.before.match2.rest.0.0.1 c.before.match2.rest.0.1 c.before.match2.rest.1)
+    c.stay3.ensures ∙ unlike _ _ Body c.before.before.before.before.before.before.requires c.before.before.before.before.if1.false (no-rule_kind _ c.before.before.if2.false c.before.match2.rest.0.0.1 c.before.match2.rest.0.1 c.before.match2.rest.1)
 
 pub next-in-body-spec : {M : Type 1} → statement M
 next-in-body-spec =
