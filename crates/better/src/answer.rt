@@ -1,7 +1,7 @@
 use items::refusal::Refusal;
 
 // Which of two orders is the better, or the first no.
-#[derive(Drop)]
+#[derive(Clone, Copy)]
 pub enum Choice {
     First,
     Second,

@@ -13,7 +13,7 @@ pub const WORD_BITS: usize = 64;
 pub const ROW_WORDS: usize = MAX_RULES / WORD_BITS;
 
 // The lowest place that was marked, or that there was none.
-#[derive(Drop)]
+#[derive(Clone, Copy)]
 pub enum Lowest {
     At(usize),
     Nothing,

@@ -1,7 +1,7 @@
 use items::item::RuleId;
 
 // The rule that a search stops at, if there is one.
-#[derive(Drop)]
+#[derive(Clone, Copy)]
 pub enum Found {
     At(RuleId),
     Nothing,

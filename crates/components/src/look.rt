@@ -22,7 +22,7 @@ const PLACES: u16 = MAX_FACTS as u16;
 
 // What looking at a rule finds: a fact that was not met yet, as a premise or as a constraint; a constraint that is open; or, of facts that were all
 // met, the lowest place of an open premise and the rank that the closed ones ask.
-#[derive(Drop)]
+#[derive(Clone, Copy)]
 pub enum Look {
     Unmet(FactId, bool),
     Barred,

@@ -72,7 +72,7 @@ fn is_barred(roots: &[u16; MAX_FACTS], root: usize) -> bool
 }
 
 // What is left of the roots when those behind a place go, or that one of these was met by a constraint.
-#[derive(Drop)]
+#[derive(Clone, Copy)]
 pub enum Merge {
     Left(usize),
     Barred,

@@ -10,7 +10,7 @@ use items::item::{
 use items::refusal::Refusal;
 
 // Which row of items is read: it decides the kinds that may stand there, and the refusal where none does.
-#[derive(Drop)]
+#[derive(Clone, Copy)]
 pub enum Row {
     // The first item of a file, and the items after it.
     Opening,
@@ -22,7 +22,7 @@ pub enum Row {
 }
 
 // What can be wrong where an item is read, in the order in which it is asked.
-#[derive(Drop)]
+#[derive(Clone, Copy)]
 pub enum Fault {
     NoByte,
     OtherKind,
@@ -30,7 +30,7 @@ pub enum Fault {
 }
 
 // A place between two items of a row.
-#[derive(Drop)]
+#[derive(Clone, Copy)]
 pub struct Cursor {
     pub at: usize,
     pub row: Row,
@@ -38,7 +38,7 @@ pub struct Cursor {
 
 // A read gives the item and the cursor past it, or the cursor as it was, with the refusal or past the last item of an order, a list or a
 // proof row.
-#[derive(Drop)]
+#[derive(Clone, Copy)]
 pub enum Read {
     Found(Item, Cursor),
     Refused(Refusal, Cursor),

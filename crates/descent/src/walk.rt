@@ -17,7 +17,7 @@ use tables::rule::{conclusion, is_withheld};
 use threads::END;
 
 // How many facts are open, how many of them are roots, and the place of the one that is looked at.
-#[derive(Drop)]
+#[derive(Clone, Copy)]
 pub struct Standing {
     pub height: usize,
     pub roots: usize,
@@ -25,7 +25,7 @@ pub struct Standing {
 }
 
 // A turn of the walk.
-#[derive(Drop)]
+#[derive(Clone, Copy)]
 pub enum Turn {
     Goes(Standing),
     Cyclic,

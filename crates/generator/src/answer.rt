@@ -1,7 +1,7 @@
 use items::refusal::Refusal;
 
 // What making a test load answers: how many bytes the file has, or the first no.
-#[derive(Drop)]
+#[derive(Clone, Copy)]
 pub enum Loaded {
     Written { bytes: u16 },
     Refused(Refusal),

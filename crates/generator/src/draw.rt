@@ -14,7 +14,7 @@ const DIVISOR: u32 = 65536;
 const SCALE: u64 = 4294967296;
 
 // The count of facts, and the factor that stands for a division by it: each draw multiplies, since a division takes longer.
-#[derive(Drop)]
+#[derive(Clone, Copy)]
 pub struct Modulus {
     pub facts: u32,
     pub inverse: u64,

@@ -19,7 +19,7 @@ use tables::layout::TABLE_CELLS;
 const FEW_FREE: usize = 3;
 
 // Every guess that fits has the bits of the one, and no bit that the other lacks. Where they are said to be apart, neither of them fits.
-#[derive(Drop)]
+#[derive(Clone, Copy)]
 pub struct Bounds {
     pub low: u32,
     pub high: u32,

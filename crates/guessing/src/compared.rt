@@ -8,7 +8,7 @@ use index::cells::LITERALS;
 use nogoods::guess::has_bit;
 
 // Whether the facts of the row that a guess derives are those that are in it, or the highest place where they are not.
-#[derive(Drop)]
+#[derive(Clone, Copy)]
 pub enum Compared {
     Same,
     Apart(usize),

@@ -17,7 +17,7 @@ use nogoods::nogood::{MOST_KEPT, next_open};
 use tables::layout::TABLE_CELLS;
 
 // Whether a guess fits, that none does, or the guess before which none does, where as many nogoods are kept as there is room for.
-#[derive(Drop)]
+#[derive(Clone, Copy)]
 pub enum First {
     Fits,
     Nothing,

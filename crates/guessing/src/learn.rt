@@ -77,7 +77,7 @@ fn widen(
 }
 
 // What a conflict teaches: a nogood, and the bounds, tightened where it asks for one place alone.
-#[derive(Drop)]
+#[derive(Clone, Copy)]
 pub struct Lesson {
     pub mask: u32,
     pub value: u32,

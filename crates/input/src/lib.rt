@@ -8,7 +8,7 @@ use libc::STDIN_FILENO;
 pub const INPUT_ROOM: usize = MAX_BYTES + 1;
 
 // What was read: so many bytes, or a read failed.
-#[derive(Drop)]
+#[derive(Clone, Copy)]
 pub enum Input {
     Bytes(usize),
     Failed,

@@ -2,14 +2,14 @@ ghost use Rattle.std.specs.Prelude.{◌≡◌, ◌+◌, ◌<◌, ◌≤◌, leng
 ghost use Rattle.items.specs.Item.{narrow, fact_bytes, rule_bytes, body_length, no_such_kind, big_endian, item_of};
 
 // A fact number and a rule number are counted separately, each from 0, and each indexes its own marks.
-#[derive(Drop)]
+#[derive(Clone, Copy)]
 pub struct FactId(pub u16);
 
-#[derive(Drop)]
+#[derive(Clone, Copy)]
 pub struct RuleId(pub u16);
 
 // A whole item of a rule file, an order, a list of rules or a proof row.
-#[derive(Drop)]
+#[derive(Clone, Copy)]
 pub enum Item {
     // The count of facts: the first item of a file.
     Facts(u16),

@@ -2,7 +2,7 @@ ghost use Rattle.std.specs.Prelude.{◌≡◌};
 ghost use Rattle.items.specs.Question.{number};
 
 // Why an operation refuses: one case for each question of documents 01 and 02 that can get a no.
-#[derive(Drop)]
+#[derive(Clone, Copy)]
 pub enum Refusal {
     FileTooLong,
     NoFactCount,

@@ -1,7 +1,7 @@
 use items::refusal::Refusal;
 
 // What the judge answers of a set.
-#[derive(Drop)]
+#[derive(Clone, Copy)]
 pub enum Judged {
     Stable,
     NotStable,

@@ -13,7 +13,7 @@ use bits::word::lowest_bit;
 use items::item::MAX_FACTS;
 
 // The first lane of a block that fits, or that none does.
-#[derive(Drop)]
+#[derive(Clone, Copy)]
 pub enum Lane {
     At(usize),
     Nothing,

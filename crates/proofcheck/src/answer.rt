@@ -1,7 +1,7 @@
 use items::refusal::Refusal;
 
 // What the proof check answers of a row.
-#[derive(Drop)]
+#[derive(Clone, Copy)]
 pub enum Checked {
     Yes,
     No,

@@ -14,7 +14,7 @@ use tables::layout::TABLE_CELLS;
 use view::range::{Own, Taken};
 
 // What an item tells: whether the rule is decided, whether it fits so far, and where what is left of its view begins.
-#[derive(Drop)]
+#[derive(Clone, Copy)]
 pub struct Told {
     pub over: bool,
     pub fits: bool,

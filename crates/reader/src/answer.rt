@@ -1,7 +1,7 @@
 use items::refusal::Refusal;
 
 // What `accept` answers: the counts of an accepted file, or the first no.
-#[derive(Drop)]
+#[derive(Clone, Copy)]
 pub enum Accept {
     Accepted {
         facts: u16,
@@ -13,7 +13,7 @@ pub enum Accept {
 }
 
 // The counts of an accepted file: its facts, rules, exception rules, and the facts that are read and a constraint of some rule, withheld or not.
-#[derive(Drop)]
+#[derive(Clone, Copy)]
 pub struct FileCounts {
     pub facts: u16,
     pub rules: u16,
@@ -22,7 +22,7 @@ pub struct FileCounts {
 }
 
 // All questions got yes, with the counts of the file; or the first no.
-#[derive(Drop)]
+#[derive(Clone, Copy)]
 pub enum Asked {
     Yes(FileCounts),
     No(Refusal),

@@ -11,7 +11,7 @@ use tables::layout::{LAST_CELL, OWN, TABLE_CELLS};
 // What the scan has read so far: the rules opened; `allowance`, how many premises and constraints more the rule last opened may have, and 0 before one
 // is opened; the premises and the constraints of all rules, `filled` and `barred` places of their rows; the exception rules; `plain` is 1 while the rule
 // last opened has no constraint.
-#[derive(Drop)]
+#[derive(Clone, Copy)]
 pub struct Progress {
     pub rules: usize,
     pub allowance: usize,
@@ -22,7 +22,7 @@ pub struct Progress {
 }
 
 // The scan goes on, the file ends as it should, or it is refused.
-#[derive(Drop)]
+#[derive(Clone, Copy)]
 pub enum Step {
     On(Progress),
     Ended,

@@ -15,7 +15,7 @@ use search::answer::Searched;
 
 // An accepted file, and the bytes of one step.
 #[repr(C)]
-#[derive(Drop)]
+#[derive(Clone, Copy)]
 pub struct FileReply {
     pub refusal: u32,
     pub facts: u32,
@@ -27,7 +27,7 @@ pub struct FileReply {
 
 // A run.
 #[repr(C)]
-#[derive(Drop)]
+#[derive(Clone, Copy)]
 pub struct RunCounts {
     pub refusal: u32,
     pub stages: u32,
@@ -36,7 +36,7 @@ pub struct RunCounts {
 
 // 1 for stable or yes, 0 for not.
 #[repr(C)]
-#[derive(Drop)]
+#[derive(Clone, Copy)]
 pub struct Verdict {
     pub refusal: u32,
     pub verdict: u32,
@@ -44,7 +44,7 @@ pub struct Verdict {
 
 // One count.
 #[repr(C)]
-#[derive(Drop)]
+#[derive(Clone, Copy)]
 pub struct Count {
     pub refusal: u32,
     pub count: u32,
@@ -52,7 +52,7 @@ pub struct Count {
 
 // Which of two orders: 1 for the first, 2 for the second.
 #[repr(C)]
-#[derive(Drop)]
+#[derive(Clone, Copy)]
 pub struct ChoiceReply {
     pub refusal: u32,
     pub which: u32,

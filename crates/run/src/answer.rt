@@ -1,7 +1,7 @@
 use items::refusal::Refusal;
 
 // What a run answers: the counts of its stages and of its steps, or the first no.
-#[derive(Drop)]
+#[derive(Clone, Copy)]
 pub enum Ran {
     Done { stages: u16, steps: u16 },
     Refused(Refusal),

@@ -27,7 +27,7 @@ use stage::staged::Staged;
 use tables::layout::TABLE_CELLS;
 
 // How many stages and steps a run has.
-#[derive(Drop)]
+#[derive(Clone, Copy)]
 pub struct RunCounts {
     pub stages: usize,
     pub steps: usize,

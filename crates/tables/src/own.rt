@@ -7,7 +7,7 @@ use crate::layout::{CONSTRAINT_STARTS, LAST_CELL, OWN, PREMISE_STARTS, TABLE_CEL
 use items::item::RuleId;
 
 // From one place of a row up to another.
-#[derive(Drop)]
+#[derive(Clone, Copy)]
 pub struct Span {
     pub from: usize,
     pub end: usize,

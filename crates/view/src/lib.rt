@@ -7,7 +7,7 @@ ghost use Rattle.view.specs.View.{taken_at};
 
 use range::Taken;
 
-#[derive(Drop)]
+#[derive(Clone, Copy)]
 pub struct RuleView<'a> {
     pub file: &'a [u8],
     pub at: usize,

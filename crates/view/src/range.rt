@@ -12,7 +12,7 @@ use tables::layout::{PLACES, TABLE_CELLS};
 use tables::own::{constraint_span, premise_span};
 
 // An item of a rule's own, or none is left.
-#[derive(Drop)]
+#[derive(Clone, Copy)]
 pub enum Own {
     Premise(FactId),
     Constraint(FactId),
@@ -20,14 +20,14 @@ pub enum Own {
 }
 
 // An item with the place where what is left begins.
-#[derive(Drop)]
+#[derive(Clone, Copy)]
 pub struct Taken {
     pub item: Own,
     pub rest: usize,
 }
 
 // Where the premises and constraints of a rule still to come stand.
-#[derive(Drop)]
+#[derive(Clone, Copy)]
 pub struct Range {
     pub at: usize,
     pub end: usize,

@@ -9,7 +9,7 @@ pub const LONGEST_NUMBER: usize = 10;
 const MOST_VALUE: u64 = 4294967295;
 
 // What a word is.
-#[derive(Drop)]
+#[derive(Clone, Copy)]
 pub enum Word {
     Number(u32),
     NotANumber,
