@@ -1,4 +1,7 @@
 // The words that a program is given.
+
+#![tactic(auto)]
+
 use words::{LONGEST_NUMBER, Word};
 
 // One byte more than a number may have, so that a longer word is told apart.

@@ -1,4 +1,7 @@
 // The better of two orders: the one that sets aside fewer rules.
+
+#![tactic(auto)]
+
 ghost use Rattle.std.specs.Prelude.{◌≡◌};
 ghost use Rattle.items.specs.Question.{no_number};
 ghost use Rattle.questions.specs.Questions.{better_no};

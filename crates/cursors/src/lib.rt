@@ -1,2 +1,5 @@
 // The reader that moves past one whole item at a time.
+
+#![tactic(auto)]
+
 pub mod cursor;

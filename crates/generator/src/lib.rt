@@ -1,4 +1,7 @@
 // A test load that anyone can repeat: a rule file drawn from a start.
+
+#![tactic(auto)]
+
 ghost use Rattle.std.specs.Prelude.{◌≡◌, length, ◌≢◌};
 ghost use Rattle.generator.specs.Outcome.{LoadOutcome, load_no, load_outcome, LoadMeans, load_number};
 

@@ -1,4 +1,7 @@
 // The grounds for a fact: reads a rule file from standard input and writes the steps that the fact stands on.
+
+#![tactic(auto)]
+
 use grounds_text::kept::LINES_ROOM;
 use input::{INPUT_ROOM, Input};
 use libc::{STDERR_FILENO, STDOUT_FILENO};

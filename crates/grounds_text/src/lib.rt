@@ -1,4 +1,7 @@
 // The text of the grounds for a fact, by a rule file.
+
+#![tactic(auto)]
+
 ghost use Rattle.std.specs.Prelude.{◌≡◌, ◌≤◌, length};
 ghost use Rattle.items.specs.Item.{narrow};
 ghost use Rattle.panel_lines.specs.Text.{shown};

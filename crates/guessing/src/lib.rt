@@ -1,5 +1,8 @@
 // The guesses one after another, each by propagation: what a guess derives, what a conflict refutes beside it, and the first guess that fits as far as the
 // nogoods that are kept decide it. Internal to the search.
+
+#![tactic(auto)]
+
 mod bounds;
 pub mod compared;
 mod descend;

@@ -1,4 +1,7 @@
 // The standard input of a program, read whole.
+
+#![tactic(auto)]
+
 ghost use Rattle.input.specs.Input.{Inside};
 
 use items::item::MAX_BYTES;

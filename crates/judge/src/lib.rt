@@ -1,4 +1,7 @@
 // The judge: is a set of facts stable for a file less some listed exception rules?
+
+#![tactic(auto)]
+
 ghost use Rattle.std.specs.Prelude.{◌≡◌};
 ghost use Rattle.tables.specs.Layout.{program_in, WellFormed};
 ghost use Rattle.judge.specs.Judged.{judged, JudgeMeans};

@@ -1,4 +1,7 @@
 // Shorter grounds for one fact: the steps of a run that matter for it.
+
+#![tactic(auto)]
+
 ghost use Rattle.std.specs.Prelude.{◌≡◌, length};
 ghost use Rattle.questions.specs.Questions.{grounds_no};
 ghost use Rattle.keeping.specs.Outcome.{GroundsOutcome, grounds_outcome, GroundsNumbers};

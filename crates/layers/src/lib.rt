@@ -1,4 +1,7 @@
 // Layered files: the order of a file's exception rules by the rank of their conclusions.
+
+#![tactic(auto)]
+
 ghost use Rattle.std.specs.Prelude.{◌≡◌, length};
 ghost use Rattle.tables.specs.Layout.{program_in, WellFormed};
 ghost use Rattle.reader.specs.Asked.{counts_of};

@@ -1,4 +1,7 @@
 // A test load: writes the rule file that is drawn from three numbers.
+
+#![tactic(auto)]
+
 use generator::LOAD_ROOM;
 use generator::answer::Loaded;
 use libc::{STDERR_FILENO, STDOUT_FILENO};

@@ -1,2 +1,5 @@
 // Facts and rules marked by what the rules say. Internal.
+
+#![tactic(auto)]
+
 pub mod marks;

@@ -1,4 +1,7 @@
 // Orders of the exception rules that are handed out: the rules by key, then by number. Internal.
+
+#![tactic(auto)]
+
 mod by_key;
 mod groups;
 pub mod ranks;

@@ -1,4 +1,7 @@
 // The panel: reads a rule file from standard input and writes its text.
+
+#![tactic(auto)]
+
 use input::{INPUT_ROOM, Input};
 use libc::STDOUT_FILENO;
 use panel_text::text::TEXT_ROOM;

@@ -1,4 +1,7 @@
 // The panel's text for a rule file.
+
+#![tactic(auto)]
+
 ghost use Rattle.std.specs.Prelude.{◌≡◌, ◌≤◌, length};
 ghost use Rattle.panel_lines.specs.Text.{panel_text, shown, text_room};
 ghost use Rattle.items.specs.Item.{narrow};

@@ -1,4 +1,7 @@
 // The proof check: is a row of steps a proof of a fact that a set admits?
+
+#![tactic(auto)]
+
 mod accepted;
 pub mod answer;
 mod own;

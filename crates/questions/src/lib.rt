@@ -1,4 +1,7 @@
 // The questions on fact sets, proof rows and buffers, and the definitions of all questions beside the file's.
+
+#![tactic(auto)]
+
 pub mod answer;
 pub mod buffers;
 pub mod fact_set;

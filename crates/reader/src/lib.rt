@@ -1,4 +1,7 @@
 // Asks of a rule file whether it is accepted, and fills the tables of its program.
+
+#![tactic(auto)]
+
 ghost use Rattle.std.specs.Prelude.{◌≡◌};
 ghost use Rattle.reader.specs.Accept.{accept_of, AcceptNumbers};
 

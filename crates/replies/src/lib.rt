@@ -1,4 +1,7 @@
 // The replies to callers in C and Rust, in plain numbers, and each answer as a reply. A refusal has its number and 0 for every other value. Internal.
+
+#![tactic(auto)]
+
 ghost use Rattle.std.specs.Prelude.{◌≡◌};
 ghost use Rattle.replies.specs.Reply.{file_of, counts_of_ran, counts_of_searched, verdict_of_judged, verdict_of_checked, count_of_grounds, count_of_layered, count_of_loaded, reply_of_choice};
 

@@ -1,5 +1,8 @@
 // The operations for callers in C and Rust: plain numbers by value, and no type of the engine. Each is the operation of the same name below,
 // with its answer as numbers.
+
+#![tactic(auto)]
+
 ghost use Rattle.std.specs.Prelude.{◌≡◌, length};
 ghost use Rattle.reader.specs.Accept.{accept_of};
 ghost use Rattle.run.specs.Outcome.{run_outcome};

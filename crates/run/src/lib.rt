@@ -1,4 +1,7 @@
 // The run: stages of forward chaining along an order of the exception rules.
+
+#![tactic(auto)]
+
 ghost use Rattle.std.specs.Prelude.{◌≡◌, length};
 ghost use Rattle.run.specs.Outcome.{RunOutcome, run_outcome, RunNumbers};
 ghost use Rattle.questions.specs.Questions.{run_no};

@@ -1,4 +1,7 @@
 // The search: the earliest stable set of a file, an order that leads the run to it, and that run's marks and steps.
+
+#![tactic(auto)]
+
 ghost use Rattle.std.specs.Prelude.{◌≡◌, length};
 ghost use Rattle.reader.specs.Accepted.{Accepted};
 ghost use Rattle.reader.specs.Scanned.{Tabled};

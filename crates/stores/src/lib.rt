@@ -1,4 +1,7 @@
 // What the scan of a file stores: rules, counts and unread facts in the tables, and marks of facts in its scratch memory. Internal.
+
+#![tactic(auto)]
+
 ghost use Rattle.std.specs.Prelude.{◌≡◌, ◌<◌, ◌≤◌, set};
 ghost use Rattle.items.specs.Item.{narrow, max_facts, max_rules, max_bytes};
 ghost use Rattle.tables.specs.Layout.{max_own};

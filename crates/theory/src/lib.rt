@@ -1,1 +1,3 @@
 // Definitions and theorems only: see specs/ and proofs/.
+
+#![tactic(auto)]

@@ -1,5 +1,8 @@
 // Reads cases with the replies and the bytes that another implementation of the request expects, makes each call, and prints the verdict on
 // each case that has a name, then the counts.
+
+#![tactic(auto)]
+
 ghost use Rattle.std.specs.Prelude.{◌≡◌, length};
 
 mod report;

@@ -1,4 +1,7 @@
 // The number that a word says, where it says one.
+
+#![tactic(auto)]
+
 ghost use Rattle.std.specs.Prelude.{◌≡◌};
 ghost use Rattle.words.specs.Word.{word_of};
 

@@ -1,0 +1,22 @@
+-- `better`: the slice of the order chosen, or none of the bytes of the first.
+use mathlib.Core.Path.{refl, sym, ◌∙◌}
+use Rattle.better.proofs.Chosen.{first_back, second_back, none_back}
+use Rattle.better.proofs.better.Goals as goal
+
+pub returns-in-First : goal.returns-in-First
+returns-in-First c = record {
+  result_value = (first_back _ _ _ (sym c.choose.ensures.value ∙ c.in-First.is)).0;
+  handed_back = (first_back _ _ _ (sym c.choose.ensures.value ∙ c.in-First.is)).1;
+}
+
+pub returns-in-Second : goal.returns-in-Second
+returns-in-Second c = record {
+  result_value = (second_back _ _ _ (sym c.choose.ensures.value ∙ c.in-Second.is)).0;
+  handed_back = (second_back _ _ _ (sym c.choose.ensures.value ∙ c.in-Second.is)).1;
+}
+
+pub returns-in-Refused : goal.returns-in-Refused
+returns-in-Refused c = record {
+  result_value = (none_back _ _ _ _ (sym c.choose.ensures.value ∙ c.in-Refused.is) _ refl refl).0;
+  handed_back = (none_back _ _ _ _ (sym c.choose.ensures.value ∙ c.in-Refused.is) _ refl refl).1;
+}

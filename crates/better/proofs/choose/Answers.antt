@@ -1,0 +1,41 @@
+-- `choose`: the first no; where all questions got yes, the choice on the tables.
+use mathlib.Core.Path.{◌≡◌, sym, ◌∙◌}
+use mathlib.Core.Option.{Option, none}
+use Rattle.items.specs.declared.refusal.Refusal.{Refusal}
+use Rattle.reader.specs.Scanned.{Tabled}
+use Rattle.questions.specs.Questions.{better_no}
+use Rattle.questions.proofs.NamesAsked.{said_yes, said_no}
+use Rattle.better.proofs.BetterAsked.{both_right, both_may}
+use Rattle.better.proofs.Chosen.{choice-refused, choice-there, chosen}
+use Rattle.better.proofs.choose.Goals as goal
+use Rattle.better.proofs.choose.Goals.{In-Yes}
+
+-- every question got yes, and the tables hold the program of the file
+all_right : (c : In-Yes) → ◌≡◌ {A = Option Refusal} (better_no c.args.file.now c.args.first.now c.args.second.now) none
+all_right c = said_yes _ (sym c.in-Yes.is ∙ c.ask_both.ensures.value)
+
+held : (c : In-Yes) (all_right-here : ◌≡◌ {A = Option Refusal} (better_no c.args.file.now c.args.first.now c.args.second.now) none) → Tabled c.args.file.now c.ask_both.last.1.1.1.0
+held c all_right-here = c.ask_both.ensures.scanned (both_right _ _ _ (all_right-here)).accepted
+
+pub choose_tabled-requires : goal.choose_tabled-requires
+choose_tabled-requires c = record {
+  well_formed = (held (goal.at.choose_tabled-requires c).In-Yes (all_right (goal.at.choose_tabled-requires c).In-Yes)).well_formed;
+  may_order = both_may _ _ _ (held (goal.at.choose_tabled-requires c).In-Yes (all_right (goal.at.choose_tabled-requires c).In-Yes)) (both_right _ _ _ (all_right (goal.at.choose_tabled-requires c).In-Yes));
+}
+
+pub returns-in-No : goal.returns-in-No
+returns-in-No c = record {
+  value = (chosen _ _ _ _ (choice-refused _ _ _ _ (said_no _ _ (sym c.in-No.is ∙ c.ask_both.ensures.value)))).0;
+  choice_means = (chosen _ _ _ _ (choice-refused _ _ _ _ (said_no _ _ (sym c.in-No.is ∙ c.ask_both.ensures.value)))).1;
+}
+
+pub returns-in-Yes : goal.returns-in-Yes
+returns-in-Yes c = record {
+  value = (chosen _ _ _ _ (c.choose_tabled.ensures ∙ choice-there _ _ _ (held (goal.at.returns-in-Yes c).In-Yes (all_right (goal.at.returns-in-Yes c).In-Yes)) (all_right (goal.at.returns-in-Yes c).In-Yes))).0;
+  choice_means = (chosen _ _ _ _ (c.choose_tabled.ensures ∙ choice-there _ _ _ (held (goal.at.returns-in-Yes c).In-Yes (all_right (goal.at.returns-in-Yes c).In-Yes)) (all_right (goal.at.returns-in-Yes c).In-Yes))).1;
+}
+
+pub choose_spec : {M : Type 1} → statement M
+choose_spec =
+    tie.close
+    (tie.spec ask-both-requires enum-known-r enum_told choose-tabled-requires returns returns-2)

@@ -1,0 +1,62 @@
+-- `load`: a no changes no byte; else the items are written one after another.
+use Rattle.std.proofs.Common.{◌≡◌, ◌+◌, ◌*◌, ◌<◌, ◌≤◌, length, sym, arith, rules}
+use Rattle.generator.specs.Outcome.{load_length}
+use Rattle.generator.proofs.LoadAnswers.{no-facts, too_many_facts, too_many_rules, too_short, written, promised}
+use Rattle.generator.proofs.load.Goals as goal
+
+pub returns-then-facts-eq0 : goal.returns-then-facts-eq0
+returns-then-facts-eq0 c = record {
+  fact = (promised _ _ _ _ _ (sym (no-facts _ _ _ _ c.if-facts-eq0.true))).0;
+  load_means = (promised _ _ _ _ _ (sym (no-facts _ _ _ _ c.if-facts-eq0.true))).1;
+}
+
+pub returns-then-facts-gt-MOST_FACTS : goal.returns-then-facts-gt-MOST_FACTS
+returns-then-facts-gt-MOST_FACTS c = record {
+  fact = (promised _ _ _ _ _ (sym (too_many_facts _ _ _ _ c.if-facts-gt-MOST_FACTS.true))).0;
+  load_means = (promised _ _ _ _ _ (sym (too_many_facts _ _ _ _ c.if-facts-gt-MOST_FACTS.true))).1;
+}
+
+pub returns-then-rules-gt-MOST_RULES : goal.returns-then-rules-gt-MOST_RULES
+returns-then-rules-gt-MOST_RULES c = let some : 0 < c.args.facts = omega arith in
+    record {
+      fact = (promised _ _ _ _ _ (sym (too_many_rules _ _ _ _ some c.if-facts-gt-MOST_FACTS.false c.if-rules-gt-MOST_RULES.true))).0;
+      load_means = (promised _ _ _ _ _ (sym (too_many_rules _ _ _ _ some c.if-facts-gt-MOST_FACTS.false c.if-rules-gt-MOST_RULES.true))).1;
+    }
+
+pub returns-then-out-length : goal.returns-then-out-length
+returns-then-out-length c = let some : 0 < c.args.facts = omega arith in
+    let short : length c.args.out.now < load_length c.args.rules = omega arith in
+    record {
+      fact = (promised _ _ _ _ _ (sym (too_short _ _ _ _ some c.if-facts-gt-MOST_FACTS.false c.if-rules-gt-MOST_RULES.false short))).0;
+      load_means = (promised _ _ _ _ _ (sym (too_short _ _ _ _ some c.if-facts-gt-MOST_FACTS.false c.if-rules-gt-MOST_RULES.false short))).1;
+    }
+
+pub returns : goal.returns
+returns c = let some : 0 < c.args.facts = omega arith in
+    let fits : load_length c.args.rules ≤ length c.args.out.now = omega arith in
+    let long : 2 + 6 * c.args.rules + 3 ≡ load_length c.args.rules = omega arith in
+    record {
+      fact = (promised _ _ _ _ _ (written _ _ _ _ some c.if-facts-gt-MOST_FACTS.false c.if-rules-gt-MOST_RULES.false fits _ _ _ _ _ c.write_fact_body.ensures c.modulus_of.ensures.0 c.write_rules.ensures c.write_rule_body.ensures long)).0;
+      load_means = (promised _ _ _ _ _ (written _ _ _ _ some c.if-facts-gt-MOST_FACTS.false c.if-rules-gt-MOST_RULES.false fits _ _ _ _ _ c.write_fact_body.ensures c.modulus_of.ensures.0 c.write_rules.ensures c.write_rule_body.ensures long)).1;
+    }
+
+pub load_spec : {M : Type 1} → statement M
+load_spec =
+    tie.close
+    (tie.spec
+    returns
+    returns-2
+    returns-3
+    mul-last
+    add-last
+    add-length
+    returns-4
+    cast-write-fact-body
+    write-fact-body-requires
+    modulus-of-requires
+    write-rules-requires
+    cast-write-rule-body
+    write-rule-body-requires
+    cast-t17
+    same_length
+    returns-5)

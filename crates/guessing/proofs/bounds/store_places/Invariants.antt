@@ -1,0 +1,9 @@
+-- `store_places`: what is stored behind the place at hand refutes, and each place at which the bounds agree gives one nogood more.
+use Rattle.guessing.proofs.BoundsStored.{Storing}
+use Rattle.guessing.proofs.bounds.store_places.Given as goal
+
+abbrev pub invariant-loop-place : goal.invariant-loop-place
+invariant-loop-place l = Storing l.places l.low l.high l.masks l.values l.kept l.place
+
+abbrev pub decreases-loop-place : goal.decreases-loop-place
+decreases-loop-place l = l.place

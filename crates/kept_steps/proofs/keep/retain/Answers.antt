@@ -1,0 +1,24 @@
+-- `retain`: the first cells hold the kept of the rules passed.
+use Prim.Native.Nat.{◌-◌}
+use native.Mathlib.Omega.{arith}
+use mathlib.Core.Logic.{⊎_elim}
+use borrow.Author.Tests.{eq-eqb, ne_eqb}
+use Rattle.items.specs.Item.{has}
+use Rattle.kept_steps.proofs.StepsRetained.{none_retained, one_retained, not-retained, all_retained}
+use Rattle.kept_steps.proofs.keep.retain.Goals as goal
+
+pub loop-k-init : goal.loop-k-init
+loop-k-init c = none_retained _ _ _ c.requires.2
+
+pub loop-k-preserved : goal.loop-k-preserved
+unfolding has
+loop-k-preserved c = ⊎_elim
+    (λ w. rw (w.2, w.3) (one_retained c.loop-k.invariant c.loop-k-test.true c.requires.0 (eq-eqb _ _ w.0.taken)))
+    (λ w. rw (w.1, w.2) (not-retained c.loop-k.invariant c.loop-k-test.true (ne_eqb _ _ w.0.left)))
+    c.if-kept-k-eq-KEPT.branch
+
+pub returns : goal.returns
+returns c = record {
+  out_after = all_retained c.loop-k.invariant c.loop-k-test.false;
+  upper_bound = (omega arith, c.loop-k.invariant.cells);
+}

@@ -1,0 +1,15 @@
+-- `count_constraint_facts`: as many marks as constraint facts.
+use mathlib.Core.Path.{◌∙◌}
+use native.Mathlib.Omega.{arith}
+use Rattle.items.specs.Item.{narrow, max_facts}
+use Rattle.tables.proofs.ProgramHeld.{facts_below}
+use Rattle.marking.proofs.RulesMarked.{painted_count}
+use Rattle.marking.proofs.marks.count_constraint_facts.Goals as goal
+
+pub count_marked-requires : goal.count_marked-requires
+count_marked-requires c = omega (arith, c.facts_of-facts.ensures, facts_below c.requires)
+
+pub returns : goal.returns
+returns c = let l = c.before.before.before.before in
+    c.count_marked.ensures
+    ∙ painted_count (max_facts narrow) _ _ _ l.facts-of.ensures (omega (arith, facts_below l.before.requires)) _ c.mark_constraint_facts.ensures

@@ -1,0 +1,52 @@
+-- `mark_constraint_facts`: the rules to come from here give what all give from the start.
+use Prim.Native.Nat.{◌-◌, ◌<◌}
+use mathlib.Core.Path.{◌≡◌, sym, ◌∙◌}
+use mathlib.Core.Bool.{Bool}
+use mathlib.Core.Logic.{⊎_elim}
+use native.Mathlib.Omega.{arith}
+use borrow.Author.Tests.{not-true, not-false}
+use Rattle.tables.specs.Layout.{program_in}
+use Rattle.tables.proofs.ProgramHeld.{rules-below}
+use Rattle.theory.specs.Rule.{count, withheld}
+use Rattle.theory.proofs.Withheld.{withheld-off, read_on}
+use Rattle.marking.proofs.RulesMarked.{no-rule_marked, rules_marked, rule-marked, rule-passed}
+use Rattle.marking.proofs.marks.mark_constraint_facts.Goals as goal
+use Rattle.marking.proofs.marks.mark_constraint_facts.Goals.{After-is_withheld, In-loop-i}
+
+pub loop-i-init : goal.loop-i-init
+loop-i-init c = (c.rules_of-rules.ensures, no-rule_marked _ _)
+
+pub overflow_cast-rule : goal.overflow_cast-rule
+overflow_cast-rule c = omega (arith, c.loop-i.invariant.0, rules-below c.requires.0)
+
+-- whether the rule is in force
+kind : (c : After-is_withheld) (b : Bool) → c.is_withheld.result ≡ b → withheld (program_in c.args.tables.now) c.loop-i.i ≡ b
+kind c b q = sym c.is_withheld.ensures ∙ q
+
+known : (c : In-loop-i) → c.loop-i.i < count (program_in c.args.tables.now)
+known c = omega (arith, c.loop-i.invariant.0, c.loop-i-test.true)
+
+pub is_withheld-requires : goal.is_withheld-requires
+is_withheld-requires c = (c.requires.0, known c)
+
+pub mark_own-requires : goal.mark_own-requires
+mark_own-requires c = let l = c.before.before.before.before in
+    record {
+      well_formed = (l.before.before.requires.0, known (goal.at.mark_own-requires c).In-loop-i);
+      marks_len = l.loop.invariant.1.places ∙ l.before.before.requires.1;
+    }
+
+pub overflow_add-i : goal.overflow_add-i
+overflow_add-i c = omega (arith, c.loop-i.invariant.0, rules-below c.requires.0)
+
+pub loop-i-preserved : goal.loop-i-preserved
+loop-i-preserved c = let w = c.loop-i.invariant in (
+  w.0,
+  ⊎_elim
+      (λ t. rw t.3 (rule-marked w.1 (known (goal.at.loop-i-preserved c).In-loop-i) (read_on _ _ (kind (goal.at.loop-i-preserved c).After-is_withheld _ (not-true _ t.0.taken))) _ t.2.ensures))
+      (λ t. rw t.1 (rule-passed w.1 (known (goal.at.loop-i-preserved c).In-loop-i) (withheld-off _ _ (kind (goal.at.loop-i-preserved c).After-is_withheld _ (not-false _ t.0.left)))))
+      c.if-not-is_withheld.branch,
+)
+
+pub returns : goal.returns
+returns c = rules_marked c.loop-i.invariant.1 (omega (arith, c.loop-i.invariant.0, c.loop-i-test.false))

@@ -1,0 +1,23 @@
+-- `ask_order`: the file first, then the order.
+use mathlib.Core.Path.{sym, ap, ◌∙◌}
+use Rattle.questions.specs.Answer.{answer_of}
+use Rattle.questions.specs.Questions.{ask_order_questions}
+use Rattle.questions.proofs.OperationAsked.{answer_numbered, file_refused, scan_passed, order-questions}
+use Rattle.naming.proofs.order.ask_order.Goals as goal
+
+pub ask_order_of-requires : goal.ask_order_of-requires
+ask_order_of-requires c = (scan_passed _ _ _ (sym c.scan.ensures.value ∙ c.in-Yes.is) c.scan.ensures.scanned).tabled.well_formed
+
+pub returns-in-No : goal.returns-in-No
+unfolding ask_order_questions
+returns-in-No c = record {
+  value = (answer_numbered _ _ (sym (ap answer_of (file_refused _ _ _ (sym c.scan.ensures.value ∙ c.in-No.is))))).0;
+  answer_numbers = (answer_numbered _ _ (sym (ap answer_of (file_refused _ _ _ (sym c.scan.ensures.value ∙ c.in-No.is))))).1;
+}
+
+pub returns-in-Yes : goal.returns-in-Yes
+returns-in-Yes c = let p = scan_passed _ _ _ (sym c.scan.ensures.value ∙ c.in-Yes.is) c.scan.ensures.scanned in
+    record {
+      value = (answer_numbered _ _ (c.ask_order_of.ensures ∙ ap answer_of (order-questions _ p.accepted _ p.tabled.program _))).0;
+      answer_numbers = (answer_numbered _ _ (c.ask_order_of.ensures ∙ ap answer_of (order-questions _ p.accepted _ p.tabled.program _))).1;
+    }

@@ -1,0 +1,33 @@
+-- `main`: what was read lies inside the input's room, and the text inside its own.
+use mathlib.Core.Path.{sym}
+use native.Mathlib.Omega.{arith}
+use lib.Seq.{length-take-le}
+use Rattle.input.proofs.BytesRead.{read_inside, read_front}
+use Rattle.panel.proofs.main.Goals as goal
+
+pub slice_bounds-room-end : goal.slice_bounds-room-end
+slice_bounds-room-end c = read_inside _ _ c.read_input.ensures _ c.in-Bytes.is
+
+pub slice_bounds-render-end : goal.slice_bounds-render-end
+slice_bounds-render-end c = read_front _ _ c.read_input.ensures _ c.in-Bytes.is
+
+pub slice_bounds-write_all-end : goal.slice_bounds-write_all-end
+slice_bounds-write_all-end c = sym (length-take-le _ _ (omega (arith, c.render-length.ensures.upper_bound, c.render-length.auto.1.0)))
+
+pub main_spec : {M : Type 1} → statement M
+main_spec =
+    tie.close
+    (tie.spec
+    slice-aggregate-read-input
+    read-input-requires
+    enum_told
+    enum-known-n
+    array-share-prefix-room
+    slice-aggregate-render
+    slice-aggregate-render-2
+    render-requires
+    array-share-prefix-text
+    slice-aggregate-write-all
+    write-all-requires
+    returns
+    returns-2)

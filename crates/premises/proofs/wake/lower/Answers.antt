@@ -1,0 +1,65 @@
+-- `lower`: the bits to come from here give what all give from the start.
+use Prim.Native.Nat.{◌-◌}
+use native.Mathlib.Omega.{arith}
+use lib.Bits.{and_le_r}
+use Rattle.premises.proofs.CountsLowered.{word-whole, place_lowered, one_wakes, one_sleeps, word-lowered}
+use Rattle.premises.proofs.wake.lower.Goals as goal
+
+pub loop-left-init : goal.loop-left-init
+loop-left-init c = word-whole _ _ _ _
+
+pub overflow_mul-place : goal.overflow_mul-place
+overflow_mul-place c = omega (arith, c.requires)
+
+pub overflow_add-place : goal.overflow_add-place
+overflow_add-place c = omega (arith, c.lowest_bit.ensures.1, c.requires)
+
+pub offset_bounds-missing-place : goal.offset_bounds-missing-place
+offset_bounds-missing-place c = omega (arith, c.lowest_bit.ensures.1, c.requires)
+
+pub offset_bounds-missing-place-in-loop-left : goal.offset_bounds-missing-place-in-loop-left
+offset_bounds-missing-place-in-loop-left c = omega (arith, c.lowest_bit.ensures.1, c.requires)
+
+pub bounds-missing-place-in-loop-left : goal.bounds-missing-place-in-loop-left
+bounds-missing-place-in-loop-left c = omega (arith, c.lowest_bit.ensures.1, c.requires)
+
+pub mark-requires : goal.mark-requires
+mark-requires c = omega (arith, c.lowest_bit.ensures.1, c.requires)
+
+pub loop-left-smaller-then-lacked-eq0 : goal.loop-left-smaller-then-lacked-eq0
+loop-left-smaller-then-lacked-eq0 c = omega (arith, c.without_lowest-left.ensures, and_le_r c.loop-left.left (c.loop-left.left - 1), c.loop-left-test.true)
+
+pub loop-left-preserved-then-lacked-eq0 : goal.loop-left-preserved-then-lacked-eq0
+loop-left-preserved-then-lacked-eq0 c = place_lowered c.loop-left.invariant (omega (arith, c.loop-left-test.true)) _ _ (omega (arith, c.lowest_bit.ensures.0)) c.without_lowest-left.ensures (λ w f l. one_wakes _ f l _ _ (omega (arith, c.lowest_bit.ensures.1, c.requires)) c.one_less-lacked.ensures c.mark.ensures c.if-lacked-eq0.true)
+
+pub loop-left-smaller : goal.loop-left-smaller
+loop-left-smaller c = omega (arith, c.without_lowest-left.ensures, and_le_r c.loop-left.left (c.loop-left.left - 1), c.loop-left-test.true)
+
+pub loop-left-preserved : goal.loop-left-preserved
+loop-left-preserved c = place_lowered c.loop-left.invariant (omega (arith, c.loop-left-test.true)) _ _ (omega (arith, c.lowest_bit.ensures.0)) c.without_lowest-left.ensures (λ w f l. one_sleeps _ f l _ _ (omega (arith, c.lowest_bit.ensures.1, c.requires)) c.one_less-lacked.ensures c.if-lacked-eq0.false)
+
+pub returns : goal.returns
+returns c = word-lowered c.loop-left.invariant c.loop-left-test.false
+
+pub lower_spec : {M : Type 1} → statement M
+lower_spec =
+    tie.close
+    (tie.spec
+    invariant-loop
+    decreases-loop
+    loop-holds
+    mul-place
+    lowest-bit-requires
+    add-place
+    without-lowest-requires
+    mul-one-less
+    element-copy-out-one-less
+    one-less-requires
+    mul-missing
+    element-write-missing
+    mark-requires
+    loop-less
+    loop-again
+    loop-less-2
+    loop-again-2
+    returns)

@@ -1,0 +1,60 @@
+-- `row_proves`: what is to come decides.
+use Prim.Native.Nat.{◌-◌}
+use mathlib.Core.Path.{◌≡◌, refl, sym, ◌∙◌}
+use mathlib.Core.List.{◌∷◌}
+use borrow.Author.Tests.{not-true, not-false}
+use Rattle.cursors.specs.declared.cursor.Read.TheVariants.{Found}
+use Rattle.cursors.specs.declared.cursor.Row.TheVariants.{Steps}
+use Rattle.cursors.specs.Cursor.{next_at}
+use Rattle.cursors.proofs.Items.{found, closer}
+use Rattle.cursors.proofs.NoItemRead.{nothing_read}
+use Rattle.questions.specs.Questions.{steps_of, step_of}
+use Rattle.questions.proofs.ItemWalks.{same_row}
+use Rattle.questions.proofs.Rows.{steps_from, other_item, step-read}
+use Rattle.proofcheck.proofs.RowWalked.{none_walked, all-walked, walking_along, one_fails, one_fits}
+use Rattle.proofcheck.proofs.steps.row_proves.Goals as goal
+use Rattle.proofcheck.proofs.steps.row_proves.Goals.{In-Found, In-Step}
+
+-- once an item is read
+item-read : (c : In-Found) → next_at c.args.proof.now c.loop-item.cursor ≡ Found c.in-Found.item c.in-Found.next
+item-read c = sym c.next_step.ensures ∙ c.in-Found.is
+
+-- once it is a step
+a_step : (c : In-Step) (item-read-here : next_at c.args.proof.now c.loop-item.cursor ≡ Found c.in-Found.item c.in-Found.next) → steps_from c.args.proof.now c.loop-item.cursor ≡ step_of c.in-Step.f c.in-Step.rule ∷ steps_from c.args.proof.now c.in-Found.next
+a_step c item-read-here = step-read _ _ _ _ (item-read-here) _ _ c.in-Step.is
+
+pub loop-item-init : goal.loop-item-init
+loop-item-init c = (refl, none_walked _ _ _ _ _ c.requires.unmarked)
+
+pub next_step-requires : goal.next_step-requires
+next_step-requires c = c.loop-item.invariant.0
+
+pub step_fits-requires : goal.step_fits-requires
+step_fits-requires c = record {
+  tabled = c.requires.tabled;
+  marks_len = c.loop-item.invariant.1.size;
+}
+
+pub returns-then-not-step_fits : goal.returns-then-not-step_fits
+returns-then-not-step_fits c = one_fails c.loop-item.invariant.1 _ _ (a_step (goal.at.returns-then-not-step_fits c).In-Step (item-read (goal.at.returns-then-not-step_fits c).In-Found)) (sym c.step_fits.ensures.value ∙ not-true _ c.if-not-step_fits.true)
+
+pub loop-item-smaller-else-not-step_fits : goal.loop-item-smaller-else-not-step_fits
+loop-item-smaller-else-not-step_fits c = closer (found _ _ _ _ (item-read (goal.at.loop-item-smaller-else-not-step_fits c).In-Found))
+
+pub loop-item-preserved-else-not-step_fits : goal.loop-item-preserved-else-not-step_fits
+loop-item-preserved-else-not-step_fits c = (
+  same_row _ _ _ _ Steps (item-read (goal.at.loop-item-preserved-else-not-step_fits c).In-Found) tt c.loop-item.invariant.0,
+  one_fits c.loop-item.invariant.1 _ _ (a_step (goal.at.loop-item-preserved-else-not-step_fits c).In-Step (item-read (goal.at.loop-item-preserved-else-not-step_fits c).In-Found)) _ (sym c.step_fits.ensures.value ∙ not-false _ c.if-not-step_fits.false) (c.step_fits.ensures.step_marked (not-false _ c.if-not-step_fits.false)),
+)
+
+pub loop-item-smaller : goal.loop-item-smaller
+loop-item-smaller c = closer (found _ _ _ _ (item-read (goal.at.loop-item-smaller c).In-Found))
+
+pub loop-item-preserved : goal.loop-item-preserved
+loop-item-preserved c = (
+  same_row _ _ _ _ Steps (item-read (goal.at.loop-item-preserved c).In-Found) tt c.loop-item.invariant.0,
+  walking_along c.loop-item.invariant.1 _ (other_item _ _ _ _ (item-read (goal.at.loop-item-preserved c).In-Found) c.in_default-item.keys2),
+)
+
+pub returns-in_default : goal.returns-in_default
+returns-in_default c = all-walked c.loop-item.invariant.1 (nothing_read steps_of (λ fault. refl) _ _ _ (sym c.next_step.ensures) c.in_default.keys2)

@@ -1,0 +1,19 @@
+-- `conclude`: what the tables say is the conclusion of the rule.
+use native.Mathlib.Omega.{arith}
+use Rattle.tables.proofs.ProgramHeld.{in_table}
+use Rattle.propagation.proofs.LiteralsTold.{conclusion_literal, read_concluded}
+use Rattle.propagation.proofs.spread.conclude.Goals as goal
+
+pub overflow_cast-rule : goal.overflow_cast-rule
+overflow_cast-rule c = omega (arith, in_table c.requires.well_formed c.requires.rule_bound.0)
+
+pub conclusion-fact-requires : goal.conclusion-fact-requires
+conclusion-fact-requires c = (c.requires.well_formed, c.requires.rule_bound.0)
+
+pub wait-requires : goal.wait-requires
+wait-requires c = let b = c.before.before.before in
+    (conclusion_literal b.before.requires.0 _ b.before.requires.1.0 _ b.conclusion.ensures, b.before.requires.1.1)
+
+pub returns : goal.returns
+returns c = let b = c.before.before.before.before in
+    read_concluded b.before.requires.0 _ b.before.requires.1.0 _ b.conclusion.ensures c.wait.ensures

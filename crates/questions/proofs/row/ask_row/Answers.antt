@@ -1,0 +1,21 @@
+-- `ask_row`: the file first, then the asked fact and the row.
+use mathlib.Core.Path.{sym, ap, ◌∙◌}
+use Rattle.reader.proofs.FileAsked.{file_yes}
+use Rattle.questions.specs.Answer.{answer_of}
+use Rattle.questions.specs.Questions.{ask_row_questions}
+use Rattle.questions.proofs.OperationAsked.{answer_numbered, file_refused, row-questions}
+use Rattle.questions.proofs.row.ask_row.Goals as goal
+
+pub returns-in-No : goal.returns-in-No
+unfolding ask_row_questions
+returns-in-No c = record {
+  value = (answer_numbered _ _ (sym (ap answer_of (file_refused _ _ _ (sym c.scan.ensures.value ∙ c.in-No.is))))).0;
+  answer_numbers = (answer_numbered _ _ (sym (ap answer_of (file_refused _ _ _ (sym c.scan.ensures.value ∙ c.in-No.is))))).1;
+}
+
+pub returns-in-Yes : goal.returns-in-Yes
+returns-in-Yes c = let p = file_yes _ _ (sym c.scan.ensures.value ∙ c.in-Yes.is) in
+    record {
+      value = (answer_numbered _ _ (c.ask_row_of.ensures ∙ ap answer_of (row-questions _ p.accepted _ _ _ p.facts))).0;
+      answer_numbers = (answer_numbered _ _ (c.ask_row_of.ensures ∙ ap answer_of (row-questions _ p.accepted _ _ _ p.facts))).1;
+    }

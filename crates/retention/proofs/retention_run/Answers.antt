@@ -1,0 +1,6 @@
+-- `retention_run`: the run's answer as a reply, and its buffers.
+use Rattle.replies.proofs.Replied.{run-replied}
+use Rattle.retention.proofs.retention_run.Goals as goal
+
+pub returns : goal.returns
+returns c = run-replied _ _ _ _ _ _ c.of_ran.ensures c.run.ensures.fact
