@@ -2,24 +2,28 @@
 
 #![tactic(auto)]
 
+use std::env::{Env, FillError};
 use words::{LONGEST_NUMBER, Word};
 
 // One byte more than a number may have, so that a longer word is told apart.
 const WORD_ROOM: usize = LONGEST_NUMBER + 1;
 
-// The number that a word says, by its place: 1 is the first behind the program's name. Of a word that is missing or longer than the room no byte counts, and
-// no bytes are no number.
-pub fn number_at(place: usize) -> Word {
+// The number that a word says, by its place: 1 is the first behind the program's name. A word that is missing or longer than the room is no number.
+pub fn number_at<R: Env>(rt: &R, place: usize) -> Word {
     let mut word = [0u8; WORD_ROOM];
-    let n = os::arg(place, &mut word);
-    words::number_of(&word[..n])
+    match rt.arg(place, &mut word) {
+        Ok(n) => words::number_of(&word[..n]),
+        Err(_) => Word::NotANumber,
+    }
 }
 
 // How many there are, without the program's name.
-pub fn count() -> usize {
-    let all = os::arg_count();
-    if all == 0 {
-        return 0;
+pub fn count<R: Env>(rt: &R) -> usize {
+    let mut word = [0u8; WORD_ROOM];
+    for place in 1..usize::MAX {
+        if let Err(FillError::NotPresent) = rt.arg(place, &mut word) {
+            return place - 1;
+        }
     }
-    all - 1
+    usize::MAX - 1
 }

@@ -10,7 +10,7 @@ use mathlib.Core.Logic.{by_cases}
 use mathlib.Core.Option.{some}
 use lib.ListN.{length}
 use lib.Pow.{pow_mono}
-use Rattle.theory.specs.Rule.{all, mem, Program, FactSet, in_force}
+use Rattle.theory.specs.Rule.{mem, Program, FactSet, in_force}
 use Rattle.theory.specs.Conditions.{Bounded}
 use Rattle.theory.specs.Search.{guessed, fits}
 use Rattle.theory.specs.Guesses.{bit, unlike, fact_at, guess_at}

@@ -1,6 +1,6 @@
 -- Items that are written: what the stores leave, and that reading gives back what was written.
 use Prim.Native.Nat.{ℕ, ◌+◌, ◌*◌, ◌/◌, ◌%◌, ◌≤◌}
-use mathlib.Core.Path.{◌≡◌, refl, ap, ap₂, ◌∙◌}
+use mathlib.Core.Path.{◌≡◌, refl, ap, ap₂, subst, ◌∙◌}
 use mathlib.Core.Bool.{true}
 use mathlib.Core.List.{List, [], ◌∷◌, ◌++◌, map}
 use native.Mathlib.Omega.{arith}
@@ -103,7 +103,8 @@ width_stays Steps = refl
 pub read_back : (row : Row) (is : List Item) → InRow row is → items_in row 0 (bytes_of (width_in row) is) ≡ map item is
 read_back row [] h = refl
 read_back row (i ∷ is) h =
-    rw (← h.0) (item_first i (bytes_of (width_in (row_in i)) is) ∙ ap (λ (ts : List Token). item i ∷ ts) (rw (width_stays (row_in i)) at (read_back (row_after (row_in i)) is (rw (← h.0) at h.1))))
+    subst (λ (r : Row). items_in r 0 (bytes_of (width_in r) (i ∷ is)) ≡ map item (i ∷ is)) h.0
+    (item_first i (bytes_of (width_in (row_in i)) is) ∙ ap (λ (ts : List Token). item i ∷ ts) (rw (width_stays (row_in i)) at (read_back (row_after (row_in i)) is (rw (← h.0) at h.1))))
 
 -- The same of a name in an order, and of a step in a proof row.
 pub rule-item_first : (r : ℕ) (ys : List ℕ) → items_at (rule_item r ++ ys) order_start ≡ item (Names (rule_id r)) ∷ items_at ys order_start

@@ -21,7 +21,7 @@ use Rattle.descent.specs.Standing.{rule_key, RuleOf, Threads}
 -- what is first in a thread is the end, or one of it
 first_of : (next : List ℕ) (from : ℕ) (is : List ℕ) → Strung next from is → (from ≡ thread_end) ⊎ (mem from is ≡ true)
 first_of next from [] s = inl s
-first_of next from (i ∷ is) s = inr (rw s.0 (mem-here i is))
+first_of next from (i ∷ is) s = inr (subst (λ (a : ℕ). mem a (i ∷ is) ≡ true) (sym s.0) (mem-here i is))
 
 -- Of the numbers from a on that pass a test, strung together, one leads to the end or to a higher one.
 module _ (p : ℕ → Bool) (next : List ℕ) where

@@ -14,7 +14,6 @@ use lib.ListN.{length, get_or}
 use lib.Pow.{pow_mono}
 use Rattle.theory.proofs.Lists.{element_below}
 use Rattle.theory.specs.Rule.{all, Program, Sub, in_force}
-use Rattle.theory.specs.Search.{fits}
 use Rattle.theory.specs.Guesses.{bit, unlike, fact_at, guess_at}
 use Rattle.theory.proofs.Bools.{either, never}
 use Rattle.theory.proofs.NumberBits.{bit-and, bit-xor, bit-zero}

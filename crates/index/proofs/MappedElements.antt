@@ -1,6 +1,6 @@
 -- The elements of mapped lists, and a part of a row, mapped.
 use Prim.Native.Nat.{ℕ, zero, suc, ◌-◌}
-use mathlib.Core.Path.{◌≡◌, refl, ap}
+use mathlib.Core.Path.{◌≡◌, refl, sym, ap, subst}
 use mathlib.Core.Bool.{Bool, true}
 use mathlib.Core.List.{List, [], ◌∷◌, map}
 use mathlib.Core.Logic.{⊎_elim}
@@ -11,7 +11,7 @@ use Rattle.tables.specs.Layout.{listed, span}
 
 pub mem-map : (f : ℕ → ℕ) (xs : List ℕ) (x : ℕ) → mem x xs ≡ true → mem (f x) (map f xs) ≡ true
 mem-map f [] x m = never m refl
-mem-map f (y ∷ ys) x m = ⊎_elim (λ w. rw w (mem-here (f y) (map f ys))) (λ w. mem-there (f x) (f y) (map f ys) (mem-map f ys x w)) (mem-cases x y ys m)
+mem-map f (y ∷ ys) x m = ⊎_elim (λ w. subst (λ (z : ℕ). mem (f z) (f y ∷ map f ys) ≡ true) (sym w) (mem-here (f y) (map f ys))) (λ w. mem-there (f x) (f y) (map f ys) (mem-map f ys x w)) (mem-cases x y ys m)
 
 -- what holds of each element of a mapped list
 pub map-mem : (f : ℕ → ℕ) (p : ℕ → Bool) (xs : List ℕ) → ((x : ℕ) → mem x xs ≡ true → p (f x) ≡ true) → (y : ℕ) → mem y (map f xs) ≡ true → p y ≡ true

@@ -5,7 +5,7 @@
 ghost use Rattle.input.specs.Input.{Inside};
 
 use items::item::MAX_BYTES;
-use libc::STDIN_FILENO;
+use std::io::Read;
 
 // One byte more than a file may have, so that a file that is too long is told apart.
 pub const INPUT_ROOM: usize = MAX_BYTES + 1;
@@ -18,20 +18,17 @@ pub enum Input {
 }
 
 // Reads to the end of the input, also where it comes in pieces, or until the room is full.
-pub fn read_input(room: &mut [u8]) -> Input
+pub fn read_input<R: std::io::Input>(rt: &R, room: &mut [u8]) -> Input
     ensures { Inside room.new result }
 {
+    let mut reader = rt.reader();
     let mut have: usize = 0;
     while have < room.len() {
-        let got = libc::read(STDIN_FILENO, &mut room[have..]);
-        if got < 0 {
-            return Input::Failed;
+        match reader.read(&mut room[have..]) {
+            Ok(0) => return Input::Bytes(have),
+            Ok(more) => have += more,
+            Err(_) => return Input::Failed,
         }
-        let more = io::count(got, &room[have..]);
-        if more == 0 {
-            return Input::Bytes(have);
-        }
-        have += more;
     }
     Input::Bytes(have)
 }

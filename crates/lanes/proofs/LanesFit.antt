@@ -13,7 +13,6 @@ use lib.Count.{count_trailing_zeros}
 use lib.Dec.{eqb}
 use lib.ListN.{length, get_or, drop, drop_of_length-le}
 use lib.Seq.{drop-cons}
-use Rattle.theory.specs.Rule.{all}
 use Rattle.theory.specs.Guesses.{bit, unlike}
 use Rattle.theory.proofs.Bools.{either, and-true}
 use Rattle.theory.proofs.NumberBits.{bit-and, bit-xor, bit-zero}

@@ -3,17 +3,17 @@
 #![tactic(auto)]
 
 use input::{INPUT_ROOM, Input};
-use libc::STDOUT_FILENO;
 use panel_text::text::TEXT_ROOM;
+use std::io;
 
-fn main() {
+fn main(rt: HostRuntime) -> io::Result<()> {
     let mut room = [0u8; INPUT_ROOM];
-    match input::read_input(&mut room) {
-        Input::Failed => {}
+    match input::read_input(&rt, &mut room) {
+        Input::Failed => Ok(()),
         Input::Bytes(n) => {
             let mut text = [0u8; TEXT_ROOM];
             let length = panel_text::render(&room[..n], &mut text);
-            io::write_all(STDOUT_FILENO, &text[..length]);
+            rt.stdout().write_all(&text[..length])
         }
     }
 }

@@ -39,6 +39,8 @@ module _ (s : List ℕ) (c d : Cursor) where
   bad_read r e row k same = let h : Ends c.row = rw same k in ⊎_elim (λ w. absurd (asked c.row h (sym (ap (λ fault. first_no (place_questions c.row (bad fault))) w.1) ∙ (not_found s c d r e).no))) (λ w. w) (not_found s c d r e).why
     where
       asked : (row : Row) → Ends row → ◌≡◌ {A = Option Refusal} (first_no (place_questions row (bad NoByte))) (some r) → ⊥
+      asked Opening h q = absurd h
+      asked Body h q = absurd h
       asked Order h q = let z : ◌≡◌ {A = ℕ} 0 1 = cc in omega arith
       asked Steps h q = let z : ◌≡◌ {A = ℕ} 0 1 = cc in omega arith
 
@@ -47,6 +49,8 @@ pub same_row : (s : List ℕ) (c d : Cursor) (i : Item) (row : Row) → next_at 
 same_row s c d i row e h q = (found s c d i e).row ∙ ap row_after q ∙ stays row h
   where
     stays : (r : Row) → Ends r → row_after r ≡ r
+    stays Opening k = absurd k
+    stays Body k = absurd k
     stays Order k = refl
     stays Steps k = refl
 

@@ -1,11 +1,11 @@
 -- Counts over rules, by number and by list.
 use Prim.Native.Nat.{ℕ, zero, suc}
 use mathlib.Core.Path.{◌≡◌, refl, sym, ap, ◌∙◌, fun_ext}
-use mathlib.Core.Bool.{Bool, true, false, cond, not, ◌&&◌, ◌||◌}
+use mathlib.Core.Bool.{Bool, false, cond, not, ◌&&◌, ◌||◌}
 use mathlib.Core.List.{List, [], ◌∷◌}
 use borrow.Author.Tests.{lt-ltb}
 use lib.ListN.{length, get_or}
-use Rattle.theory.specs.Rule.{mem, any, how_many, range, up_to, Rule, Program, count, rule, blank, null, exception, constraint_fact, in_force}
+use Rattle.theory.specs.Rule.{mem, any, how_many, range, up_to, Rule, Program, count, rule, blank, null, exception, constraint_fact}
 use Rattle.theory.specs.Conditions.{every_rule}
 use Rattle.theory.proofs.Lists.{how_many-ext, mem-up_to}
 use Rattle.theory.proofs.Withheld.{all-in_force}

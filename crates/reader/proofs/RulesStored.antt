@@ -2,17 +2,14 @@
 use Prim.Native.Nat.{ℕ, suc, ◌+◌, ◌-◌, ◌<◌, ◌≤◌}
 use mathlib.Core.Path.{◌≡◌, refl, sym, ap, subst, ◌∙◌}
 use mathlib.Core.List.{List, [], ◌∷◌, map}
-use mathlib.Core.Logic.{◌⊎◌, inl, inr, ⊎_elim}
+use mathlib.Core.Logic.{⊎_elim}
 use native.Mathlib.Omega.{arith}
 use native.Mathlib.Nat.{add-zero, zero-add}
-use borrow.Author.Tests.{ltb-true, ltb-false}
 use lib.ListN.{length, get_or, set, drop, length-set}
 use lib.Seq.{get_or-set_same, get_or-set_other, get_or-drop, drop-drop}
-use lib.Dec.{ltb}
 use Rattle.theory.specs.Rule.{Rule, Program, range, up_to, blank, count, withheld}
 use Rattle.theory.specs.Conditions.{Bounded}
 use Rattle.theory.proofs.Withheld.{withheld-any}
-use Rattle.theory.proofs.Bools.{either}
 use Rattle.items.specs.declared.item.FactId.{FactId}
 use Rattle.items.specs.declared.item.Item.TheVariants.{Opens, Premise, Constraint, Rules, Unread}
 use Rattle.cursors.specs.declared.cursor.Cursor.{Cursor}

@@ -1,6 +1,6 @@
 -- The premises and the constraints of a rule, element by element along their row.
 use Prim.Native.Nat.{ℕ, zero, suc, ◌+◌, ◌-◌, ◌<◌, ◌≤◌}
-use mathlib.Core.Path.{◌≡◌, refl, sym, ap, ◌∙◌}
+use mathlib.Core.Path.{◌≡◌, refl, sym, ap, subst, ◌∙◌}
 use mathlib.Core.Bool.{Bool, true, false, not}
 use mathlib.Core.List.{List, [], ◌∷◌, ◌++◌}
 use mathlib.Core.Logic.{⊎_elim}
@@ -53,7 +53,7 @@ in_span row a b j low high = go (b - a) a low (omega arith)
         here : (n a : ℕ) → a ≤ j → j ≤ a → mem (row j) (row a ∷ listed row (suc a) n) ≡ true
         here n a l g =
             let same : j ≡ a = omega arith in
-            rw same (mem-here (row a) (listed row (suc a) n))
+            subst (λ (x : ℕ). mem (row x) (row a ∷ listed row (suc a) n) ≡ true) (sym same) (mem-here (row a) (listed row (suc a) n))
 
 module _ {T : List ℕ} (w : WellFormed T) {i : ℕ} (h : i < count (program_in T)) where
   pub conclusion_is : (rule (program_in T) i).conclusion ≡ (rule_in T i).conclusion

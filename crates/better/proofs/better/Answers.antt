@@ -5,18 +5,18 @@ use Rattle.better.proofs.better.Goals as goal
 
 pub returns-in-First : goal.returns-in-First
 returns-in-First c = record {
-  result_value = (first_back _ _ _ (sym c.choose.ensures.value ∙ c.in-First.is)).0;
-  handed_back = (first_back _ _ _ (sym c.choose.ensures.value ∙ c.in-First.is)).1;
+  result_value = (first_back c.args.file.now c.args.first c.args.second (sym c.choose.ensures.value ∙ c.in-First.is)).0;
+  handed_back = (first_back c.args.file.now c.args.first c.args.second (sym c.choose.ensures.value ∙ c.in-First.is)).1;
 }
 
 pub returns-in-Second : goal.returns-in-Second
 returns-in-Second c = record {
-  result_value = (second_back _ _ _ (sym c.choose.ensures.value ∙ c.in-Second.is)).0;
-  handed_back = (second_back _ _ _ (sym c.choose.ensures.value ∙ c.in-Second.is)).1;
+  result_value = (second_back c.args.file.now c.args.first c.args.second (sym c.choose.ensures.value ∙ c.in-Second.is)).0;
+  handed_back = (second_back c.args.file.now c.args.first c.args.second (sym c.choose.ensures.value ∙ c.in-Second.is)).1;
 }
 
 pub returns-in-Refused : goal.returns-in-Refused
 returns-in-Refused c = record {
-  result_value = (none_back _ _ _ _ (sym c.choose.ensures.value ∙ c.in-Refused.is) _ refl refl).0;
-  handed_back = (none_back _ _ _ _ (sym c.choose.ensures.value ∙ c.in-Refused.is) _ refl refl).1;
+  result_value = (none_back c.args.file.now c.args.first c.args.second _ (sym c.choose.ensures.value ∙ c.in-Refused.is) _ refl refl).0;
+  handed_back = (none_back c.args.file.now c.args.first c.args.second _ (sym c.choose.ensures.value ∙ c.in-Refused.is) _ refl refl).1;
 }

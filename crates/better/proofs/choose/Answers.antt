@@ -14,7 +14,7 @@ use Rattle.better.proofs.choose.Goals.{In-Yes}
 all_right : (c : In-Yes) → ◌≡◌ {A = Option Refusal} (better_no c.args.file.now c.args.first.now c.args.second.now) none
 all_right c = said_yes _ (sym c.in-Yes.is ∙ c.ask_both.ensures.value)
 
-held : (c : In-Yes) (all_right-here : ◌≡◌ {A = Option Refusal} (better_no c.args.file.now c.args.first.now c.args.second.now) none) → Tabled c.args.file.now c.ask_both.last.1.1.1.0
+held : (c : In-Yes) (all_right-here : ◌≡◌ {A = Option Refusal} (better_no c.args.file.now c.args.first.now c.args.second.now) none) → Tabled c.args.file.now c.ask_both.new.tables
 held c all_right-here = c.ask_both.ensures.scanned (both_right _ _ _ (all_right-here)).accepted
 
 pub choose_tabled-requires : goal.choose_tabled-requires
@@ -34,8 +34,3 @@ returns-in-Yes c = record {
   value = (chosen _ _ _ _ (c.choose_tabled.ensures ∙ choice-there _ _ _ (held (goal.at.returns-in-Yes c).In-Yes (all_right (goal.at.returns-in-Yes c).In-Yes)) (all_right (goal.at.returns-in-Yes c).In-Yes))).0;
   choice_means = (chosen _ _ _ _ (c.choose_tabled.ensures ∙ choice-there _ _ _ (held (goal.at.returns-in-Yes c).In-Yes (all_right (goal.at.returns-in-Yes c).In-Yes)) (all_right (goal.at.returns-in-Yes c).In-Yes))).1;
 }
-
-pub choose_spec : {M : Type 1} → statement M
-choose_spec =
-    tie.close
-    (tie.spec ask-both-requires enum-known-r enum_told choose-tabled-requires returns returns-2)

@@ -39,24 +39,3 @@ returns c = let some : 0 < c.args.facts = omega arith in
       fact = (promised _ _ _ _ _ (written _ _ _ _ some c.if-facts-gt-MOST_FACTS.false c.if-rules-gt-MOST_RULES.false fits _ _ _ _ _ c.write_fact_body.ensures c.modulus_of.ensures.0 c.write_rules.ensures c.write_rule_body.ensures long)).0;
       load_means = (promised _ _ _ _ _ (written _ _ _ _ some c.if-facts-gt-MOST_FACTS.false c.if-rules-gt-MOST_RULES.false fits _ _ _ _ _ c.write_fact_body.ensures c.modulus_of.ensures.0 c.write_rules.ensures c.write_rule_body.ensures long)).1;
     }
-
-pub load_spec : {M : Type 1} → statement M
-load_spec =
-    tie.close
-    (tie.spec
-    returns
-    returns-2
-    returns-3
-    mul-last
-    add-last
-    add-length
-    returns-4
-    cast-write-fact-body
-    write-fact-body-requires
-    modulus-of-requires
-    write-rules-requires
-    cast-write-rule-body
-    write-rule-body-requires
-    cast-t17
-    same_length
-    returns-5)

@@ -1,11 +1,10 @@
 -- `read_input`: what has been read lies inside the room, and each piece leaves less of it.
 use Prim.Native.Nat.{◌-◌, ◌≤◌}
-use mathlib.Core.Path.{◌≡◌}
 use lib.ListN.{length}
 use Rattle.input.proofs.read_input.Given as goal
 
 abbrev pub invariant-loop-have : goal.invariant-loop-have
-invariant-loop-have l = (l.have ≤ length l.initial.room) × (length l.room ≡ length l.initial.room)
+invariant-loop-have g l = l.have ≤ length l.room
 
 abbrev pub decreases-loop-have : goal.decreases-loop-have
-decreases-loop-have l = length l.room - l.have
+decreases-loop-have g l = length l.room - l.have

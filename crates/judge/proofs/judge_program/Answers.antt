@@ -14,7 +14,7 @@ judged-there c t q =
     set_tested _ _ _ _ c.ask_listed-on_list.ensures.value c.in_default.is _ c.facts_of.ensures _ c.ask_set_of-on_set.ensures c.in_default-on_set.is _ c.ask_listed-on_list.ensures.listed t (sym q ∙ c.is_stable.ensures)
 
 pub returns-in-No : goal.returns-in-No
-returns-in-No c = no-to_list _ _ _ _ c.ask_listed-on_list.ensures.value _ c.on_List.given.1
+returns-in-No c = no-to_list _ _ _ _ c.ask_listed-on_list.ensures.value _ c.in-No.is
 
 pub returns-in-No-on_set : goal.returns-in-No-on_set
 returns-in-No-on_set c = no-to_set _ _ _ _ c.ask_listed-on_list.ensures.value c.in_default.is _ c.facts_of.ensures _ c.ask_set_of-on_set.ensures _ c.in-No-on_set.is

@@ -12,7 +12,7 @@ use Rattle.panel_text.proofs.render.Goals.{After-put_text-n}
 
 -- the text lies inside the room, at its front
 inside : (c : After-put_text-n) → c.put_text-n.result ≤ length c.put_text-n.new.out
-inside c = omega (arith, c.put_text-n.ensures.upper_bound, c.put_text-n.auto.1.0, length-replicate {A = ℕ} (text_room narrow) 0)
+inside c = omega (arith, c.put_text-n.ensures.upper_bound, length-replicate {A = ℕ} (text_room narrow) 0)
 
 text : (c : After-put_text-n) → take c.put_text-n.result c.put_text-n.new.out ≡ panel_text c.args.file.now
 text c = front-text _ _ _ _ c.put_text-n.ensures.put

@@ -1,6 +1,5 @@
 -- `accept_unread`: the scan's answer, with the constraint facts of the program in the tables.
 use mathlib.Core.Path.{refl, sym, ap, ◌∙◌}
-use borrow.Author.Rules.{rules}
 use Rattle.reader.specs.Questions.{constraint_facts}
 use Rattle.reader.proofs.FileAsked.{file-no, file_yes, refused-answer, accepted_answer}
 use Rattle.reader.proofs.accept_unread.Goals as goal

@@ -42,21 +42,3 @@ returns-in-Yes-ask_tabled c = record {
       (c.run_tabled.ensures ∙ run-there (passed (goal.at.returns-in-Yes-ask_tabled c).In-Yes).tabled _ _ _ _
       ∙ outcome-written _ _ _ _ _ (run-yes _ _ _ _ _ (passed (goal.at.returns-in-Yes-ask_tabled c).In-Yes) (sym c.in-Yes-ask_tabled.is ∙ c.ask_tabled.ensures)))).1;
 }
-
-pub run_spec : {M : Type 1} → statement M
-run_spec =
-    tie.close
-    (tie.spec
-    scan-requires
-    enum-known-r
-    enum_told
-    ask-tabled-requires
-    enum-known-r-2
-    enum-told-2
-    run-tabled-requires
-    returns
-    returns-2
-    same_length
-    same-length-2
-    same-length-3
-    returns-3)

@@ -6,14 +6,11 @@ use Rattle.search.proofs.SearchAsked.{search-file_no}
 use Rattle.search.proofs.Outcomes.{searched_refused}
 use Rattle.search.proofs.SearchMeaning.{searched_means}
 use Rattle.search.proofs.search.Goals as goal
-use Rattle.search.proofs.search.Goals.{In-Yes-2}
-
--- past the questions on the file
-passed : (c : In-Yes-2) → Accepted c.args.file.now c.in-Yes.counts
-passed c = file_yes _ _ (sym c.scan.ensures.value ∙ c.in-Yes.is)
 
 pub search_scanned-requires : goal.search_scanned-requires
-search_scanned-requires c = (passed (goal.at.search_scanned-requires c).In-Yes-2, c.scan.ensures.scanned (passed (goal.at.search_scanned-requires c).In-Yes-2).accepted)
+search_scanned-requires c =
+    let passed : Accepted c.args.file.now c.in-Yes.counts = file_yes _ _ (sym c.scan.ensures.value ∙ c.in-Yes.is) in
+    (passed, c.scan.ensures.scanned passed.accepted)
 
 pub returns-in-No : goal.returns-in-No
 returns-in-No c = let e = searched_refused _ _ _ _ _ _ (search-file_no _ _ _ _ _ _ (sym c.scan.ensures.value ∙ c.in-No.is)) in

@@ -4,7 +4,6 @@ use mathlib.Core.List.{List}
 use Prim.Native.Nat.{ℕ}
 use lib.ListN.{set}
 use Rattle.tables.specs.Layout.{facts_cell, rules_cell}
-use borrow.Author.Rules.{rules}
 use Rattle.stores.proofs.store_counts.Goals as goal
 
 pub returns : goal.returns

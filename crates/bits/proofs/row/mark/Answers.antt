@@ -7,14 +7,3 @@ with_bit-requires c = bit-inside _
 
 pub returns : goal.returns
 returns c = row-marked _ _ _ c.requires c.with_bit.ensures
-
-pub mark_spec : {M : Type 1} → statement M
-mark_spec =
-    tie.close
-    (tie.spec
-    mul-with-bit
-    element-copy-out-with-bit
-    with-bit-requires
-    mul-row
-    element-write-row
-    returns)

@@ -34,24 +34,3 @@ returns c = record {
   by_index = none_taken c.loop-at.invariant c.loop-at-test.false;
   by_index_2 = λ i e. not_at i e;
 }
-
-pub take_from_spec : {M : Type 1} → statement M
-take_from_spec =
-    tie.close
-    (tie.spec
-    invariant-loop
-    decreases-loop
-    loop-holds
-    mul-word
-    element-copy-out-word
-    without-lowest-requires
-    mul-row
-    element-write-row
-    mul-t11
-    lowest-bit-requires
-    add-t15
-    returns
-    add_at
-    loop-less
-    loop-again
-    returns-2)

@@ -23,14 +23,3 @@ find_between-requires-2 c = let p = c.requires in let w = c.find_between.ensures
 
 pub returns : goal.returns
 returns c = found_in _ c.count_blocks-end.ensures.1 c.find_between-2.ensures
-
-pub find_spec : {M : Type 1} → statement M
-find_spec =
-    tie.close
-    (tie.spec
-    count-blocks-requires
-    add-middle
-    find-between-requires
-    returns
-    find-between-requires-2
-    returns-2)

@@ -1,5 +1,4 @@
 -- `find_between`: no guess before the block fits, and beside the row every lane holds out what is held out at the base.
-use Prim.Native.Nat.{◌-◌}
 use native.Mathlib.Omega.{arith}
 use mathlib.Core.Path.{refl}
 use Rattle.tables.specs.Layout.{program_in}

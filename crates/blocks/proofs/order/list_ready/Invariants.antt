@@ -1,6 +1,5 @@
 -- `list_ready`: the rules before a place are passed, and listed where they were ready.
 use Prim.Native.Nat.{◌-◌}
-use borrow.Author.Rules.{rules}
 use Rattle.tables.specs.Layout.{program_in}
 use Rattle.blocks.proofs.RulesPlaced.{Passing}
 use Rattle.blocks.proofs.order.list_ready.Given as goal

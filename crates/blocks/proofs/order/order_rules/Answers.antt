@@ -1,5 +1,4 @@
 -- `order_rules`: pass after pass, until one lists no rule; then all that are left.
-use Prim.Native.Nat.{◌-◌}
 use mathlib.Core.Path.{refl}
 use Rattle.tables.specs.Layout.{program_in}
 use Rattle.tables.proofs.ProgramHeld.{facts_below, rules-below}
@@ -20,8 +19,7 @@ pub loop-n-preserved : goal.loop-n-preserved
 loop-n-preserved c = (c.list_ready-more.ensures.placing.0, c.list_ready-more.ensures.placing.2)
 
 pub list_ready-requires : goal.list_ready-requires
-list_ready-requires c = let pass = c.before.before.before in
-    (c.requires.0, rw pass.if1.true at pass.before.list-ready.ensures.0.0, refl)
+list_ready-requires c = (c.requires.0, rw c.if-more-n.true at c.list_ready-more.ensures.placing.0, refl)
 
 pub returns : goal.returns
 returns c = let well_formed = c.requires.0 in

@@ -1,7 +1,5 @@
 -- `meet_constraints`: the constraints before a place are met.
-use Prim.Native.Nat.{◌-◌}
 use native.Mathlib.Omega.{arith}
-use Rattle.tables.specs.Layout.{constraint_at}
 use Rattle.tables.proofs.ProgramHeld.{facts_below}
 use Rattle.blocks.proofs.LanesFired.{none_met, one_met, all-met}
 use Rattle.blocks.proofs.settle.meet_constraints.Goals as goal

@@ -1,7 +1,5 @@
 -- `meet_premises`: the premises before a place are met.
-use Prim.Native.Nat.{◌-◌}
 use native.Mathlib.Omega.{arith}
-use Rattle.tables.specs.Layout.{premise_at}
 use Rattle.tables.proofs.ProgramHeld.{facts_below}
 use Rattle.blocks.proofs.LanesFired.{none_met, one_met, all-met}
 use Rattle.blocks.proofs.settle.meet_premises.Goals as goal

@@ -13,7 +13,7 @@ use Rattle.blocks.proofs.LanesFired.{stepped_same, stepped_new}
 use Rattle.blocks.proofs.settle.step.Goals as goal
 
 pub join_row-requires : goal.join_row-requires
-join_row-requires c = let p = c.requires in let is : c.conclusion-fact.result.0 ≡ _ = ap (λ f. f.0) c.conclusion-fact.ensures in omega (arith, is, conclusion_below p.0 p.1, facts_below p.0, c.join_row-arg-1.given.0)
+join_row-requires c = let p = c.requires in let is : c.conclusion-fact.result.0 ≡ _ = ap (λ f. f.0) c.conclusion-fact.ensures in omega (arith, is, conclusion_below p.0 p.1, facts_below p.0)
 
 pub returns-then-fire : goal.returns-then-fire
 returns-then-fire c R p a f = let q = c.requires in
@@ -24,8 +24,3 @@ returns-then-fire c R p a f = let q = c.requires in
 
 pub returns-else-fire : goal.returns-else-fire
 returns-else-fire c R p a f = stepped_same c.fire.ensures c.if-fire.false f
-
-pub step_spec : {M : Type 1} → statement M
-step_spec =
-    tie.close
-    (tie.spec fire-requires conclusion-requires cast-join-row join-row-requires returns returns-2)

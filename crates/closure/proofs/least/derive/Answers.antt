@@ -1,7 +1,6 @@
 -- `derive`: what is to come from here gives what the whole gives; each turn leaves fewer facts missing.
 use Prim.Native.Nat.{◌+◌}
 use native.Mathlib.Omega.{arith}
-use Rattle.items.specs.Item.{has}
 use Rattle.tables.specs.Layout.{program_in}
 use Rattle.premises.specs.Plain.{mask_in}
 use Rattle.closure.specs.Deriving.{Advanced}

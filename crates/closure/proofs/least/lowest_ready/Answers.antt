@@ -1,28 +1,23 @@
 -- `lowest_ready`: what waits from here on finds what all that waited find.
 use Prim.Native.Nat.{◌<◌}
-use mathlib.Core.Path.{◌≡◌, sym, ◌∙◌}
+use mathlib.Core.Path.{sym, ◌∙◌}
 use native.Mathlib.Omega.{arith}
-use borrow.Author.Tests.{not-true, not-false}
 use Rattle.items.specs.Item.{max_rules}
 use Rattle.tables.proofs.ProgramHeld.{facts_below}
-use Rattle.bits.specs.declared.row.Lowest.TheVariants.{At}
 use Rattle.bits.specs.Flags.{Taken, total}
 use Rattle.closure.proofs.LowestReady.{none_ready, rule_known, off_passed, concluded-passed, one_found, one_left}
 use Rattle.closure.proofs.least.lowest_ready.Goals as goal
 use Rattle.closure.proofs.least.lowest_ready.Goals.{In-At}
 
 -- once a rule is taken
-is-there : (c : In-At) → c.take.result ≡ At c.in-At.number
-is-there c = c.in-At.is
-
 took : (c : In-At) → Taken c.loop-number.invariant.p c.take.result c.take.new.row
 took c = c.take.ensures.by_index c.loop-number.invariant.p c.loop-number.invariant.flags
 
-inside : (c : In-At) (is-there-here : c.take.result ≡ At c.in-At.number) → c.in-At.number < max_rules
-inside c is-there-here = c.take.ensures.falls.inside _ (is-there-here)
+inside : (c : In-At) → c.in-At.number < max_rules
+inside c = c.take.ensures.falls.inside _ c.in-At.is
 
-falls : (c : In-At) (is-there-here : c.take.result ≡ At c.in-At.number) → total c.take.new.row < total c.loop-number.ready
-falls c is-there-here = c.take.ensures.falls.less _ (is-there-here)
+falls : (c : In-At) → total c.take.new.row < total c.loop-number.ready
+falls c = c.take.ensures.falls.less _ c.in-At.is
 
 pub loop-number-init : goal.loop-number-init
 loop-number-init c = c.requires.waits
@@ -34,33 +29,33 @@ returns-in-Nothing c = record {
 }
 
 pub overflow_cast-rule : goal.overflow_cast-rule
-overflow_cast-rule c = omega (arith, inside c (is-there c))
+overflow_cast-rule c = omega (arith, inside c)
 
 pub marked_in-requires : goal.marked_in-requires
-marked_in-requires c = (omega (arith, c.marked_in-arg-1.given.0), inside (goal.at.marked_in-requires c).In-At (is-there (goal.at.marked_in-requires c).In-At))
+marked_in-requires c = (omega arith, inside (goal.at.marked_in-requires c).In-At)
 
 pub conclusion_in-requires : goal.conclusion_in-requires
 conclusion_in-requires c = let p = c.requires in
     record {
-      well_formed = (p.well_formed.0, rule_known c.loop-number.invariant (took (goal.at.conclusion_in-requires c).In-At) _ (is-there (goal.at.conclusion_in-requires c).In-At));
+      well_formed = (p.well_formed.0, rule_known c.loop-number.invariant (took (goal.at.conclusion_in-requires c).In-At) _ c.in-At.is);
       tables_in_bounds = omega (arith, p.well_formed.2, facts_below p.well_formed.0);
     }
 
 pub returns-then-not-conclusion_in : goal.returns-then-not-conclusion_in
-returns-then-not-conclusion_in c = let on = sym c.marked_in.ensures ∙ c.if-marked_in.true in let out = sym c.conclusion_in.ensures ∙ not-true _ c.if-not-conclusion_in.true in
+returns-then-not-conclusion_in c = let on = sym c.marked_in.ensures ∙ c.if-marked_in.true in let out = sym c.conclusion_in.ensures ∙ c.if-not-conclusion_in.true in
     record {
-      value = one_found c.loop-number.invariant (took (goal.at.returns-then-not-conclusion_in c).In-At) _ (is-there (goal.at.returns-then-not-conclusion_in c).In-At) on out;
-      left = one_left c.loop-number.invariant (took (goal.at.returns-then-not-conclusion_in c).In-At) _ (is-there (goal.at.returns-then-not-conclusion_in c).In-At) on out;
+      value = one_found c.loop-number.invariant (took (goal.at.returns-then-not-conclusion_in c).In-At) _ c.in-At.is on out;
+      left = one_left c.loop-number.invariant (took (goal.at.returns-then-not-conclusion_in c).In-At) _ c.in-At.is on out;
     }
 
 pub loop-number-smaller-else-not-conclusion_in : goal.loop-number-smaller-else-not-conclusion_in
-loop-number-smaller-else-not-conclusion_in c = falls (goal.at.loop-number-smaller-else-not-conclusion_in c).In-At (is-there (goal.at.loop-number-smaller-else-not-conclusion_in c).In-At)
+loop-number-smaller-else-not-conclusion_in c = falls (goal.at.loop-number-smaller-else-not-conclusion_in c).In-At
 
 pub loop-number-preserved-else-not-conclusion_in : goal.loop-number-preserved-else-not-conclusion_in
-loop-number-preserved-else-not-conclusion_in c = concluded-passed c.loop-number.invariant (took (goal.at.loop-number-preserved-else-not-conclusion_in c).In-At) _ (is-there (goal.at.loop-number-preserved-else-not-conclusion_in c).In-At) (sym c.conclusion_in.ensures ∙ not-false _ c.if-not-conclusion_in.false)
+loop-number-preserved-else-not-conclusion_in c = concluded-passed c.loop-number.invariant (took (goal.at.loop-number-preserved-else-not-conclusion_in c).In-At) _ c.in-At.is (sym c.conclusion_in.ensures ∙ c.if-not-conclusion_in.false)
 
 pub loop-number-smaller : goal.loop-number-smaller
-loop-number-smaller c = falls (goal.at.loop-number-smaller c).In-At (is-there (goal.at.loop-number-smaller c).In-At)
+loop-number-smaller c = falls (goal.at.loop-number-smaller c).In-At
 
 pub loop-number-preserved : goal.loop-number-preserved
-loop-number-preserved c = off_passed c.loop-number.invariant (took (goal.at.loop-number-preserved c).In-At) _ (is-there (goal.at.loop-number-preserved c).In-At) (sym c.marked_in.ensures ∙ c.if-marked_in.false)
+loop-number-preserved c = off_passed c.loop-number.invariant (took (goal.at.loop-number-preserved c).In-At) _ c.in-At.is (sym c.marked_in.ensures ∙ c.if-marked_in.false)

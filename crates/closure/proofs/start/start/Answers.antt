@@ -15,21 +15,18 @@ index_plain-requires c = let p = c.requires in
     }
 
 pub derive-requires : goal.derive-requires
-derive-requires c = let p = c.requires in let filled = c.index_plain.ensures in let entered = c.enter_set.ensures (plain_ones (program_in c.args.tables.now)) filled.1.0.rows filled.1.1.1.0 filled.1.1.1.1 in
+derive-requires c = let p = c.requires in let filled = c.index_plain.ensures in let entered = c.enter_set.ensures (plain_ones (program_in c.args.tables.now)) filled.plain_indexed.rows filled.counted filled.flags in
     record {
-      well_formed = (p.well_formed.0, filled.1.0);
+      well_formed = (p.well_formed.0, filled.plain_indexed);
       room = (p.room.0, p.room.2);
-      poised = ripe-poised filled.1.0 entered.0 entered.1;
+      poised = ripe-poised filled.plain_indexed entered.0 entered.1;
     }
 
 pub returns : goal.returns
 returns c = let filled = c.index_plain.ensures in
     record {
-      rows_are = filled.0;
-      plain_indexed = filled.1.0;
-      masks = filled.1.1.0;
+      rows_are = filled.rows_are;
+      plain_indexed = filled.plain_indexed;
+      masks = filled.masks;
       derived = c.derive.ensures;
     }
-
-pub start_spec : {M : Type 1} → statement M
-start_spec = tie.close (tie.spec index-plain-requires enter-set-requires derive-requires returns)

@@ -1,5 +1,4 @@
 -- `close_from`: the facts passed are closed, and have the rank.
-use Prim.Native.Nat.{◌-◌}
 use native.Mathlib.Omega.{arith}
 use Rattle.components.proofs.ComponentClosed.{none_written, one_written, all_closed}
 use Rattle.components.proofs.close.close_from.Goals as goal

@@ -1,9 +1,8 @@
 -- `highest_rank`: so far it is the rank of a fact there, and none passed has a higher one.
-use Prim.Native.Nat.{◌-◌}
-use mathlib.Core.Logic.{⊎_elim}
 use native.Mathlib.Omega.{arith}
 use Rattle.components.proofs.ComponentClosed.{first-rank, one_higher, not-higher}
 use Rattle.components.proofs.close.highest_rank.Goals as goal
+use Rattle.components.proofs.close.highest_rank.Goals.{then-high-rank, else-high-rank}
 
 pub fact_at-requires : goal.fact_at-requires
 fact_at-requires c = omega (arith, c.requires.0, c.requires.1)
@@ -36,7 +35,10 @@ pub loop-a-preserved : goal.loop-a-preserved
 loop-a-preserved c = let inv = c.loop-a.invariant in
     let inside = c.loop-a-test.true in
     let is_fact = c.fact_at-in-loop-a.ensures.0 in
-    ⊎_elim (λ w. rw w.1 (one_higher inv inside _ is_fact w.0.taken)) (λ w. rw w.1 (not-higher inv inside _ is_fact w.0.left)) c.if-high-rank.branch
+    elim c.if-high-rank.branch [
+      | then-high-rank w ↦ rw w.high-is (one_higher inv inside _ is_fact w.if-high-rank.true)
+      | else-high-rank w ↦ rw w.high-is (not-higher inv inside _ is_fact w.if-high-rank.false)
+    ]
 
 pub returns : goal.returns
 returns c = let inv = c.loop-a.invariant in

@@ -20,7 +20,7 @@ pub returns-then-root_place-low : goal.returns-then-root_place-low
 returns-then-root_place-low c = (c.loop-left.invariant, λ _. rw (← c.root_place.ensures) c.if-root_place-low.true)
 
 pub is_barred-requires : goal.is_barred-requires
-is_barred-requires c = root-place-requires c.before.before κs
+is_barred-requires c = omega (arith, c.loop-left-test.true, c.loop-left.invariant.0, c.requires.0)
 
 -- the root that was looked at is behind the place
 behind : (c : Else-root_place-low) → c.args.low < root_place c.args.roots.now (c.loop-left.left - 1)

@@ -1,5 +1,4 @@
 -- `merge_roots`: the roots from `left` on are behind the place, and none of them was met by a constraint.
-use Prim.Native.Nat.{◌-◌}
 use Rattle.components.specs.Open.{Gone}
 use Rattle.components.proofs.open.merge_roots.Given as goal
 

@@ -1,12 +1,11 @@
 -- `keys_of`: the keys below i are told.
-use Prim.Native.Nat.{◌-◌, ◌<◌}
+use Prim.Native.Nat.{◌<◌}
 use native.Mathlib.Omega.{arith}
 use Rattle.theory.specs.Rule.{count}
 use Rattle.items.specs.Item.{max_rules}
 use Rattle.tables.specs.Layout.{program_in}
 use Rattle.tables.proofs.ProgramHeld.{rules-below}
 use Rattle.threads.proofs.KeysTold.{none_keyed, one_keyed}
-use Rattle.descent.specs.Standing.{rule_key}
 use Rattle.descent.proofs.walk.keys_of.Goals as goal
 use Rattle.descent.proofs.walk.keys_of.Goals.{In-loop-i}
 

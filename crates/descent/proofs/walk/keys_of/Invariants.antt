@@ -1,7 +1,6 @@
 -- `keys_of`: the keys below i are told.
 use Prim.Native.Nat.{◌-◌}
 use mathlib.Core.Path.{◌≡◌}
-use borrow.Author.Rules.{rules}
 use Rattle.theory.specs.Rule.{count}
 use Rattle.tables.specs.Layout.{program_in}
 use Rattle.threads.proofs.KeysTold.{Keying}

@@ -1,12 +1,12 @@
 -- `take_turn`: each way that it goes is one of the laws of a turn.
 use mathlib.Core.Path.{refl}
-use mathlib.Core.Logic.{inl, inr, ⊎_elim}
+use mathlib.Core.Logic.{inl, inr}
 use native.Mathlib.Omega.{arith}
 use lib.ListN.{get_or}
 use Rattle.tables.specs.Layout.{program_in}
 use Rattle.descent.proofs.WalkTurned.{few_open, few_roots, looked_small, may_leave, AtRule, rule_known, rule-in_force, rule-small, may_open_it, opened, barred-look, may_merge, merged_cycle, looked-on}
 use Rattle.descent.proofs.walk.take_turn.Goals as goal
-use Rattle.descent.proofs.walk.take_turn.Goals.{Else-rule}
+use Rattle.descent.proofs.walk.take_turn.Goals.{Else-rule, then-ranks-fact, else-ranks-fact}
 
 pub fact_at-fact-requires : goal.fact_at-fact-requires
 fact_at-fact-requires c = looked_small c.requires.stands c.requires.well_formed.1
@@ -63,4 +63,4 @@ pub returns-in-Barred-merge_roots : goal.returns-in-Barred-merge_roots
 returns-in-Barred-merge_roots c = merged_cycle (looking (goal.at.returns-in-Barred-merge_roots c).Else-rule) c.in-Seen.is c.look_at_rule.ensures c.in-Barred-merge_roots.is c.merge_roots.ensures
 
 pub returns-in-Left : goal.returns-in-Left
-returns-in-Left c = looked-on (looking (goal.at.returns-in-Left c).Else-rule) c.in-Seen.is c.look_at_rule.ensures _ _ c.in-Left.is c.merge_roots.ensures c.wide.ensures (⊎_elim (λ t. inl (t.1, t.0.taken)) (λ t. inr (t.1, t.0.left)) c.if-ranks-fact.branch)
+returns-in-Left c = looked-on (looking (goal.at.returns-in-Left c).Else-rule) c.in-Seen.is c.look_at_rule.ensures _ _ c.in-Left.is c.merge_roots.ensures c.wide.ensures (elim c.if-ranks-fact.branch [ then-ranks-fact t ↦ inl (t.ranks-is, t.if-ranks-fact.true) | else-ranks-fact t ↦ inr (t.ranks-is, t.if-ranks-fact.false) ])

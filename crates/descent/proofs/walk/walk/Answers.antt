@@ -1,8 +1,7 @@
 -- `walk`: between two walks no fact is open, and all facts passed were met.
-use Prim.Native.Nat.{◌-◌, ◌<◌}
+use Prim.Native.Nat.{◌<◌}
 use mathlib.Core.Path.{refl}
 use native.Mathlib.Omega.{arith}
-use borrow.Author.Tests.{not-true, not-false}
 use Rattle.items.specs.Item.{narrow, max_facts}
 use Rattle.tables.specs.Layout.{program_in}
 use Rattle.tables.proofs.ProgramHeld.{facts_below, rules-below}
@@ -20,47 +19,44 @@ thread-requires c = record {
 }
 
 pub loop-f-init : goal.loop-f-init
-loop-f-init c = let k = c.before.before.before.before.before.before in
-    (c.facts_of-facts.ensures, (rests-first _ k.before.requires.0.in_bounds (facts_below k.before.requires.0) (rules-below k.before.requires.0) k.keys_of.ensures c.rules_of.ensures c.thread.ensures refl refl refl k.before.requires.1, λ g l. absurd (omega arith)))
+loop-f-init c =
+    let held = c.requires.0 in
+    (c.facts_of-facts.ensures, (rests-first _ held.in_bounds (facts_below held) (rules-below held) c.keys_of-keys.ensures c.rules_of.ensures c.thread.ensures refl refl refl c.requires.1, λ g l. absurd (omega arith)))
 
 below : (c : In-loop-f) → c.loop-f.f < (program_in c.args.tables.now).facts
 below c = omega (arith, c.loop-f.invariant.0, c.loop-f-test.true)
 
-small : (c : In-loop-f) (below-here : c.loop-f.f < (program_in c.args.tables.now).facts) → c.loop-f.f < max_facts narrow
-small c below-here = omega (arith, below-here, facts_below c.requires.0)
+small : (c : In-loop-f) → c.loop-f.f < max_facts narrow
+small c = omega (arith, below c, facts_below c.requires.0)
 
 pub offset_bounds-seen-f : goal.offset_bounds-seen-f
-offset_bounds-seen-f c = omega (arith, small (goal.at.offset_bounds-seen-f c).In-loop-f (below (goal.at.offset_bounds-seen-f c).In-loop-f))
+offset_bounds-seen-f c = omega (arith, c.loop-f.invariant.0, facts_below c.requires.0)
 
 pub bounds-seen-f : goal.bounds-seen-f
-bounds-seen-f c = small (goal.at.bounds-seen-f c).In-loop-f (below (goal.at.bounds-seen-f c).In-loop-f)
+bounds-seen-f c = omega (arith, c.loop-f.invariant.0, facts_below c.requires.0)
 
 pub overflow_add-f : goal.overflow_add-f
-overflow_add-f c = omega (arith, small (goal.at.overflow_add-f c).In-loop-f (below (goal.at.overflow_add-f c).In-loop-f))
+overflow_add-f c = omega (arith, small (goal.at.overflow_add-f c).In-loop-f)
 
 pub loop-f-preserved-then-seen-f : goal.loop-f-preserved-then-seen-f
 loop-f-preserved-then-seen-f c = let (all, (rests, met)) = c.loop-f.invariant in (all, (rests, met_further c.loop-f.seen c.loop-f.seen _ met (λ g e. e) c.if-seen-f.true))
 
 pub overflow_cast-f : goal.overflow_cast-f
-overflow_cast-f c = omega (arith, small (goal.at.overflow_cast-f c).In-loop-f (below (goal.at.overflow_cast-f c).In-loop-f))
+overflow_cast-f c = omega (arith, small (goal.at.overflow_cast-f c).In-loop-f)
 
 pub walk_from-requires : goal.walk_from-requires
-walk_from-requires c = let e = c.before.before.before.before.before.before in
-    record {
-      well_formed = (e.before.before.before.before.before.before.before.before.before.before.requires.0, e.before.before.loop.invariant.1.0);
-      fact_bound = (below e.before, e.if1.false);
-    }
+walk_from-requires c = record { well_formed = (c.requires.0, c.loop-f.invariant.1.0); fact_bound = (below (goal.at.walk_from-requires c).In-loop-f, c.if-seen-f.false) }
 
 pub returns-then-not-walk_from : goal.returns-then-not-walk_from
-returns-then-not-walk_from c = cycle_met _ _ (rw (not-true c.walk_from.result c.if-not-walk_from.true) at c.walk_from.ensures)
+returns-then-not-walk_from c = cycle_met _ _ (rw c.if-not-walk_from.true at c.walk_from.ensures)
 
 pub overflow_add-f-in-loop-f : goal.overflow_add-f-in-loop-f
-overflow_add-f-in-loop-f c = omega (arith, small (goal.at.overflow_add-f-in-loop-f c).In-loop-f (below (goal.at.overflow_add-f-in-loop-f c).In-loop-f))
+overflow_add-f-in-loop-f c = omega (arith, small (goal.at.overflow_add-f-in-loop-f c).In-loop-f)
 
 pub loop-f-preserved : goal.loop-f-preserved
 loop-f-preserved c = let (all, (rests, met)) = c.loop-f.invariant in
-    let ((λ x. x.now), (stays, here)) = rw (not-false c.walk_from.result c.if-not-walk_from.false) at c.walk_from.ensures in
-    (all, ((λ x. x.now), met_further c.loop-f.seen c.walk_from.new.seen _ met stays here))
+    let (now, (stays, here)) = rw c.if-not-walk_from.false at c.walk_from.ensures in
+    (all, (now, met_further c.loop-f.seen c.walk_from.new.seen _ met stays here))
 
 pub returns : goal.returns
 returns c = let (all, (rests, met)) = c.loop-f.invariant in all-walked rests (λ f l. met f (omega (arith, c.loop-f-test.false)))

@@ -13,11 +13,7 @@ pub loop-s-init : goal.loop-s-init
 loop-s-init c = let p = c.requires in ((begun p.well_formed.1 _ p.fact_bound.0 _ _ _ _ p.fact_bound.1 (c.open_fact.ensures _)).0, λ f e. e)
 
 pub take_turn-requires : goal.take_turn-requires
-take_turn-requires c = let t = c.before.before.before.before.before in
-    record {
-      well_formed = (t.before.before.before.before.before.before.before.requires.0.0, t.if1.true);
-      stands = t.before.before.loop.invariant.0;
-    }
+take_turn-requires c = record { well_formed = (c.requires.well_formed.0, c.loop-s-test.true); stands = c.loop-s.invariant.0 }
 
 pub returns-in-Cyclic : goal.returns-in-Cyclic
 returns-in-Cyclic c = rw c.in-Cyclic.is at c.take_turn.ensures

@@ -5,9 +5,11 @@ use Rattle.earliest.proofs.RootFound.{nothing-shown, fits-shown, found_shown}
 use Rattle.earliest.proofs.root.earliest.Goals as goal
 
 pub find-requires : goal.find-requires
-find-requires c = let w = c.guess_first.ensures in let l = w.1.left _ c.in-Open.is in
+find-requires c =
+    let w = c.guess_first.ensures in
+    let l = w.sought.left _ c.in-Open.is in
     record {
-      well_formed = (c.requires.0, w.0.row_base);
+      well_formed = (c.requires.0, w.at_root.row_base);
       from_le_guesses = (l.0, l.1, c.requires.3);
     }
 

@@ -1,5 +1,5 @@
 -- `gather`: fact by fact, the first as the highest bit.
-use Prim.Native.Nat.{◌-◌, ◌<◌}
+use Prim.Native.Nat.{◌<◌}
 use native.Mathlib.Omega.{arith}
 use lib.ListN.{get_or}
 use Rattle.theory.proofs.Lists.{element_below}

@@ -1,5 +1,4 @@
 -- `narrow_bounds`: every guess that fits lies between, and the one bound derives the other.
-use Prim.Native.Nat.{◌-◌}
 use native.Mathlib.Omega.{arith}
 use mathlib.Core.Path.{refl}
 use Rattle.theory.proofs.Bools.{never}

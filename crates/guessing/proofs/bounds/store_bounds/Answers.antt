@@ -14,8 +14,8 @@ overflow_add-kept c = record { fits = omega (arith, c.store_places-kept.ensures.
 pub returns-then-kept-places : goal.returns-then-kept-places
 returns-then-kept-places c = let w = c.store_places-kept.ensures in
     record {
-      upper_bound = (omega (arith, w.0.0), w.0.1, w.0.2);
-      by_index = λ pass between _. w.1 pass between;
+      upper_bound = (omega (arith, w.upper_bound.0), w.upper_bound.1, w.upper_bound.2);
+      by_index = λ pass between _. w.by_index pass between;
     }
 
 pub returns-then-bounds : goal.returns-then-bounds
@@ -25,13 +25,13 @@ returns-then-bounds c = let w = c.store_places-kept.ensures in
     let masks : List ℕ = c.store_places-kept.new.masks in
     let values : List ℕ = c.store_places-kept.new.values in
     record {
-      upper_bound = (omega (arith, w.0.0), length-set (set masks kept free) (kept + 1) free ∙ length-set masks kept free ∙ w.0.1, length-set (set values kept 0) (kept + 1) free ∙ length-set values kept 0 ∙ w.0.2);
-      by_index = λ pass between e. ends_stored masks values kept w.0.0 w.0.1 w.0.2 (w.1 pass between) (e c.if-bounds.true);
+      upper_bound = (omega (arith, w.upper_bound.0), length-set (set masks kept free) (kept + 1) free ∙ length-set masks kept free ∙ w.upper_bound.1, length-set (set values kept 0) (kept + 1) free ∙ length-set values kept 0 ∙ w.upper_bound.2);
+      by_index = λ pass between e. ends_stored masks values kept w.upper_bound.0 w.upper_bound.1 w.upper_bound.2 (w.by_index pass between) (e c.if-bounds.true);
     }
 
 pub returns : goal.returns
 returns c = let w = c.store_places-kept.ensures in
     record {
-      upper_bound = (omega arith, w.0.1, w.0.2);
-      by_index = λ pass between _. w.1 pass between;
+      upper_bound = (omega arith, w.upper_bound.1, w.upper_bound.2);
+      by_index = λ pass between _. w.by_index pass between;
     }

@@ -1,5 +1,4 @@
 -- `compare`: from the place at hand on, the guess has exactly the facts that are marked.
-use Prim.Native.Nat.{◌-◌}
 use Rattle.guessing.proofs.PlacesAgree.{Agreed}
 use Rattle.guessing.proofs.compared.compare.Given as goal
 

@@ -1,7 +1,6 @@
 -- `first_guess`: the first guess that nothing on the way refutes, then the guesses between the bounds.
 use native.Mathlib.Omega.{arith}
 use mathlib.Core.Path.{refl}
-use mathlib.Core.Logic.{⊎_elim}
 use lib.ListN.{length, replicate}
 use lib.Pow.{pow_pos}
 use Rattle.nogoods.specs.Nogoods.{most_kept}
@@ -9,6 +8,7 @@ use Rattle.guessing.proofs.BoundsNarrowed.{none_responds}
 use Rattle.guessing.proofs.GuessDerived.{row-facts}
 use Rattle.guessing.proofs.GuessesTried.{begins, end_below, tells, fits-first}
 use Rattle.guessing.proofs.first.first_guess.Goals as goal
+use Rattle.guessing.proofs.first.first_guess.Goals.{then-first-gt0, else-first-gt0}
 
 pub descend-first-requires : goal.descend-first-requires
 descend-first-requires c = let p = c.requires in
@@ -37,7 +37,10 @@ narrow_bounds-bounds-requires c = let p = c.requires in
     record {
       ready = p.ready;
       base = p.base;
-      responds = ⊎_elim (λ w. rw w.2 w.1.ensures) (λ w. rw w.1 (none_responds facts w.0.left derived c.gather-most.ensures)) c.if-first-gt0.branch;
+      responds = elim c.if-first-gt0.branch [
+        | then-first-gt0 w ↦ rw w.most-is w.respond-most.ensures
+        | else-first-gt0 w ↦ rw w.most-is (none_responds facts w.if-first-gt0.false derived c.gather-most.ensures)
+      ];
     }
 
 pub search_between-requires : goal.search_between-requires

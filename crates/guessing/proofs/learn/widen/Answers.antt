@@ -1,5 +1,4 @@
 -- `widen`: the conflict stays with each bit that is turned over.
-use Prim.Native.Nat.{◌-◌}
 use native.Mathlib.Omega.{arith}
 use Rattle.guessing.proofs.learn.widen.Goals as goal
 
@@ -31,20 +30,3 @@ loop-place-preserved c = c.turn_over-wide.ensures
 
 pub returns : goal.returns
 returns c = c.loop-place.invariant
-
-pub widen_spec : {M : Type 1} → statement M
-widen_spec =
-    tie.close
-    (tie.spec
-    invariant-loop
-    decreases-loop
-    loop-holds
-    has-bit-requires
-    add-place
-    loop-less
-    loop-again
-    turn-over-requires
-    add-place-2
-    loop-less-2
-    loop-again-2
-    returns)

@@ -1,8 +1,7 @@
 -- `index_constraints`: the constraints before a place are marked.
-use Prim.Native.Nat.{◌+◌, ◌-◌, ◌*◌, ◌<◌, ◌≤◌}
+use Prim.Native.Nat.{◌+◌, ◌*◌, ◌<◌, ◌≤◌}
 use mathlib.Core.Path.{ap, ◌∙◌}
 use mathlib.Core.List.{map}
-use mathlib.Core.Logic.{⊎_elim}
 use native.Mathlib.Omega.{arith}
 use Rattle.bits.specs.Flags.{row_words}
 use Rattle.tables.specs.Layout.{constraint_at}
@@ -12,14 +11,14 @@ use Rattle.index.specs.Literal.{outside, literals}
 use Rattle.index.specs.Cells.{marks_from}
 use Rattle.index.proofs.MappedElements.{span-map}
 use Rattle.index.proofs.fill.index_constraints.Goals as goal
-use Rattle.index.proofs.fill.index_constraints.Goals.{After-constraint_at-literal}
+use Rattle.index.proofs.fill.index_constraints.Goals.{After-constraint_at-literal, then-mark_in, else-mark_in}
 
 -- the constraint read is a fact of the program, and its row stands before the marks
 small : (c : After-constraint_at-literal) → outside c.constraint_at-literal.result < literals
 small c = omega (arith, c.constraint_at-literal.ensures, c.constraint_span-own.ensures.facts_below _ c.loop-at.invariant.reached c.loop-at-test.true, facts_below c.requires.0)
 
-front : (c : After-constraint_at-literal) (small-here : outside c.constraint_at-literal.result < literals) → outside c.constraint_at-literal.result * row_words + row_words ≤ marks_from
-front c small-here = omega (arith, small-here)
+front : (c : After-constraint_at-literal) → outside c.constraint_at-literal.result * row_words + row_words ≤ marks_from
+front c = omega (arith, small c)
 
 pub overflow_cast-place : goal.overflow_cast-place
 overflow_cast-place c = omega (arith, c.requires.1, rules-below c.requires.0)
@@ -37,7 +36,7 @@ pub overflow_add-literal : goal.overflow_add-literal
 overflow_add-literal c = omega (arith, small c)
 
 pub mark_in-requires : goal.mark_in-requires
-mark_in-requires c = (omega (arith, front (goal.at.mark_in-requires c).After-constraint_at-literal (small (goal.at.mark_in-requires c).After-constraint_at-literal), c.mark_in-arg-1.given.0), omega (arith, c.requires.1, rules-below c.requires.0))
+mark_in-requires c = (omega (arith, front (goal.at.mark_in-requires c).After-constraint_at-literal), omega (arith, c.requires.1, rules-below c.requires.0))
 
 pub overflow_add-distinct : goal.overflow_add-distinct
 overflow_add-distinct c = omega (arith, c.loop-at.invariant.few, c.constraint_span-own.ensures.high)
@@ -46,10 +45,12 @@ pub overflow_add-at : goal.overflow_add-at
 overflow_add-at c = omega (arith, c.constraint_span-own.ensures.high)
 
 pub loop-at-preserved : goal.loop-at-preserved
-loop-at-preserved c = ⊎_elim
-    (λ w. rw w.1 (one_new c.loop-at.invariant c.loop-at-test.true _ (ap outside c.constraint_at-literal.ensures) (small (goal.at.loop-at-preserved c).After-constraint_at-literal) (front (goal.at.loop-at-preserved c).After-constraint_at-literal (small (goal.at.loop-at-preserved c).After-constraint_at-literal)) _ _ c.mark_in.ensures.by_index c.mark_in.ensures.same_from w.0.taken))
-    (λ w. rw w.1 (one_again c.loop-at.invariant c.loop-at-test.true _ (ap outside c.constraint_at-literal.ensures) (small (goal.at.loop-at-preserved c).After-constraint_at-literal) (front (goal.at.loop-at-preserved c).After-constraint_at-literal (small (goal.at.loop-at-preserved c).After-constraint_at-literal)) _ _ c.mark_in.ensures.by_index c.mark_in.ensures.same_from w.0.left))
-    c.if-mark_in.branch
+loop-at-preserved c =
+    let x = (goal.at.loop-at-preserved c).After-constraint_at-literal in
+    elim c.if-mark_in.branch [
+      | then-mark_in w ↦ rw w.distinct-is (one_new c.loop-at.invariant c.loop-at-test.true _ (ap outside c.constraint_at-literal.ensures) (small x) (front x) _ _ c.mark_in.ensures.by_index c.mark_in.ensures.same_from w.if-mark_in.true)
+      | else-mark_in w ↦ rw w.distinct-is (one_again c.loop-at.invariant c.loop-at-test.true _ (ap outside c.constraint_at-literal.ensures) (small x) (front x) _ _ c.mark_in.ensures.by_index c.mark_in.ensures.same_from w.if-mark_in.false)
+    ]
 
 pub returns : goal.returns
 returns c = let w = c.loop-at.invariant in

@@ -1,6 +1,5 @@
 -- `index_rules`: the rules before a place are in the rows of their literals.
 use Prim.Native.Nat.{◌-◌}
-use borrow.Author.Rules.{rules}
 use Rattle.tables.specs.Layout.{program_in}
 use Rattle.index.specs.Index.{in_force_but}
 use Rattle.index.proofs.RulesIndexed.{Indexing}

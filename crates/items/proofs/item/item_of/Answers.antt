@@ -13,7 +13,7 @@ use Rattle.items.proofs.item.item_of.Goals.{In_default}
 -- in the last arm the kind is a step's
 a-step-here : (c : In_default) → c.args.kind ≡ step_kind narrow
 a-step-here c =
-    let r = c.in_default.rest in
+    let r = c.in_default.in_default-own.rest in
     a_step c.args.kind
     (record { facts = r.0.0.0.0.0.0.1; opens = r.0.0.0.0.0.1; premise = r.0.0.0.0.1; constraint = r.0.0.0.1; rules = r.0.0.1; names = r.0.1; unread = r.1 })
     c.requires.0

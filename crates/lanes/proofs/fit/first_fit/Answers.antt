@@ -1,5 +1,4 @@
 -- `first_fit`: the first word that has a lane has the first of all as its lowest.
-use Prim.Native.Nat.{◌-◌}
 use native.Mathlib.Omega.{arith}
 use Rattle.lanes.proofs.LanesFit.{none_unfit, one_unfit, first_found, none_found}
 use Rattle.lanes.proofs.fit.first_fit.Goals as goal

@@ -1,5 +1,4 @@
 -- `fit_word`: fact by fact, the lanes in which it is derived or held out, and not both.
-use Prim.Native.Nat.{◌-◌}
 use native.Mathlib.Omega.{arith}
 use Rattle.theory.proofs.Lists.{element_below}
 use Rattle.items.specs.Item.{narrow, max_facts}

@@ -1,15 +1,9 @@
 -- `guess_word`: the bits of the lanes are the same in every word, the others the same in all its lanes.
-use Prim.Native.Nat.{◌≤◌}
 use native.Mathlib.Omega.{arith}
 use mathlib.Core.Path.{refl}
 use borrow.Author.Tests.{eq-eqb, ne_eqb}
 use Rattle.lanes.proofs.LanePatterns.{pattern_lanes, all_set, all-clear, shift_small}
-use Rattle.lanes.proofs.hold.guess_word.Reads as reads
-use Rattle.lanes.proofs.hold.guess_word.Lts as lts
 use Rattle.lanes.proofs.hold.guess_word.Goals as goal
-
-above : (c : lts.At-match-rest reads.Pre reads.Post) → 6 ≤ c.before.args.place
-above c = omega arith
 
 pub overflow_shr-number : goal.overflow_shr-number
 overflow_shr-number c = shift_small _ c.requires
@@ -33,7 +27,7 @@ pub returns-in-5 : goal.returns-in-5
 returns-in-5 c = pattern_lanes _ _ 5 c.in-5.is (omega arith) refl
 
 pub returns-then-number-place-eq1 : goal.returns-then-number-place-eq1
-returns-then-number-place-eq1 c = all_set _ _ (above c.before) (eq-eqb _ _ c.if-number-place-eq1.true)
+returns-then-number-place-eq1 c = all_set _ _ (omega arith) (eq-eqb _ _ c.if-number-place-eq1.true)
 
 pub returns-else-number-place-eq1 : goal.returns-else-number-place-eq1
-returns-else-number-place-eq1 c = all-clear _ _ (above c.before) (ne_eqb _ _ c.if-number-place-eq1.false)
+returns-else-number-place-eq1 c = all-clear _ _ (omega arith) (ne_eqb _ _ c.if-number-place-eq1.false)

@@ -1,5 +1,4 @@
 -- `hold_base`: fact by fact.
-use Prim.Native.Nat.{◌-◌}
 use Rattle.lanes.proofs.FactsHeld.{none_based, every_based, none_in_base, all-based}
 use Rattle.lanes.proofs.hold.hold_base.Goals as goal
 

@@ -1,5 +1,4 @@
 -- `hold_fact`: its words one after the other.
-use Prim.Native.Nat.{◌-◌}
 use Rattle.lanes.proofs.FactsHeld.{none_lacking, one_lacking, all-lacking}
 use Rattle.lanes.proofs.hold.hold_fact.Goals as goal
 

@@ -1,5 +1,4 @@
 -- `join`: word by word; a lane is new where a word before and after differ.
-use Prim.Native.Nat.{◌-◌}
 use mathlib.Core.Path.{refl}
 use Rattle.lanes.proofs.WordsJoined.{none_joined, one_joined, all-joined}
 use Rattle.lanes.proofs.words.join.Goals as goal

@@ -1,5 +1,4 @@
 -- `meet`: word by word.
-use Prim.Native.Nat.{◌-◌}
 use mathlib.Core.Path.{refl}
 use Rattle.lanes.proofs.WordsMet.{none_met, one_met, all-met}
 use Rattle.lanes.proofs.words.meet.Goals as goal

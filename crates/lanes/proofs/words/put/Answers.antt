@@ -1,5 +1,4 @@
 -- `put`: word by word.
-use Prim.Native.Nat.{◌-◌}
 use Rattle.lanes.proofs.WordsPut.{none_put, one_put, all-put}
 use Rattle.lanes.proofs.words.put.Goals as goal
 
@@ -11,21 +10,3 @@ loop-w-preserved c = one_put c.loop-w.invariant c.requires c.loop-w-test.true
 
 pub returns : goal.returns
 returns c = all-put c.loop-w.invariant c.loop-w-test.false
-
-pub put_spec : {M : Type 1} → statement M
-put_spec =
-    tie.close
-    (tie.spec
-    invariant-loop
-    decreases-loop
-    mul-from
-    loop-holds
-    mul_words
-    element-copy-out-words
-    add_words
-    mul-words-2
-    element-write-words
-    add-w
-    loop-less
-    loop-again
-    returns)

@@ -10,6 +10,6 @@ pub count_marked-requires : goal.count_marked-requires
 count_marked-requires c = omega (arith, c.facts_of-facts.ensures, facts_below c.requires)
 
 pub returns : goal.returns
-returns c = let l = c.before.before.before.before in
+returns c =
     c.count_marked.ensures
-    ∙ painted_count (max_facts narrow) _ _ _ l.facts-of.ensures (omega (arith, facts_below l.before.requires)) _ c.mark_constraint_facts.ensures
+    ∙ painted_count (max_facts narrow) _ _ _ c.facts_of-facts.ensures (omega (arith, facts_below c.requires)) _ c.mark_constraint_facts.ensures

@@ -1,17 +1,15 @@
 -- `mark_constraint_facts`: the rules to come from here give what all give from the start.
-use Prim.Native.Nat.{◌-◌, ◌<◌}
+use Prim.Native.Nat.{◌<◌}
 use mathlib.Core.Path.{◌≡◌, sym, ◌∙◌}
 use mathlib.Core.Bool.{Bool}
-use mathlib.Core.Logic.{⊎_elim}
 use native.Mathlib.Omega.{arith}
-use borrow.Author.Tests.{not-true, not-false}
 use Rattle.tables.specs.Layout.{program_in}
 use Rattle.tables.proofs.ProgramHeld.{rules-below}
 use Rattle.theory.specs.Rule.{count, withheld}
 use Rattle.theory.proofs.Withheld.{withheld-off, read_on}
 use Rattle.marking.proofs.RulesMarked.{no-rule_marked, rules_marked, rule-marked, rule-passed}
 use Rattle.marking.proofs.marks.mark_constraint_facts.Goals as goal
-use Rattle.marking.proofs.marks.mark_constraint_facts.Goals.{After-is_withheld, In-loop-i}
+use Rattle.marking.proofs.marks.mark_constraint_facts.Goals.{After-is_withheld, In-loop-i, then-not-is_withheld, else-not-is_withheld}
 
 pub loop-i-init : goal.loop-i-init
 loop-i-init c = (c.rules_of-rules.ensures, no-rule_marked _ _)
@@ -30,22 +28,21 @@ pub is_withheld-requires : goal.is_withheld-requires
 is_withheld-requires c = (c.requires.0, known c)
 
 pub mark_own-requires : goal.mark_own-requires
-mark_own-requires c = let l = c.before.before.before.before in
-    record {
-      well_formed = (l.before.before.requires.0, known (goal.at.mark_own-requires c).In-loop-i);
-      marks_len = l.loop.invariant.1.places ∙ l.before.before.requires.1;
-    }
+mark_own-requires c = record {
+  well_formed = (c.requires.0, known (goal.at.mark_own-requires c).In-loop-i);
+  marks_len = c.loop-i.invariant.1.places ∙ c.requires.1;
+}
 
 pub overflow_add-i : goal.overflow_add-i
 overflow_add-i c = omega (arith, c.loop-i.invariant.0, rules-below c.requires.0)
 
 pub loop-i-preserved : goal.loop-i-preserved
-loop-i-preserved c = let w = c.loop-i.invariant in (
-  w.0,
-  ⊎_elim
-      (λ t. rw t.3 (rule-marked w.1 (known (goal.at.loop-i-preserved c).In-loop-i) (read_on _ _ (kind (goal.at.loop-i-preserved c).After-is_withheld _ (not-true _ t.0.taken))) _ t.2.ensures))
-      (λ t. rw t.1 (rule-passed w.1 (known (goal.at.loop-i-preserved c).In-loop-i) (withheld-off _ _ (kind (goal.at.loop-i-preserved c).After-is_withheld _ (not-false _ t.0.left)))))
-      c.if-not-is_withheld.branch,
+loop-i-preserved c = let w = c.loop-i.invariant.1 in (
+  c.loop-i.invariant.0,
+  elim c.if-not-is_withheld.branch [
+    | then-not-is_withheld t ↦ rw t.marks-is (rule-marked w (known (goal.at.loop-i-preserved c).In-loop-i) (read_on _ _ (kind (goal.at.loop-i-preserved c).After-is_withheld _ t.if-not-is_withheld.true)) _ t.mark_own.ensures)
+    | else-not-is_withheld t ↦ rw t.marks-is (rule-passed w (known (goal.at.loop-i-preserved c).In-loop-i) (withheld-off _ _ (kind (goal.at.loop-i-preserved c).After-is_withheld _ t.if-not-is_withheld.false)))
+  ],
 )
 
 pub returns : goal.returns

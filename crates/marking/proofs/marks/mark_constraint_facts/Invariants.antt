@@ -1,7 +1,6 @@
 -- `mark_constraint_facts`: the rules to come from here give what all give from the start.
 use Prim.Native.Nat.{◌-◌}
 use mathlib.Core.Path.{◌≡◌}
-use borrow.Author.Rules.{rules}
 use Rattle.tables.specs.Layout.{program_in}
 use Rattle.theory.specs.Rule.{count}
 use Rattle.marking.proofs.RulesMarked.{MarkingRules}

@@ -1,5 +1,4 @@
 -- `mark_own`: the elements to come from here give what all give from the start.
-use Prim.Native.Nat.{◌-◌}
 use native.Mathlib.Omega.{arith}
 use Rattle.tables.proofs.ProgramHeld.{facts_below}
 use Rattle.tables.proofs.PartsSpanned.{within}

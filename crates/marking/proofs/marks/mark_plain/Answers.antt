@@ -1,16 +1,13 @@
 -- `mark_plain`: the plain rules passed are marked.
-use Prim.Native.Nat.{◌-◌}
 use mathlib.Core.Path.{◌≡◌, sym, ap, ◌∙◌}
 use mathlib.Core.Bool.{Bool, not}
-use mathlib.Core.Logic.{⊎_elim}
 use native.Mathlib.Omega.{arith}
-use borrow.Author.Tests.{not-true, not-false}
 use Rattle.theory.specs.Rule.{in_force, plain_rules}
 use Rattle.tables.specs.Layout.{program_in}
 use Rattle.tables.proofs.ProgramHeld.{rules-below}
 use Rattle.marking.proofs.RulesMarked.{none_painted, one_painted, not-painted, all-painted, plain_at, plain_known}
 use Rattle.marking.proofs.marks.mark_plain.Goals as goal
-use Rattle.marking.proofs.marks.mark_plain.Goals.{After-is_exception}
+use Rattle.marking.proofs.marks.mark_plain.Goals.{After-is_exception, then-not-is_exception, else-not-is_exception}
 
 -- whether the rule is plain
 kind : (c : After-is_exception) (b : Bool) → c.is_exception.result ≡ b → plain_rules (program_in c.args.tables.now) (in_force (program_in c.args.tables.now)) c.loop-i.i ≡ not b
@@ -32,12 +29,12 @@ pub overflow_add-i : goal.overflow_add-i
 overflow_add-i c = omega (arith, c.rules_of-rules.ensures, rules-below c.requires.0)
 
 pub loop-i-preserved : goal.loop-i-preserved
-loop-i-preserved c = (
+loop-i-preserved c = let w = c.loop-i.invariant.1 in (
   omega arith,
-  ⊎_elim
-      (λ w. rw w.1 (one_painted _ _ _ _ c.loop-i.invariant.1 (kind (goal.at.loop-i-preserved c).After-is_exception _ (not-true _ w.0.taken))))
-      (λ w. rw w.1 (not-painted _ _ _ _ c.loop-i.invariant.1 (kind (goal.at.loop-i-preserved c).After-is_exception _ (not-false _ w.0.left))))
-      c.if-not-is_exception.branch,
+  elim c.if-not-is_exception.branch [
+    | then-not-is_exception t ↦ rw t.marks-is (one_painted _ _ _ _ w (kind (goal.at.loop-i-preserved c).After-is_exception _ t.if-not-is_exception.true))
+    | else-not-is_exception t ↦ rw t.marks-is (not-painted _ _ _ _ w (kind (goal.at.loop-i-preserved c).After-is_exception _ t.if-not-is_exception.false))
+  ],
 )
 
 pub returns : goal.returns

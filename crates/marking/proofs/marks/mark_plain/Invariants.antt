@@ -1,6 +1,5 @@
 -- `mark_plain`: the plain rules passed are marked.
 use Prim.Native.Nat.{◌-◌, ◌≤◌}
-use borrow.Author.Rules.{rules}
 use Rattle.theory.specs.Rule.{in_force, plain_rules}
 use Rattle.tables.specs.Layout.{program_in}
 use Rattle.marking.proofs.RulesMarked.{Painting}

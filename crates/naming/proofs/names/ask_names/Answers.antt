@@ -50,7 +50,7 @@ pub loop-item-smaller : goal.loop-item-smaller
 loop-item-smaller c = closer (found _ _ _ _ (item-read (goal.at.loop-item-smaller c).In-Found))
 
 pub loop-item-preserved : goal.loop-item-preserved
-loop-item-preserved c = (c.loop-item.invariant.0, same_row _ _ _ _ Order (item-read (goal.at.loop-item-preserved c).In-Found) tt c.loop-item.invariant.1, not-asked _ _ _ _ _ _ c.loop-item.invariant.2 _ (past-names _ _ _ _ (item-read (goal.at.loop-item-preserved c).In-Found) c.in_default.keys2))
+loop-item-preserved c = (c.loop-item.invariant.0, same_row _ _ _ _ Order (item-read (goal.at.loop-item-preserved c).In-Found) tt c.loop-item.invariant.1, not-asked _ _ _ _ _ _ c.loop-item.invariant.2 _ (past-names _ _ _ _ (item-read (goal.at.loop-item-preserved c).In-Found) c.in_default.in_default-own.keys2))
 
 pub returns-in-Ended : goal.returns-in-Ended
 returns-in-Ended c = record {

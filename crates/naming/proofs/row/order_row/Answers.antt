@@ -34,9 +34,9 @@ next_name-requires c = c.loop-item.invariant.0
 
 pub returns-in_default : goal.returns-in_default
 returns-in_default c = record {
-  row_after = (all_read c.loop-item.invariant.1 (nothing_read names_of (λ fault. refl) _ _ _ (sym c.next_name.ensures) c.in_default.keys2)).0;
-  value = (all_read c.loop-item.invariant.1 (nothing_read names_of (λ fault. refl) _ _ _ (sym c.next_name.ensures) c.in_default.keys2)).1.0;
-  row_len_2 = (all_read c.loop-item.invariant.1 (nothing_read names_of (λ fault. refl) _ _ _ (sym c.next_name.ensures) c.in_default.keys2)).1.1;
+  row_after = (all_read c.loop-item.invariant.1 (nothing_read names_of (λ fault. refl) _ _ _ (sym c.next_name.ensures) c.in_default.in_default-own.keys2)).0;
+  value = (all_read c.loop-item.invariant.1 (nothing_read names_of (λ fault. refl) _ _ _ (sym c.next_name.ensures) c.in_default.in_default-own.keys2)).1.0;
+  row_len_2 = (all_read c.loop-item.invariant.1 (nothing_read names_of (λ fault. refl) _ _ _ (sym c.next_name.ensures) c.in_default.in_default-own.keys2)).1.1;
 }
 
 pub offset_bounds-row-n : goal.offset_bounds-row-n
@@ -58,4 +58,4 @@ pub loop-item-smaller : goal.loop-item-smaller
 loop-item-smaller c = closer (found _ _ _ _ (item-read (goal.at.loop-item-smaller c).In-Found))
 
 pub loop-item-preserved : goal.loop-item-preserved
-loop-item-preserved c = (same_row _ _ _ _ Order (item-read (goal.at.loop-item-preserved c).In-Found) tt c.loop-item.invariant.0, no_name c.loop-item.invariant.1 _ (past-names _ _ _ _ (item-read (goal.at.loop-item-preserved c).In-Found) c.in_default-item.keys2))
+loop-item-preserved c = (same_row _ _ _ _ Order (item-read (goal.at.loop-item-preserved c).In-Found) tt c.loop-item.invariant.0, no_name c.loop-item.invariant.1 _ (past-names _ _ _ _ (item-read (goal.at.loop-item-preserved c).In-Found) c.in_default-item.in_default-item-own.keys2))

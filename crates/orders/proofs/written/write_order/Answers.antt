@@ -20,11 +20,11 @@ listed : (c : After-rules_of) → keyed_row c.groups_of-groups.result c.rules_of
 listed c = order-listed _ _ _ _ c.rules_of.ensures c.groups_of-groups.ensures
 
 pub write_by_key-requires : goal.write_by_key-requires
-write_by_key-requires c = let s = c.before.before.before.before.before in
-    let p = s.requires in
+write_by_key-requires c =
+    let p = c.requires in
     record {
-      count_le_max_rules = (omega (arith, c.rules_of.ensures, rules-below p.0), omega arith);
-      levels_in_bounds = omega (arith, ap (λ (l : List ℕ). length (naming l)) (listed (goal.at.write_by_key-requires c).After-rules_of), order-width (program_in s.args.tables.now) (has s.args.set.now), p.1);
+      count_le_max_rules = (omega (arith, c.rules_of.ensures, rules-below p.well_formed), omega arith);
+      levels_in_bounds = omega (arith, ap (λ (l : List ℕ). length (naming l)) (listed (goal.at.write_by_key-requires c).After-rules_of), order-width (program_in c.args.tables.now) (has c.args.set.now), p.tables_in_bounds);
     }
 
 pub returns : goal.returns

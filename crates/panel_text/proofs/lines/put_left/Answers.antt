@@ -14,23 +14,23 @@ use Rattle.panel_text.proofs.lines.put_left.Goals as goal
 use Rattle.panel_text.proofs.lines.put_left.Goals.{After-put_head-at, After-put_marked-at, After-put_marked-end, After-put_steps-at}
 
 -- what is still to come after each part
-head-put : (c : After-put_head-at) → let a = c.args in Putting (left_text a.facts a.rules a.stages a.fact-marks.now a.rule-marks.now a.row.now) 0 a.out.now (each step_line (row_of a.row.now) ++ (each (line 0x58) (places_marked 2 a.fact-marks.now a.facts) ++ (each (line 0x41) (places_marked 2 a.rule-marks.now a.rules) ++ last_line (null (places_marked 2 a.rule-marks.now a.rules))))) c.put_head-at.result c.put_head-at.new.out
+head-put : (c : After-put_head-at) → let a = c.args in Putting (left_text a.facts a.rules a.stages a.fact_marks.now a.rule_marks.now a.row.now) 0 a.out.now (each step_line (row_of a.row.now) ++ (each (line 0x58) (places_marked 2 a.fact_marks.now a.facts) ++ (each (line 0x41) (places_marked 2 a.rule_marks.now a.rules) ++ last_line (null (places_marked 2 a.rule_marks.now a.rules))))) c.put_head-at.result c.put_head-at.new.out
 unfolding left_text
 head-put c = one_put (begun _ _ _ c.requires.fits) _ _ refl _ _ c.put_head-at.ensures
 
-steps-put : (c : After-put_steps-at) (head-put-here : let a = c.args in Putting (left_text a.facts a.rules a.stages a.fact-marks.now a.rule-marks.now a.row.now) 0 a.out.now (each step_line (row_of a.row.now) ++ (each (line 0x58) (places_marked 2 a.fact-marks.now a.facts) ++ (each (line 0x41) (places_marked 2 a.rule-marks.now a.rules) ++ last_line (null (places_marked 2 a.rule-marks.now a.rules))))) c.put_head-at.result c.put_head-at.new.out) → let a = c.args in Putting (left_text a.facts a.rules a.stages a.fact-marks.now a.rule-marks.now a.row.now) 0 a.out.now (each (line 0x58) (places_marked 2 a.fact-marks.now a.facts) ++ (each (line 0x41) (places_marked 2 a.rule-marks.now a.rules) ++ last_line (null (places_marked 2 a.rule-marks.now a.rules)))) c.put_steps-at.result c.put_steps-at.new.out
+steps-put : (c : After-put_steps-at) (head-put-here : let a = c.args in Putting (left_text a.facts a.rules a.stages a.fact_marks.now a.rule_marks.now a.row.now) 0 a.out.now (each step_line (row_of a.row.now) ++ (each (line 0x58) (places_marked 2 a.fact_marks.now a.facts) ++ (each (line 0x41) (places_marked 2 a.rule_marks.now a.rules) ++ last_line (null (places_marked 2 a.rule_marks.now a.rules))))) c.put_head-at.result c.put_head-at.new.out) → let a = c.args in Putting (left_text a.facts a.rules a.stages a.fact_marks.now a.rule_marks.now a.row.now) 0 a.out.now (each (line 0x58) (places_marked 2 a.fact_marks.now a.facts) ++ (each (line 0x41) (places_marked 2 a.rule_marks.now a.rules) ++ last_line (null (places_marked 2 a.rule_marks.now a.rules)))) c.put_steps-at.result c.put_steps-at.new.out
 steps-put c head-put-here = one_put (head-put-here) _ _ refl _ _ c.put_steps-at.ensures
 
-facts-put : (c : After-put_marked-at) (steps-put-here : let a = c.args in Putting (left_text a.facts a.rules a.stages a.fact-marks.now a.rule-marks.now a.row.now) 0 a.out.now (each (line 0x58) (places_marked 2 a.fact-marks.now a.facts) ++ (each (line 0x41) (places_marked 2 a.rule-marks.now a.rules) ++ last_line (null (places_marked 2 a.rule-marks.now a.rules)))) c.put_steps-at.result c.put_steps-at.new.out) → let a = c.args in Putting (left_text a.facts a.rules a.stages a.fact-marks.now a.rule-marks.now a.row.now) 0 a.out.now (each (line 0x41) (places_marked 2 a.rule-marks.now a.rules) ++ last_line (null (places_marked 2 a.rule-marks.now a.rules))) c.put_marked-at.result c.put_marked-at.new.out
+facts-put : (c : After-put_marked-at) (steps-put-here : let a = c.args in Putting (left_text a.facts a.rules a.stages a.fact_marks.now a.rule_marks.now a.row.now) 0 a.out.now (each (line 0x58) (places_marked 2 a.fact_marks.now a.facts) ++ (each (line 0x41) (places_marked 2 a.rule_marks.now a.rules) ++ last_line (null (places_marked 2 a.rule_marks.now a.rules)))) c.put_steps-at.result c.put_steps-at.new.out) → let a = c.args in Putting (left_text a.facts a.rules a.stages a.fact_marks.now a.rule_marks.now a.row.now) 0 a.out.now (each (line 0x41) (places_marked 2 a.rule_marks.now a.rules) ++ last_line (null (places_marked 2 a.rule_marks.now a.rules))) c.put_marked-at.result c.put_marked-at.new.out
 facts-put c steps-put-here = one_put (steps-put-here) _ _ refl _ _ c.put_marked-at.ensures
 
-rules-put : (c : After-put_marked-end) (facts-put-here : let a = c.args in Putting (left_text a.facts a.rules a.stages a.fact-marks.now a.rule-marks.now a.row.now) 0 a.out.now (each (line 0x41) (places_marked 2 a.rule-marks.now a.rules) ++ last_line (null (places_marked 2 a.rule-marks.now a.rules))) c.put_marked-at.result c.put_marked-at.new.out) → let a = c.args in Putting (left_text a.facts a.rules a.stages a.fact-marks.now a.rule-marks.now a.row.now) 0 a.out.now (last_line (eqb c.put_marked-end.result c.put_marked-at.result)) c.put_marked-end.result c.put_marked-end.new.out
-rules-put c facts-put-here = nothing_put (one_put (facts-put-here) _ _ refl _ _ c.put_marked-end.ensures) _ (ap last_line (sym (none_written 0x41 (places_marked 2 c.args.rule-marks.now c.args.rules) _ _ _ _ c.put_marked-end.ensures)))
+rules-put : (c : After-put_marked-end) (facts-put-here : let a = c.args in Putting (left_text a.facts a.rules a.stages a.fact_marks.now a.rule_marks.now a.row.now) 0 a.out.now (each (line 0x41) (places_marked 2 a.rule_marks.now a.rules) ++ last_line (null (places_marked 2 a.rule_marks.now a.rules))) c.put_marked-at.result c.put_marked-at.new.out) → let a = c.args in Putting (left_text a.facts a.rules a.stages a.fact_marks.now a.rule_marks.now a.row.now) 0 a.out.now (last_line (eqb c.put_marked-end.result c.put_marked-at.result)) c.put_marked-end.result c.put_marked-end.new.out
+rules-put c facts-put-here = nothing_put (one_put (facts-put-here) _ _ refl _ _ c.put_marked-end.ensures) _ (ap last_line (sym (none_written 0x41 (places_marked 2 c.args.rule_marks.now c.args.rules) _ _ _ _ c.put_marked-end.ensures)))
 
 pub put_head-at-requires : goal.put_head-at-requires
 unfolding left_text
 put_head-at-requires c = let a = c.args in
-    next_fits (begun _ _ _ c.requires.fits) _ (each step_line (row_of a.row.now) ++ (each (line 0x58) (places_marked 2 a.fact-marks.now a.facts) ++ (each (line 0x41) (places_marked 2 a.rule-marks.now a.rules) ++ last_line (null (places_marked 2 a.rule-marks.now a.rules))))) refl
+    next_fits (begun _ _ _ c.requires.fits) _ (each step_line (row_of a.row.now) ++ (each (line 0x58) (places_marked 2 a.fact_marks.now a.facts) ++ (each (line 0x41) (places_marked 2 a.rule_marks.now a.rules) ++ last_line (null (places_marked 2 a.rule_marks.now a.rules))))) refl
 
 pub put_steps-at-requires : goal.put_steps-at-requires
 put_steps-at-requires c = next_fits (head-put (goal.at.put_steps-at-requires c).After-put_head-at) _ _ refl

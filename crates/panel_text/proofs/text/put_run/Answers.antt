@@ -16,19 +16,16 @@ use Rattle.panel_text.proofs.TextShown.{front-text}
 use Rattle.panel_text.proofs.Lengths.{order_fits, few_tabled, text_fits}
 use Rattle.panel_text.proofs.RunLines.{RunEnded, ran-through, not-refused, tables, steps-inside, left-lines}
 use Rattle.panel_text.proofs.text.put_run.Goals as goal
-use Rattle.panel_text.proofs.text.put_run.Goals.{After-put_order-named, After-run, After-shared_slice_known-1}
-
--- the facts of the file
-few : (c : After-shared_slice_known-1) → (program_of c.args.file.now).facts < max_facts narrow
-few c = few_tabled c.requires.accepted.1
+use Rattle.panel_text.proofs.text.put_run.Goals.{After-put_order-named, After-run}
 
 -- the order, by the file
 order-written : (c : After-put_order-named) → Put (naming (ascending (program_of c.args.file.now))) 0 (replicate (max_rules * name_width) 0) c.put_order-named.result c.put_order-named.new.out
 order-written c = rw c.requires.accepted.1.program at c.put_order-named.ensures
 
 -- what the run leaves
-ended : (c : After-run) (few-here : (program_of c.args.file.now).facts < max_facts narrow) (order-written-here : Put (naming (ascending (program_of c.args.file.now))) 0 (replicate (max_rules * name_width) 0) c.put_order-named.result c.put_order-named.new.out) → RunEnded (program_of c.args.file.now) (run (program_of c.args.file.now) (in_force (program_of c.args.file.now)) (ascending (program_of c.args.file.now))) c.run.result c.run.new.fact_marks c.run.new.rule_marks c.run.new.steps
-ended c few-here order-written-here = ran-through _ _ (few-here) c.requires.accepted.0.accepted (front-text _ _ _ _ (order-written-here)) _ _ _ _ c.run.ensures.fact
+ended : (c : After-run) → RunEnded (program_of c.args.file.now) (run (program_of c.args.file.now) (in_force (program_of c.args.file.now)) (ascending (program_of c.args.file.now))) c.run.result c.run.new.fact_marks c.run.new.rule_marks c.run.new.steps
+ended c =
+    ran-through _ _ (few_tabled c.requires.accepted.1) c.requires.accepted.0.accepted (front-text _ _ _ _ (rw c.requires.accepted.1.program at c.put_order-named.ensures)) _ _ _ _ c.run.ensures.fact
 
 pub put_order-named-requires : goal.put_order-named-requires
 put_order-named-requires c = record {
@@ -43,22 +40,22 @@ pub slice_bounds-run-end : goal.slice_bounds-run-end
 slice_bounds-run-end c = sym (length-take-le _ _ (put_inside _ _ _ _ _ (order_fits _ c.requires.accepted.0.accepted) (order-written (goal.at.slice_bounds-run-end c).After-put_order-named)))
 
 pub slice_bounds-steps-end : goal.slice_bounds-steps-end
-slice_bounds-steps-end c = steps-inside c.requires.accepted.0 (few (goal.at.slice_bounds-steps-end c).After-shared_slice_known-1) _ _ _ _ _ (ended (goal.at.slice_bounds-steps-end c).After-run (few (goal.at.slice_bounds-steps-end c).After-shared_slice_known-1) (order-written (goal.at.slice_bounds-steps-end c).After-put_order-named)) _ _ c.in-Done.is
+slice_bounds-steps-end c = steps-inside c.requires.accepted.0 (few_tabled c.requires.accepted.1) _ _ _ _ _ (ended (goal.at.slice_bounds-steps-end c).After-run) _ _ c.in-Done.is
 
 pub slice_bounds-put_left-end-in-Done-2 : goal.slice_bounds-put_left-end-in-Done-2
-slice_bounds-put_left-end-in-Done-2 c = sym (length-take-le _ _ (steps-inside c.requires.accepted.0 (few (goal.at.slice_bounds-put_left-end-in-Done-2 c).After-shared_slice_known-1) _ _ _ _ _ (ended (goal.at.slice_bounds-put_left-end-in-Done-2 c).After-run (few (goal.at.slice_bounds-put_left-end-in-Done-2 c).After-shared_slice_known-1) (order-written (goal.at.slice_bounds-put_left-end-in-Done-2 c).After-put_order-named)) _ _ c.in-Done.is))
+slice_bounds-put_left-end-in-Done-2 c = sym (length-take-le _ _ (steps-inside c.requires.accepted.0 (few_tabled c.requires.accepted.1) _ _ _ _ _ (ended (goal.at.slice_bounds-put_left-end-in-Done-2 c).After-run) _ _ c.in-Done.is))
 
 pub put_left-requires : goal.put_left-requires
 put_left-requires c = let p = c.requires in
-    let f = few (goal.at.put_left-requires c).After-shared_slice_known-1 in
-    let run-ended = ended (goal.at.put_left-requires c).After-run (few (goal.at.put_left-requires c).After-shared_slice_known-1) (order-written (goal.at.put_left-requires c).After-put_order-named) in
+    let f = few_tabled p.accepted.1 in
+    let run-ended = ended (goal.at.put_left-requires c).After-run in
     record {
       tables = tables p.accepted.0 f _ _ _ _ _ run-ended;
       fits = rw (left-lines p.accepted.0 f _ _ _ _ _ run-ended _ _ c.in-Done.is) (record { inside = omega (arith, p.narrow_in_bounds, text_fits _ f p.accepted.0.accepted (ascending (program_of c.args.file.now))) });
     }
 
 pub returns-in-Refused : goal.returns-in-Refused
-returns-in-Refused c = absurd (not-refused _ _ _ _ _ _ (ended (goal.at.returns-in-Refused c).After-run (few (goal.at.returns-in-Refused c).After-shared_slice_known-1) (order-written (goal.at.returns-in-Refused c).After-put_order-named)) _ c.in-Refused.is)
+returns-in-Refused c = absurd (not-refused _ _ _ _ _ _ (ended (goal.at.returns-in-Refused c).After-run) _ c.in-Refused.is)
 
 pub returns-in-Done : goal.returns-in-Done
-returns-in-Done c = rw (left-lines c.requires.accepted.0 (few (goal.at.returns-in-Done c).After-shared_slice_known-1) _ _ _ _ _ (ended (goal.at.returns-in-Done c).After-run (few (goal.at.returns-in-Done c).After-shared_slice_known-1) (order-written (goal.at.returns-in-Done c).After-put_order-named)) _ _ c.in-Done.is) at c.put_left.ensures
+returns-in-Done c = rw (left-lines c.requires.accepted.0 (few_tabled c.requires.accepted.1) _ _ _ _ _ (ended (goal.at.returns-in-Done c).After-run) _ _ c.in-Done.is) at c.put_left.ensures

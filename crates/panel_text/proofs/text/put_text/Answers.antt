@@ -8,10 +8,10 @@ use Rattle.panel_lines.specs.Text.{line, ascending, panel_text}
 use Rattle.panel_text.proofs.Lengths.{line-length, few_tabled, text_fits}
 use Rattle.panel_text.proofs.RunLines.{refused-text, accepted_text}
 use Rattle.panel_text.proofs.text.put_text.Goals as goal
-use Rattle.panel_text.proofs.text.put_text.Goals.{After-number, In-Yes-2}
+use Rattle.panel_text.proofs.text.put_text.Goals.{After-number, In-Yes}
 
 -- past the questions on the file
-accepted-there : (c : In-Yes-2) → Accepted c.args.file.now c.in-Yes.counts
+accepted-there : (c : In-Yes) → Accepted c.args.file.now c.in-Yes.counts
 accepted-there c = file_yes _ _ (sym c.scan.ensures.value ∙ c.in-Yes.is)
 
 -- a refusal, with its number
@@ -19,10 +19,10 @@ stopped : (c : After-number) → panel_text c.args.file.now ≡ line 0x45 c.numb
 stopped c = refused-text _ _ (file-no _ _ (sym c.scan.ensures.value ∙ c.in-No.is)) ∙ ap (line 0x45) (sym c.number.ensures)
 
 pub put_line-requires : goal.put_line-requires
-put_line-requires c = record { inside = omega (arith, c.requires, line-length 0x45 c.number.result (omega (arith, c.number.type-inv))) }
+put_line-requires c = record { inside = omega (arith, c.requires, line-length 0x45 c.number.result (omega (arith, c.number.type_inv))) }
 
 pub put_run-requires : goal.put_run-requires
-put_run-requires c = let p = accepted-there (goal.at.put_run-requires c).In-Yes-2 in
+put_run-requires c = let p = accepted-there (goal.at.put_run-requires c).In-Yes in
     record {
       accepted = (p, c.scan.ensures.scanned p.accepted);
       narrow_in_bounds = c.requires;
@@ -31,11 +31,11 @@ put_run-requires c = let p = accepted-there (goal.at.put_run-requires c).In-Yes-
 pub returns-in-No : goal.returns-in-No
 returns-in-No c = record {
   put = rw (stopped (goal.at.returns-in-No c).After-number) c.put_line.ensures;
-  upper_bound = omega (arith, c.put_line.ensures.behind, line-length 0x45 c.number.result (omega (arith, c.number.type-inv)));
+  upper_bound = omega (arith, c.put_line.ensures.behind, line-length 0x45 c.number.result (omega (arith, c.number.type_inv)));
 }
 
 pub returns-in-Yes : goal.returns-in-Yes
-returns-in-Yes c = let p = accepted-there (goal.at.returns-in-Yes c).In-Yes-2 in
+returns-in-Yes c = let p = accepted-there (goal.at.returns-in-Yes c).In-Yes in
     record {
       put = rw (accepted_text _ p.accepted) c.put_run.ensures;
       upper_bound = omega (arith, c.put_run.ensures.behind, text_fits _ (few_tabled (c.scan.ensures.scanned p.accepted)) p.accepted (ascending (program_of c.args.file.now)));

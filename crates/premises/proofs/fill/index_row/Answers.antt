@@ -1,5 +1,4 @@
 -- `index_row`: the rules at the places before are indexed.
-use Prim.Native.Nat.{◌-◌}
 use mathlib.Core.Path.{◌≡◌, refl}
 use native.Mathlib.Omega.{arith}
 use borrow.Author.Tests.{lt-ltb}
@@ -17,7 +16,7 @@ pub bounds-row-place : goal.bounds-row-place
 bounds-row-place c = omega (arith, c.requires.1.few)
 
 pub index_next-requires : goal.index_next-requires
-index_next-requires c = (c.requires.0, rule_known c.requires.1 _ c.loop-place-test.true, omega (arith, c.requires.1.few, c.loop-place-test.true), omega (arith, c.index_next-arg-1.given.0))
+index_next-requires c = (c.requires.0, rule_known c.requires.1 _ c.loop-place-test.true, omega (arith, c.requires.1.few, c.loop-place-test.true), omega arith)
 
 pub overflow_add-place : goal.overflow_add-place
 overflow_add-place c = omega (arith, c.requires.1.few, c.loop-place-test.true)

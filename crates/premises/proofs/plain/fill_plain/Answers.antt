@@ -1,5 +1,4 @@
 -- `fill_plain`: the plain rules before a number are indexed.
-use Prim.Native.Nat.{◌-◌}
 use mathlib.Core.Path.{◌≡◌, refl, sym, ◌∙◌}
 use native.Mathlib.Omega.{arith}
 use Rattle.theory.specs.Rule.{count}
@@ -26,7 +25,7 @@ pub loop-i-preserved-then-is_exception : goal.loop-i-preserved-then-is_exception
 loop-i-preserved-then-is_exception c = (omega arith, c.loop-i.invariant.1, place_passed c.loop-i.invariant.2 (none_plain _ _ (sym c.is_exception.ensures ∙ c.if-is_exception.true)))
 
 pub index_next-requires : goal.index_next-requires
-index_next-requires c = (c.requires.0, omega (arith, c.rules_of-rules.ensures, c.loop-i-test.true), omega (arith, c.rules_of-rules.ensures, rules-below c.requires.0, c.loop-i-test.true), omega (arith, c.index_next-arg-1.given.0))
+index_next-requires c = (c.requires.0, omega (arith, c.rules_of-rules.ensures, c.loop-i-test.true), omega (arith, c.rules_of-rules.ensures, rules-below c.requires.0, c.loop-i-test.true), omega arith)
 
 pub overflow_add-i-in-loop-i : goal.overflow_add-i-in-loop-i
 overflow_add-i-in-loop-i c = omega (arith, c.rules_of-rules.ensures, rules-below c.requires.0, c.loop-i-test.true)

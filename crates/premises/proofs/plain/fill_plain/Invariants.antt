@@ -1,6 +1,5 @@
 -- `fill_plain`: the plain rules before a number are indexed.
 use Prim.Native.Nat.{◌-◌, ◌≤◌}
-use borrow.Author.Rules.{rules}
 use Rattle.tables.specs.Layout.{program_in}
 use Rattle.bits.specs.Matrix.{matrix_words, SameFrom}
 use Rattle.premises.specs.Premises.{plain_ones}

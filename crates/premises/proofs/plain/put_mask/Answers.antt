@@ -1,5 +1,5 @@
 -- `put_mask`: the words before one are put.
-use Prim.Native.Nat.{◌-◌, ◌<◌}
+use Prim.Native.Nat.{◌<◌}
 use native.Mathlib.Omega.{arith}
 use Rattle.tables.proofs.ProgramHeld.{rules-below}
 use Rattle.bits.specs.Flags.{row_words}

@@ -1,5 +1,4 @@
 -- `enter`: the words to come from here give what the row gives from the start.
-use Prim.Native.Nat.{◌-◌}
 use Rattle.premises.proofs.CountsLowered.{no_word, next_word, row-lowered}
 use Rattle.premises.proofs.wake.enter.Goals as goal
 
@@ -11,20 +10,3 @@ loop-at-preserved c = next_word c.loop-at.invariant c.loop-at-test.true c.lower.
 
 pub returns : goal.returns
 returns c = row-lowered c.loop-at.invariant c.loop-at-test.false
-
-pub enter_spec : {M : Type 1} → statement M
-enter_spec =
-    tie.close
-    (tie.spec
-    invariant-loop
-    decreases-loop
-    mul-from
-    loop-holds
-    add-lower
-    mul-lower
-    shared-slice-read-lower
-    lower-requires
-    add_at
-    loop-less
-    loop-again
-    returns)

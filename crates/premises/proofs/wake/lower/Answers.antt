@@ -40,26 +40,3 @@ loop-left-preserved c = place_lowered c.loop-left.invariant (omega (arith, c.loo
 
 pub returns : goal.returns
 returns c = word-lowered c.loop-left.invariant c.loop-left-test.false
-
-pub lower_spec : {M : Type 1} → statement M
-lower_spec =
-    tie.close
-    (tie.spec
-    invariant-loop
-    decreases-loop
-    loop-holds
-    mul-place
-    lowest-bit-requires
-    add-place
-    without-lowest-requires
-    mul-one-less
-    element-copy-out-one-less
-    one-less-requires
-    mul-missing
-    element-write-missing
-    mark-requires
-    loop-less
-    loop-again
-    loop-less-2
-    loop-again-2
-    returns)

@@ -1,5 +1,4 @@
 -- `lower`: the bits to come from here give what all give from the start.
-use Prim.Native.Nat.{◌-◌}
 use Rattle.premises.proofs.CountsLowered.{WordLoweringAny}
 use Rattle.premises.proofs.wake.lower.Given as goal
 

@@ -1,5 +1,5 @@
 -- `wake`: the rules to come from here give what all give from the start.
-use Prim.Native.Nat.{◌-◌, ◌<◌}
+use Prim.Native.Nat.{◌<◌}
 use mathlib.Core.Path.{◌≡◌, ap}
 use native.Mathlib.Omega.{arith}
 use lib.ListN.{get_or}
@@ -16,10 +16,10 @@ use Rattle.premises.proofs.wake.wake.Goals.{After-conclusion-fact}
 number_is : (c : After-conclusion-fact) → c.conclusion-fact.result.0 ≡ (rule (program_in c.args.tables.now) (get_or c.args.fired.now c.loop-at.at 0)).conclusion
 number_is c = ap (λ (f : FactId). f.0) c.conclusion-fact.ensures
 
-small : (c : After-conclusion-fact) (number_is-here : c.conclusion-fact.result.0 ≡ (rule (program_in c.args.tables.now) (get_or c.args.fired.now c.loop-at.at 0)).conclusion) → c.conclusion-fact.result.0 < max_facts narrow
-small c number_is-here =
+small : (c : After-conclusion-fact) → c.conclusion-fact.result.0 < max_facts narrow
+small c =
     let w = c.requires.0 in
-    omega (arith, number_is-here, conclusion_below w (rule_known w.in_bounds c.requires.1 c.loop-at.invariant c.loop-at-test.true), facts_below w)
+    omega (arith, number_is c, conclusion_below w (rule_known w.in_bounds c.requires.1 c.loop-at.invariant c.loop-at-test.true), facts_below w)
 
 pub loop-at-init : goal.loop-at-init
 loop-at-init c = none_entered c.requires.1 _ _ _
@@ -34,16 +34,16 @@ pub conclusion-fact-requires : goal.conclusion-fact-requires
 conclusion-fact-requires c = (c.requires.0, rule_known c.requires.0.in_bounds c.requires.1 c.loop-at.invariant c.loop-at-test.true)
 
 pub overflow_cast-number : goal.overflow_cast-number
-overflow_cast-number c = omega (arith, small (goal.at.overflow_cast-number c).After-conclusion-fact (number_is (goal.at.overflow_cast-number c).After-conclusion-fact))
+overflow_cast-number c = omega (arith, small (goal.at.overflow_cast-number c).After-conclusion-fact)
 
 pub enter-requires : goal.enter-requires
-enter-requires c = omega (arith, small (goal.at.enter-requires c).After-conclusion-fact (number_is (goal.at.enter-requires c).After-conclusion-fact), c.enter-arg-1.given.0)
+enter-requires c = omega (arith, small (goal.at.enter-requires c).After-conclusion-fact)
 
 pub overflow_add-at : goal.overflow_add-at
 overflow_add-at c = omega (arith, c.requires.1.high)
 
 pub loop-at-preserved : goal.loop-at-preserved
-loop-at-preserved c = one_entered c.requires.0.in_bounds c.requires.1 c.loop-at.invariant c.loop-at-test.true _ (number_is (goal.at.loop-at-preserved c).After-conclusion-fact) (small (goal.at.loop-at-preserved c).After-conclusion-fact (number_is (goal.at.loop-at-preserved c).After-conclusion-fact)) c.enter.ensures
+loop-at-preserved c = one_entered c.requires.0.in_bounds c.requires.1 c.loop-at.invariant c.loop-at-test.true _ (number_is (goal.at.loop-at-preserved c).After-conclusion-fact) (small (goal.at.loop-at-preserved c).After-conclusion-fact) c.enter.ensures
 
 pub returns : goal.returns
 returns c = all-entered c.requires.0.in_bounds c.requires.1 c.loop-at.invariant c.loop-at-test.false

@@ -1,5 +1,5 @@
 -- The facts of the row from place n on are still to be held out.
-use Prim.Native.Nat.{ℕ, ◌-◌, ◌≤◌, ◌<◌}
+use Prim.Native.Nat.{ℕ, ◌≤◌, ◌<◌}
 use native.Mathlib.Omega.{arith}
 use lib.ListN.{length, get_or, take, replicate, length-replicate, drop_of_length-le}
 use lib.Seq.{length-take-le}

@@ -1,6 +1,5 @@
 -- Of the rules before rule i, those that ask nothing have their conclusions.
 use Prim.Native.Nat.{◌-◌}
-use borrow.Author.Rules.{rules}
 use Rattle.tables.specs.Layout.{program_in}
 use Rattle.index.specs.Cells.{on_in}
 use Rattle.propagation.proofs.FactsHeldOut.{Starting}

@@ -11,9 +11,7 @@ pub conclusion-fact-requires : goal.conclusion-fact-requires
 conclusion-fact-requires c = (c.requires.well_formed, c.requires.rule_bound.0)
 
 pub wait-requires : goal.wait-requires
-wait-requires c = let b = c.before.before.before in
-    (conclusion_literal b.before.requires.0 _ b.before.requires.1.0 _ b.conclusion.ensures, b.before.requires.1.1)
+wait-requires c = (conclusion_literal c.requires.well_formed _ c.requires.rule_bound.0 _ c.conclusion-fact.ensures, c.requires.rule_bound.1)
 
 pub returns : goal.returns
-returns c = let b = c.before.before.before.before in
-    read_concluded b.before.requires.0 _ b.before.requires.1.0 _ b.conclusion.ensures c.wait.ensures
+returns c = read_concluded c.requires.well_formed _ c.requires.rule_bound.0 _ c.conclusion-fact.ensures c.wait.ensures

@@ -33,10 +33,10 @@ pub bounds-marks-literal-then-marks-literal-eq-WAITING : goal.bounds-marks-liter
 bounds-marks-literal-then-marks-literal-eq-WAITING c = last-literal (here (goal.at.bounds-marks-literal-then-marks-literal-eq-WAITING c).In-loop-top)
 
 pub tell-top-requires : goal.tell-top-requires
-tell-top-requires c = let b = c.before.before.before.before.before.before in
+tell-top-requires c = let l = here (goal.at.tell-top-requires c).In-loop-top in
     record {
-      ready = (b.before.before.requires.0, last-literal (here b));
-      spreading = true_spreads (here b) c.if-marks-literal-eq-WAITING.true;
+      ready = (c.requires.ready, last-literal l);
+      spreading = true_spreads l c.if-marks-literal-eq-WAITING.true;
     }
 
 pub loop-top-smaller-then-marks-literal-eq-WAITING : goal.loop-top-smaller-then-marks-literal-eq-WAITING

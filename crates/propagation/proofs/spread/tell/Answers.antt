@@ -23,7 +23,7 @@ before-there : (c : In-At) → NoneBefore (c.in-At.rule / word_bits) c.take_from
 before-there c = c.take_from.ensures.by_index_2 _ c.in-At.is
 
 pub row_of-left-requires : goal.row_of-left-requires
-row_of-left-requires c = omega (arith, c.requires.ready.1, c.row_of-arg-1.given.0)
+row_of-left-requires c = omega arith
 
 pub loop-rule-init : goal.loop-rule-init
 loop-rule-init c = (none_told c.requires.ready.0.indexed _ c.row_of-left.ensures c.requires.ready.1 c.requires.spreading, nothing_yet _ _, λ k h. absurd (omega arith))

@@ -23,16 +23,3 @@ overflow_add-result c = omega (arith, has_room (goal.at.overflow_add-result c).E
 
 pub returns : goal.returns
 returns c = told-now c.requires.1 c.args.literal c.requires.0 c.if-marks-literal-ne0.false
-
-pub wait_spec : {M : Type 1} → statement M
-wait_spec =
-    tie.close
-    (tie.spec
-    element-copy-out-if1
-    returns
-    element-write-marks
-    cast-stack
-    mul-stack
-    element-write-stack
-    add-result
-    returns-2)

@@ -8,14 +8,12 @@ use Rattle.questions.proofs.fact_set.ask_set.Goals as goal
 
 pub returns-in-No : goal.returns-in-No
 unfolding ask_set_questions
-returns-in-No c = record {
-  value = (answer_numbered _ _ (sym (ap answer_of (file_refused _ _ _ (sym c.scan.ensures.value ∙ c.in-No.is))))).0;
-  answer_numbers = (answer_numbered _ _ (sym (ap answer_of (file_refused _ _ _ (sym c.scan.ensures.value ∙ c.in-No.is))))).1;
-}
+returns-in-No c =
+    let p = answer_numbered (ask_set_questions c.args.file.now c.args.set.now) _ (sym (ap answer_of (file_refused _ _ _ (sym c.scan.ensures.value ∙ c.in-No.is)))) in
+    record { value = p.0; answer_numbers = p.1 }
 
 pub returns-in-Yes : goal.returns-in-Yes
-returns-in-Yes c = let p = file_yes _ _ (sym c.scan.ensures.value ∙ c.in-Yes.is) in
-    record {
-      value = (answer_numbered _ _ (c.ask_set_of.ensures ∙ ap answer_of (set-questions _ p.accepted _ _ p.facts))).0;
-      answer_numbers = (answer_numbered _ _ (c.ask_set_of.ensures ∙ ap answer_of (set-questions _ p.accepted _ _ p.facts))).1;
-    }
+returns-in-Yes c =
+    let a = file_yes _ _ (sym c.scan.ensures.value ∙ c.in-Yes.is) in
+    let p = answer_numbered (ask_set_questions c.args.file.now c.args.set.now) _ (c.ask_set_of.ensures ∙ ap answer_of (set-questions _ a.accepted _ _ a.facts)) in
+    record { value = p.0; answer_numbers = p.1 }

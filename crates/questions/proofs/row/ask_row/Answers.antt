@@ -8,14 +8,12 @@ use Rattle.questions.proofs.row.ask_row.Goals as goal
 
 pub returns-in-No : goal.returns-in-No
 unfolding ask_row_questions
-returns-in-No c = record {
-  value = (answer_numbered _ _ (sym (ap answer_of (file_refused _ _ _ (sym c.scan.ensures.value ∙ c.in-No.is))))).0;
-  answer_numbers = (answer_numbered _ _ (sym (ap answer_of (file_refused _ _ _ (sym c.scan.ensures.value ∙ c.in-No.is))))).1;
-}
+returns-in-No c =
+    let p = answer_numbered (ask_row_questions c.args.file.now c.args.fact c.args.row.now) _ (sym (ap answer_of (file_refused _ _ _ (sym c.scan.ensures.value ∙ c.in-No.is)))) in
+    record { value = p.0; answer_numbers = p.1 }
 
 pub returns-in-Yes : goal.returns-in-Yes
-returns-in-Yes c = let p = file_yes _ _ (sym c.scan.ensures.value ∙ c.in-Yes.is) in
-    record {
-      value = (answer_numbered _ _ (c.ask_row_of.ensures ∙ ap answer_of (row-questions _ p.accepted _ _ _ p.facts))).0;
-      answer_numbers = (answer_numbered _ _ (c.ask_row_of.ensures ∙ ap answer_of (row-questions _ p.accepted _ _ _ p.facts))).1;
-    }
+returns-in-Yes c =
+    let a = file_yes _ _ (sym c.scan.ensures.value ∙ c.in-Yes.is) in
+    let p = answer_numbered (ask_row_questions c.args.file.now c.args.fact c.args.row.now) _ (c.ask_row_of.ensures ∙ ap answer_of (row-questions _ a.accepted _ _ _ a.facts)) in
+    record { value = p.0; answer_numbers = p.1 }

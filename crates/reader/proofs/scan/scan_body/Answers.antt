@@ -8,7 +8,5 @@ pub scan_rules-requires : goal.scan_rules-requires
 scan_rules-requires c = (c.requires.1, c.requires.2, (_, c.scan_unread-start.ensures))
 
 pub returns : goal.returns
-returns c = record {
-  value = (c.scan_rules.ensures _ c.scan_unread-start.ensures.scanned).0;
-  body_scanned = (c.scan_rules.ensures _ c.scan_unread-start.ensures.scanned).1;
-}
+returns c = let p = c.scan_rules.ensures _ c.scan_unread-start.ensures.scanned in
+    record { value = p.0; body_scanned = p.1 }

@@ -1,7 +1,7 @@
 -- `scan_unread`: what was read up to the cursor are unread facts, and they are taken.
-use Prim.Native.Nat.{◌-◌}
 use mathlib.Core.Path.{refl, sym, ◌∙◌}
 use native.Mathlib.Omega.{arith}
+use borrow.Enum.Refused.{opened}
 use Rattle.cursors.proofs.Items.{found, closer}
 use Rattle.reader.proofs.BodyRead.{nothing-scanned, unread_scanned, found_as, read_as}
 use Rattle.reader.proofs.UnreadLate.{taken-at_refusal, taken-at_end, taken-at_other, taken-at_high}
@@ -29,7 +29,7 @@ pub loop-cursor-preserved : goal.loop-cursor-preserved
 loop-cursor-preserved c = unread_scanned c.loop-cursor.invariant c.requires.1 (read_as (sym c.next_in_body.ensures ∙ c.in-Found.is) c.in-Unread.is) c.if-facts-f.false refl _ _ c.store_unread.ensures.tables_after c.store_unread.ensures.marks_after
 
 pub returns-in_default : goal.returns-in_default
-returns-in_default c = taken-at_other c.loop-cursor.invariant _ (sym c.next_in_body.ensures ∙ c.in-Found.is) c.in_default.keys2
+returns-in_default c = taken-at_other c.loop-cursor.invariant _ (sym c.next_in_body.ensures ∙ c.in-Found.is) (opened c.in_default.in_default-own.keys2)
 
 pub returns-in-Ended : goal.returns-in-Ended
 returns-in-Ended c = taken-at_end c.loop-cursor.invariant _ (sym c.next_in_body.ensures ∙ c.in-Ended.is)

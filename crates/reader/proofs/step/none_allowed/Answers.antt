@@ -1,4 +1,4 @@
--- `none_allowed_lem`: question 7, then 51.
+-- `none_allowed`: question 7, then 51.
 use borrow.Author.Tests.{eq-eqb, ne_eqb}
 use Rattle.reader.proofs.step.none_allowed.Goals as goal
 

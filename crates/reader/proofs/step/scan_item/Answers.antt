@@ -23,4 +23,4 @@ returns-in-Unread c = λ s len late c₀ here short small w e.
     (refuses (unread_refused w (read_as e c.in-Unread.is) (λ f q. late f (c.in-Unread.is ∙ q))))
 
 pub returns-in_default : goal.returns-in_default
-returns-in_default c = λ s len late c₀ here short small w e. refuses (other_row w.verdict (found _ _ _ _ e) c.in_default.keys6)
+returns-in_default c = λ s len late c₀ here short small w e. refuses (other_row w.verdict (found _ _ _ _ e) c.in_default.in_default-own.keys6)

@@ -2,7 +2,6 @@
 use mathlib.Core.Path.{sym, ap, ◌∙◌}
 use mathlib.Core.Option.{some}
 use native.Mathlib.Omega.{arith}
-use borrow.Author.Rules.{rules}
 use Rattle.items.specs.declared.refusal.Refusal.{Refusal}
 use Rattle.cursors.proofs.Items.{found}
 use Rattle.reader.proofs.BodyAsked.{own-constraint, own-too_high}
@@ -13,7 +12,7 @@ pub returns-then-facts-f : goal.returns-then-facts-f
 returns-then-facts-f c = λ s c₀ here short small w e. refuses (own-too_high w.verdict (own-constraint _) (found _ _ _ _ e) c.if-facts-f.true)
 
 pub returns-then-before-eq0 : goal.returns-then-before-eq0
-returns-then-before-eq0 c = λ s c₀ here short small w e. refuses (none_allowed_lem w (own-constraint _) (found _ _ _ _ e) c.if-facts-f.false c.if-before-eq0.true ∙ ap (λ (r : Refusal). some r) (sym c.none_allowed_lem.ensures))
+returns-then-before-eq0 c = λ s c₀ here short small w e. refuses (none_allowed_lem w (own-constraint _) (found _ _ _ _ e) c.if-facts-f.false c.if-before-eq0.true ∙ ap (λ (r : Refusal). some r) (sym c.none_allowed.ensures))
 
 pub overflow_sub-tables : goal.overflow_sub-tables
 overflow_sub-tables c = let r = c.requires in omega (arith, r.within, r.rules, c.if-before-eq0.false)

@@ -1,5 +1,6 @@
 -- `begins_unread`: what the read finds.
 use mathlib.Core.Path.{refl, sym, ◌∙◌}
+use borrow.Enum.Refused.{opened}
 use Rattle.items.specs.Item.{body_length}
 use Rattle.cursors.proofs.Items.{found}
 use Rattle.reader.proofs.BodyRead.{read_as}
@@ -19,7 +20,7 @@ returns-in-Unread c = sym (unread_there _ _ _ (read_as (sym c.next_in_body.ensur
 
 pub returns-in_default : goal.returns-in_default
 unfolding body_length
-returns-in_default c = sym (no-unread_at_other _ _ _ (found _ _ _ _ (sym c.next_in_body.ensures ∙ c.in-Found.is)) c.in_default.keys2)
+returns-in_default c = sym (no-unread_at_other _ _ _ (found _ _ _ _ (sym c.next_in_body.ensures ∙ c.in-Found.is)) (opened c.in_default.in_default-own.keys2))
 
 pub returns-in-Ended : goal.returns-in-Ended
 unfolding body_length

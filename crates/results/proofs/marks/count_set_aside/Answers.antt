@@ -2,7 +2,6 @@
 use Prim.Native.Nat.{ℕ, ◌-◌, ◌<◌}
 use mathlib.Core.Path.{◌≡◌, ap, ◌∙◌, sym}
 use mathlib.Core.Bool.{Bool}
-use mathlib.Core.Logic.{⊎_elim}
 use native.Mathlib.Omega.{arith}
 use borrow.Author.Tests.{eq-eqb, ne_eqb}
 use lib.Dec.{eqb}
@@ -13,7 +12,7 @@ use Rattle.items.specs.Item.{has}
 use Rattle.tables.specs.Layout.{program_in}
 use Rattle.tables.proofs.ProgramHeld.{in_table}
 use Rattle.results.proofs.marks.count_set_aside.Goals as goal
-use Rattle.results.proofs.marks.count_set_aside.Goals.{After-rule_mark, In-loop-i}
+use Rattle.results.proofs.marks.count_set_aside.Goals.{After-rule_mark, In-loop-i, then-rule_mark-eq-SET_ASIDE, else-rule_mark-eq-SET_ASIDE}
 
 -- the rule looked at is one of the program
 inside : (c : In-loop-i) → c.loop-i.i < count (program_in c.args.tables.now)
@@ -44,10 +43,19 @@ overflow_add-n c = omega (arith, c.loop-i.invariant.0)
 
 pub loop-i-preserved : goal.loop-i-preserved
 unfolding has
-loop-i-preserved c = ⊎_elim
-    (λ t. rw t.1 (omega (arith, c.loop-i.invariant.0), λ s a d. one_counted (c.loop-i.invariant.1 s a d) (inside (goal.at.loop-i-preserved c).In-loop-i) (sym (ap (λ (m : ℕ). eqb m 2) (marked (goal.at.loop-i-preserved c).After-rule_mark s a d)) ∙ eq-eqb _ 2 t.0.taken)))
-    (λ t. rw t.1 (omega (arith, c.loop-i.invariant.0), λ s a d. not-counted (c.loop-i.invariant.1 s a d) (inside (goal.at.loop-i-preserved c).In-loop-i) (sym (ap (λ (m : ℕ). eqb m 2) (marked (goal.at.loop-i-preserved c).After-rule_mark s a d)) ∙ ne_eqb _ 2 t.0.left)))
-    c.if-rule_mark-eq-SET_ASIDE.branch
+loop-i-preserved c =
+    let h = inside (goal.at.loop-i-preserved c).In-loop-i in
+    let m = marked (goal.at.loop-i-preserved c).After-rule_mark in
+    elim c.if-rule_mark-eq-SET_ASIDE.branch [
+      | then-rule_mark-eq-SET_ASIDE w ↦ rw w.n-is (
+        omega (arith, c.loop-i.invariant.0),
+        λ s a d. one_counted (c.loop-i.invariant.1 s a d) h (sym (ap (λ (k : ℕ). eqb k 2) (m s a d)) ∙ eq-eqb _ 2 w.if-rule_mark-eq-SET_ASIDE.true),
+      )
+      | else-rule_mark-eq-SET_ASIDE w ↦ rw w.n-is (
+        omega (arith, c.loop-i.invariant.0),
+        λ s a d. not-counted (c.loop-i.invariant.1 s a d) h (sym (ap (λ (k : ℕ). eqb k 2) (m s a d)) ∙ ne_eqb _ 2 w.if-rule_mark-eq-SET_ASIDE.false),
+      )
+    ]
 
 pub returns : goal.returns
 returns c = λ s a d. all-counted (c.loop-i.invariant.1 s a d) (omega (arith, c.loop-i-test.false, c.rules_of-rules.ensures))

@@ -1,7 +1,6 @@
 -- `rule_mark`: the first test that holds tells the mark.
 use mathlib.Core.Path.{◌≡◌, sym, ◌∙◌}
 use mathlib.Core.Bool.{true}
-use borrow.Author.Tests.{not-true, not-false}
 use Rattle.theory.specs.Rule.{exception, in_force}
 use Rattle.theory.proofs.Withheld.{withheld-off, read_on}
 use Rattle.tables.specs.Layout.{program_in}
@@ -11,13 +10,13 @@ use Rattle.results.proofs.marks.rule_mark.Goals.{Else-is_withheld, Else-not-is_e
 
 -- what is known past the first test, and past the third
 is_one : (c : Else-not-is_exception) → exception (program_in c.args.tables.now) c.args.rule.0 ≡ true
-is_one c = sym c.is_exception.ensures ∙ not-false _ c.if-not-is_exception.false
+is_one c = sym c.is_exception.ensures ∙ c.if-not-is_exception.false
 
 read : (c : Else-is_withheld) → in_force (program_in c.args.tables.now) c.args.rule.0 ≡ true
 read c = read_on _ _ (sym c.is_withheld.ensures ∙ c.if-is_withheld.false)
 
 pub returns-then-not-is_exception : goal.returns-then-not-is_exception
-returns-then-not-is_exception c = λ s a d. a_plain (program_in c.args.tables.now) s _ c.requires.well_formed.1 _ a _ d (sym c.is_exception.ensures ∙ not-true _ c.if-not-is_exception.true)
+returns-then-not-is_exception c = λ s a d. a_plain (program_in c.args.tables.now) s _ c.requires.well_formed.1 _ a _ d (sym c.is_exception.ensures ∙ c.if-not-is_exception.true)
 
 pub returns-then-applied : goal.returns-then-applied
 returns-then-applied c = λ s a d. an_applied (program_in c.args.tables.now) s _ c.requires.well_formed.1 _ a _ d (is_one (goal.at.returns-then-applied c).Else-not-is_exception) c.if-applied.true

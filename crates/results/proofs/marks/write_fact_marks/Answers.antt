@@ -1,16 +1,20 @@
 -- `write_fact_marks`: the marks of the facts passed are written.
 use Prim.Native.Nat.{◌-◌}
 use mathlib.Core.Path.{◌∙◌}
-use mathlib.Core.Logic.{⊎_elim}
 use Rattle.results.proofs.MarksWritten.{none_written, one_written, all-written, a_derived, a_rejected, an_open, fact-marks}
 use Rattle.results.proofs.marks.write_fact_marks.Goals as goal
+use Rattle.results.proofs.marks.write_fact_marks.Goals.{then-marks-f-eq-IN, else-marks-f-eq-IN+then-marks-f-eq-BARRED, else-marks-f-eq-IN+else-marks-f-eq-BARRED}
 
 pub loop-f-init : goal.loop-f-init
 loop-f-init c = none_written _ _ _
 
 pub loop-f-preserved : goal.loop-f-preserved
 loop-f-preserved c = one_written _ _ _ _ _ c.loop-f.invariant c.requires.1 c.loop-f-test.true _
-    (⊎_elim (λ w. w.1 ∙ a_derived _ _ w.0.taken) (λ v. ⊎_elim (λ w. w.3 ∙ a_rejected _ _ w.0.left w.2.taken) (λ w. w.3 ∙ an_open _ _ w.0.left w.2.left) v) c.if-marks-f-eq-IN.branch)
+    (elim c.if-marks-f-eq-IN.branch [
+      | then-marks-f-eq-IN w ↦ w.out-is ∙ a_derived _ _ w.if-marks-f-eq-IN.true
+      | else-marks-f-eq-IN+then-marks-f-eq-BARRED w ↦ w.out-is ∙ a_rejected _ _ w.if-marks-f-eq-IN.false w.if-marks-f-eq-BARRED.true
+      | else-marks-f-eq-IN+else-marks-f-eq-BARRED w ↦ w.out-is ∙ an_open _ _ w.if-marks-f-eq-IN.false w.if-marks-f-eq-BARRED.false
+    ])
 
 pub shape_of-out : goal.shape_of-out
 shape_of-out c = c.loop-f.invariant.length_kept

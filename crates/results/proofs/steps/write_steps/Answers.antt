@@ -19,9 +19,6 @@ known c = c.requires.by_index _ c.loop-k-test.true
 concluded : (c : After-conclusion-fact) → c.conclusion-fact.result.0 ≡ (rule (program_in c.args.tables.now) (get_or c.args.fired.now c.loop-k.k 0)).conclusion
 concluded c = ap (λ (f : FactId). f.0) c.conclusion-fact.ensures
 
-few_facts : (c : After-conclusion-fact) (known-here : get_or c.args.fired.now c.loop-k.k 0 < count (program_in c.args.tables.now)) (concluded-here : c.conclusion-fact.result.0 ≡ (rule (program_in c.args.tables.now) (get_or c.args.fired.now c.loop-k.k 0)).conclusion) → c.conclusion-fact.result.0 < max_facts narrow
-few_facts c known-here concluded-here = omega (arith, concluded-here, conclusion_below c.requires.well_formed (known-here), facts_below c.requires.well_formed)
-
 pub loop-k-init : goal.loop-k-init
 loop-k-init c = none_written _ _ _ _
 
@@ -38,7 +35,9 @@ pub overflow_mul-k : goal.overflow_mul-k
 overflow_mul-k c = omega (arith, c.loop-k-test.true, c.requires.count_in_bounds)
 
 pub write_step_item-requires : goal.write_step_item-requires
-write_step_item-requires c = (few_facts (goal.at.write_step_item-requires c).After-conclusion-fact (known (goal.at.write_step_item-requires c).In-loop-k) (concluded (goal.at.write_step_item-requires c).After-conclusion-fact), omega (arith, c.loop-k-test.true, c.requires.count_in_bounds, c.loop-k.invariant.length_kept))
+write_step_item-requires c =
+    let at = goal.at.write_step_item-requires c in
+    (omega (arith, concluded at.After-conclusion-fact, conclusion_below c.requires.well_formed (known at.In-loop-k), facts_below c.requires.well_formed), omega (arith, c.loop-k.invariant.length_kept))
 
 pub overflow_add-k : goal.overflow_add-k
 overflow_add-k c = omega (arith, c.loop-k-test.true, c.requires.count_in_bounds)
@@ -47,7 +46,7 @@ pub loop-k-smaller : goal.loop-k-smaller
 loop-k-smaller c = omega (arith, c.loop-k-test.true)
 
 pub loop-k-preserved : goal.loop-k-preserved
-loop-k-preserved c = one_written c.loop-k.invariant c.loop-k-test.true c.requires.count_in_bounds.0 _ _ refl (concluded (goal.at.loop-k-preserved c).After-conclusion-fact) _ c.write_step_item.ensures c.write_step_item.auto.0
+loop-k-preserved c = one_written c.loop-k.invariant c.loop-k-test.true c.requires.count_in_bounds.0 _ _ refl (concluded (goal.at.loop-k-preserved c).After-conclusion-fact) _ c.write_step_item.ensures c.write_step_item.auto.out
 
 pub shape_of-out : goal.shape_of-out
 shape_of-out c = c.loop-k.invariant.length_kept

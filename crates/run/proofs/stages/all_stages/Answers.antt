@@ -34,7 +34,7 @@ pub wake-requires : goal.wake-requires
 wake-requires c = (c.requires.well_formed, start-span (few_facts (goal.at.wake-requires c).Start) c.begin-count.ensures)
 
 pub loop-rule-init : goal.loop-rule-init
-loop-rule-init c = let p = c.requires in let indexed = c.index_row.ensures in standing_start (few_facts (goal.at.loop-rule-init c).Start) c.begin-count.ensures p.well_formed.in_bounds (order-in_row p.ordered) p.ordered.names_only indexed.0 indexed.1.0 indexed.1.1 c.wake.ensures p.held.applied_shown p.held.applied_places
+loop-rule-init c = let p = c.requires in let indexed = c.index_row.ensures in standing_start (few_facts (goal.at.loop-rule-init c).Start) c.begin-count.ensures p.well_formed.in_bounds (order-in_row p.ordered) p.ordered.names_only indexed.asked indexed.counted indexed.flags c.wake.ensures p.held.applied_shown p.held.applied_places
 
 pub first_eligible-requires : goal.first_eligible-requires
 first_eligible-requires c = let g = c.begin-count.ensures in

@@ -22,7 +22,7 @@ start-requires c = let p = c.requires in
     }
 
 pub returns-in-Closed : goal.returns-in-Closed
-returns-in-Closed c = let p = c.requires in let e = c.start.ensures in began p.well_formed.0.in_bounds (facts_below p.well_formed.0) p.holds _ e.1.0 (mask_plain (program_in c.args.tables.now) c.mark_plain.new.marks (masked (goal.at.returns-in-Closed c).After-mark_plain) _ e.1.1.0) e.1.1.1 _ c.in-Closed.is
+returns-in-Closed c = let p = c.requires in let e = c.start.ensures in began p.well_formed.0.in_bounds (facts_below p.well_formed.0) p.holds _ e.plain_indexed (mask_plain (program_in c.args.tables.now) c.mark_plain.new.marks (masked (goal.at.returns-in-Closed c).After-mark_plain) _ e.masks) e.derived _ c.in-Closed.is
 
 pub returns-in-Barred : goal.returns-in-Barred
-returns-in-Barred c = let p = c.requires in let e = c.start.ensures in absurd (never_barred p.well_formed.0.in_bounds (facts_below p.well_formed.0) p.holds _ e.1.0 (mask_plain (program_in c.args.tables.now) c.mark_plain.new.marks (masked (goal.at.returns-in-Barred c).After-mark_plain) _ e.1.1.0) e.1.1.1 c.in-Barred.is)
+returns-in-Barred c = let p = c.requires in let e = c.start.ensures in absurd (never_barred p.well_formed.0.in_bounds (facts_below p.well_formed.0) p.holds _ e.plain_indexed (mask_plain (program_in c.args.tables.now) c.mark_plain.new.marks (masked (goal.at.returns-in-Barred c).After-mark_plain) _ e.masks) e.derived c.in-Barred.is)

@@ -12,7 +12,7 @@ all_stages-requires c = let p = c.requires in
     let read = c.order_row-names.ensures in
     record {
       well_formed = p.well_formed;
-      ordered = order-read read.0 read.1.0 read.1.1 p.may_order.0 p.may_order.1;
+      ordered = order-read read.row_after read.value read.row_len_2 p.may_order.0 p.may_order.1;
       held = p.held;
     }
 

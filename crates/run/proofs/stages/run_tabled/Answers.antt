@@ -28,6 +28,6 @@ returns c = let held = c.run_in_memory-taken.ensures.held_2 in
     let counted = c.run_in_memory-taken.ensures.run_counted in
     let wrote = c.write_results.ensures in
     written_there _ _ _ _ _ _ _ _ _ _ counted.stages_counted counted.steps_counted
-    (wrote.0 _ held.holds.shows.d held.holds.shows.r)
-    (wrote.1.0 _ held.holds.shows.d held.applied_shown)
-    (steps-there (facts_below c.requires.well_formed) held.holds c.args.steps.now wrote.1.1)
+    (wrote.fact_marks_after _ held.holds.shows.d held.holds.shows.r)
+    (wrote.rule_marks_after _ held.holds.shows.d held.applied_shown)
+    (steps-there (facts_below c.requires.well_formed) held.holds c.args.steps.now wrote.steps_after)

@@ -16,7 +16,7 @@ use Rattle.search.proofs.found.run_to.Goals as goal
 use Rattle.search.proofs.found.run_to.Goals.{After-write_order-length, Start}
 
 -- what all the yesses tell
-yesses : (c : Start) → AllYesses c.args.file.now (length c.args.fact-marks.now) (length c.args.rule-marks.now) (length c.args.steps.now) (length c.args.order.now)
+yesses : (c : Start) → AllYesses c.args.file.now (length c.args.fact_marks.now) (length c.args.rule_marks.now) (length c.args.steps.now) (length c.args.order.now)
 yesses c = all_yes _ _ _ _ _ c.requires.order_value
 
 -- the order is that of the file's program
@@ -24,8 +24,8 @@ order_is : (c : After-write_order-length) → (c.write_order-length.new.order �
 order_is c = rw c.requires.tabled.program at c.write_order-length.ensures
 
 -- the order lies inside its buffer
-inside : (c : After-write_order-length) (order_is-here : (c.write_order-length.new.order ≡ over (naming (order_for (program_of c.args.file.now) (in_force (program_of c.args.file.now)) (has c.args.set.now))) c.args.order.now) × (c.write_order-length.result ≡ length (naming (order_for (program_of c.args.file.now) (in_force (program_of c.args.file.now)) (has c.args.set.now))))) → c.write_order-length.result ≤ length c.write_order-length.new.order
-inside c order_is-here = front-inside (naming (order_for (program_of c.args.file.now) (in_force (program_of c.args.file.now)) (has c.args.set.now))) c.args.order.now _ _ (order_is-here)
+inside : (c : After-write_order-length) → c.write_order-length.result ≤ length c.write_order-length.new.order
+inside c = front-inside (naming (order_for (program_of c.args.file.now) (in_force (program_of c.args.file.now)) (has c.args.set.now))) c.args.order.now _ _ (order_is c)
 
 pub write_order-length-requires : goal.write_order-length-requires
 write_order-length-requires c = record {
@@ -34,20 +34,25 @@ write_order-length-requires c = record {
 }
 
 pub slice_bounds-run_tabled-end : goal.slice_bounds-run_tabled-end
-slice_bounds-run_tabled-end c = inside (goal.at.slice_bounds-run_tabled-end c).After-write_order-length (order_is (goal.at.slice_bounds-run_tabled-end c).After-write_order-length)
+slice_bounds-run_tabled-end c = inside (goal.at.slice_bounds-run_tabled-end c).After-write_order-length
 
 pub slice_bounds-run_tabled-end-2 : goal.slice_bounds-run_tabled-end-2
-slice_bounds-run_tabled-end-2 c = sym (length-take-le _ _ (inside (goal.at.slice_bounds-run_tabled-end-2 c).After-write_order-length (order_is (goal.at.slice_bounds-run_tabled-end-2 c).After-write_order-length)))
+slice_bounds-run_tabled-end-2 c = sym (length-take-le _ _ (inside (goal.at.slice_bounds-run_tabled-end-2 c).After-write_order-length))
 
 pub run_tabled-requires : goal.run_tabled-requires
-run_tabled-requires c = let s = c.before.before.before.before.before.before.before.before.before.before.before.before.before in
+run_tabled-requires c =
+    let at = goal.at.run_tabled-requires c in
     record {
-      well_formed = s.requires.1.well_formed;
-      may_run = may_run_to _ s.args.fact-marks.now s.args.rule-marks.now s.args.steps.now _ (yesses s) _ _ _ (order_is (goal.at.run_tabled-requires c).After-write_order-length) s.requires.1;
+      well_formed = c.requires.tabled.well_formed;
+      may_run = may_run_to _ c.args.fact_marks.now c.args.rule_marks.now c.args.steps.now _ (yesses at.Start) _ _ _ (order_is at.After-write_order-length) c.requires.tabled;
     }
 
 pub returns-in-Done : goal.returns-in-Done
-returns-in-Done c = found_there _ _ _ _ _ (yesses (goal.at.returns-in-Done c).Start) _ _ _ (order_is (goal.at.returns-in-Done c).After-write_order-length) _ _ _ _ (c.run_tabled.ensures ∙ run-there c.requires.tabled _ _ _ _) _ _ c.in-Done.is
+returns-in-Done c =
+    let at = goal.at.returns-in-Done c in
+    found_there _ _ _ _ _ (yesses at.Start) _ _ _ (order_is at.After-write_order-length) _ _ _ _ (c.run_tabled.ensures ∙ run-there c.requires.tabled _ _ _ _) _ _ c.in-Done.is
 
 pub returns-in-Refused : goal.returns-in-Refused
-returns-in-Refused c = absurd (not-refused _ _ _ _ _ (yesses (goal.at.returns-in-Refused c).Start) _ _ _ (order_is (goal.at.returns-in-Refused c).After-write_order-length) _ _ _ _ (c.run_tabled.ensures ∙ run-there c.requires.tabled _ _ _ _) _ c.in-Refused.is)
+returns-in-Refused c =
+    let at = goal.at.returns-in-Refused c in
+    absurd (not-refused _ _ _ _ _ (yesses at.Start) _ _ _ (order_is at.After-write_order-length) _ _ _ _ (c.run_tabled.ensures ∙ run-there c.requires.tabled _ _ _ _) _ c.in-Refused.is)

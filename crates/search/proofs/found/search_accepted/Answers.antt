@@ -1,6 +1,5 @@
 -- `search_accepted`: where no set is found no byte is changed; where one is, the file is run to it.
 use mathlib.Core.Path.{refl, ◌∙◌}
-use borrow.Author.Tests.{not-true, not-false}
 use Rattle.theory.specs.Rule.{in_force}
 use Rattle.theory.specs.Search as theory
 use Rattle.reader.specs.Questions.{program_of}
@@ -19,13 +18,13 @@ find_set-requires c = let y = all_yes _ _ _ _ _ c.requires.order_value in
     (c.requires.tabled.well_formed, rw c.requires.tabled.program y.few_guesses, refl)
 
 pub returns-then-not-find_set : goal.returns-then-not-find_set
-returns-then-not-find_set c = searched_none _ _ _ _ _ c.requires.order_value _ _ (not-true _ c.if-not-find_set.true) (shown (goal.at.returns-then-not-find_set c).After-find_set)
+returns-then-not-find_set c = searched_none _ _ _ _ _ c.requires.order_value _ _ c.if-not-find_set.true (shown (goal.at.returns-then-not-find_set c).After-find_set)
 
 pub run_to-requires : goal.run_to-requires
 run_to-requires c = record {
-  order_value = c.requires.0;
-  tabled = c.requires.1;
+  order_value = c.requires.order_value;
+  tabled = c.requires.tabled;
 }
 
 pub returns : goal.returns
-returns c = c.run_to.ensures ∙ searched_found _ _ _ _ _ c.requires.order_value _ _ (not-false _ c.if-not-find_set.false) (shown (goal.at.returns c).After-find_set)
+returns c = c.run_to.ensures ∙ searched_found _ _ _ _ _ c.requires.order_value _ _ c.if-not-find_set.false (shown (goal.at.returns c).After-find_set)

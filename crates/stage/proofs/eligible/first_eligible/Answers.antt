@@ -1,10 +1,9 @@
 -- Both loops: the stand at entry is held at each turn, with the places still awake, and what is to come of a rule's constraints decides.
-use Prim.Native.Nat.{ℕ, ◌-◌, ◌<◌}
+use Prim.Native.Nat.{ℕ, ◌<◌}
 use mathlib.Core.Path.{◌≡◌, sym, ap, ◌∙◌}
 use mathlib.Core.Bool.{Bool, true, false, not}
 use mathlib.Core.List.{List}
 use native.Mathlib.Omega.{arith}
-use borrow.Author.Rules.{rules}
 use borrow.Author.Tests.{eq-eqb, ne_eqb}
 use lib.ListN.{get_or}
 use Rattle.theory.specs.Rule.{all, clear, in_force, count, rule}
@@ -31,18 +30,18 @@ on-turn c order s p w =
     turn v.1 (facts_below c.requires.well_formed) (c.take-lowest.ensures.by_index v.0 v.1.flags) c.in-At.is
 
 -- at the stand that is held
-here : (c : In-At) (on-turn-here : (order : List ℕ) (s : Stand) (p : ℕ → Bool) → Looking (program_in c.args.tables.now) c.args.row.now order c.args.marks.now c.args.missing.now c.args.fired.now c.args.count c.args.awake.now s p → Turn (program_in c.args.tables.now) c.args.row.now order c.rules.marks c.rules.missing c.rules.fired c.args.count c.take-lowest.new.row s c.in-At.place) → Turn (program_in c.args.tables.now) c.args.row.now c.requires.stands.order c.rules.marks c.rules.missing c.rules.fired c.args.count c.take-lowest.new.row c.requires.stands.at c.in-At.place
-here c on-turn-here = on-turn-here _ _ _ c.requires.stands.looking
+here : (c : In-At) → Turn (program_in c.args.tables.now) c.args.row.now c.requires.stands.order c.rules.marks c.rules.missing c.rules.fired c.args.count c.take-lowest.new.row c.requires.stands.at c.in-At.place
+here c = on-turn c _ _ _ c.requires.stands.looking
 
 -- once its rule is known not to be withheld
 read : (c : Else-is_withheld) → in_force (program_in c.args.tables.now) (get_or c.args.row.now c.in-At.place 0) ≡ true
 read c = read_on _ _ (sym c.is_withheld.ensures ∙ c.if-is_withheld.false)
 
 -- once its rule's conclusion is read
-few_facts : (c : After-conclusion-fact) (here-here : Turn (program_in c.args.tables.now) c.args.row.now c.requires.stands.order c.rules.marks c.rules.missing c.rules.fired c.args.count c.take-lowest.new.row c.requires.stands.at c.in-At.place) → c.conclusion-fact.result.0 < max_facts narrow
-few_facts c here-here = omega (arith, ap (λ (f : FactId). f.0) c.conclusion-fact.ensures, conclusion_below c.requires.well_formed (here-here).known, facts_below c.requires.well_formed)
+few_facts : (c : After-conclusion-fact) → get_or c.args.row.now c.in-At.place 0 < count (program_in c.args.tables.now) → c.conclusion-fact.result.0 < max_facts narrow
+few_facts c known = omega (arith, ap (λ (f : FactId). f.0) c.conclusion-fact.ensures, conclusion_below c.requires.well_formed known, facts_below c.requires.well_formed)
 
--- once a constraint was met, and once none was
+-- once a constraint was met
 met : (c : Then-marks-constraint-eq-IN) → clear (has c.rules.marks) (rule (program_in c.args.tables.now) (get_or c.args.row.now c.in-At.place 0)).constraints ≡ false
 unfolding has
 met c =
@@ -59,7 +58,7 @@ pub bounds-row-place : goal.bounds-row-place
 bounds-row-place c = (fell (goal.at.bounds-row-place c).In-At).0
 
 pub is_withheld-requires : goal.is_withheld-requires
-is_withheld-requires c = (c.requires.well_formed, (here (goal.at.is_withheld-requires c).In-At (on-turn (goal.at.is_withheld-requires c).In-At)).known)
+is_withheld-requires c = (c.requires.well_formed, (here (goal.at.is_withheld-requires c).In-At).known)
 
 pub rules-smaller-then-is_withheld : goal.rules-smaller-then-is_withheld
 rules-smaller-then-is_withheld c = (fell (goal.at.rules-smaller-then-is_withheld c).In-At).1
@@ -68,10 +67,10 @@ pub rules-preserved-then-is_withheld : goal.rules-preserved-then-is_withheld
 rules-preserved-then-is_withheld c = λ order s p w. let t = on-turn (goal.at.rules-preserved-then-is_withheld c).In-At order s p w in t.refused (passed_over _ s _ (sym c.is_withheld.ensures ∙ c.if-is_withheld.true)) _ _ _ t.holds t.rests
 
 pub conclusion-fact-requires : goal.conclusion-fact-requires
-conclusion-fact-requires c = (c.requires.well_formed, (here (goal.at.conclusion-fact-requires c).In-At (on-turn (goal.at.conclusion-fact-requires c).In-At)).known)
+conclusion-fact-requires c = (c.requires.well_formed, (here (goal.at.conclusion-fact-requires c).In-At).known)
 
 pub bounds-marks-f : goal.bounds-marks-f
-bounds-marks-f c = few_facts (goal.at.bounds-marks-f c).After-conclusion-fact (here (goal.at.bounds-marks-f c).In-At (on-turn (goal.at.bounds-marks-f c).In-At))
+bounds-marks-f c = few_facts (goal.at.bounds-marks-f c).After-conclusion-fact (here (goal.at.bounds-marks-f c).In-At).known
 
 pub rules-smaller-then-marks-f-eq-IN : goal.rules-smaller-then-marks-f-eq-IN
 rules-smaller-then-marks-f-eq-IN c = (fell (goal.at.rules-smaller-then-marks-f-eq-IN c).In-At).1
@@ -80,7 +79,7 @@ pub rules-preserved-then-marks-f-eq-IN : goal.rules-preserved-then-marks-f-eq-IN
 rules-preserved-then-marks-f-eq-IN c = λ order s p w. let t = on-turn (goal.at.rules-preserved-then-marks-f-eq-IN c).In-At order s p w in t.refused (concluded t.holds _ (mark_in _ c.conclusion-fact.ensures c.if-marks-f-eq-IN.true)) _ _ _ t.holds t.rests
 
 pub bounds-marks-f-in-rules : goal.bounds-marks-f-in-rules
-bounds-marks-f-in-rules c = few_facts (goal.at.bounds-marks-f-in-rules c).After-conclusion-fact (here (goal.at.bounds-marks-f-in-rules c).In-At (on-turn (goal.at.bounds-marks-f-in-rules c).In-At))
+bounds-marks-f-in-rules c = few_facts (goal.at.bounds-marks-f-in-rules c).After-conclusion-fact (here (goal.at.bounds-marks-f-in-rules c).In-At).known
 
 pub rules-smaller-then-marks-f-eq-BARRED : goal.rules-smaller-then-marks-f-eq-BARRED
 rules-smaller-then-marks-f-eq-BARRED c = (fell (goal.at.rules-smaller-then-marks-f-eq-BARRED c).In-At).1
@@ -89,7 +88,7 @@ pub rules-preserved-then-marks-f-eq-BARRED : goal.rules-preserved-then-marks-f-e
 rules-preserved-then-marks-f-eq-BARRED c = λ order s p w. let t = on-turn (goal.at.rules-preserved-then-marks-f-eq-BARRED c).In-At order s p w in t.refused (rejected-already t.holds _ (mark_barred _ c.conclusion-fact.ensures c.if-marks-f-eq-BARRED.true)) _ _ _ t.holds t.rests
 
 pub constraint_span-own-requires : goal.constraint_span-own-requires
-constraint_span-own-requires c = (c.requires.well_formed, (here (goal.at.constraint_span-own-requires c).In-At (on-turn (goal.at.constraint_span-own-requires c).In-At)).known)
+constraint_span-own-requires c = (c.requires.well_formed, (here (goal.at.constraint_span-own-requires c).In-At).known)
 
 pub loop-at-init : goal.loop-at-init
 loop-at-init c = none_tested _ (within c.constraint_span-own.ensures)
@@ -116,7 +115,7 @@ loop-at-preserved c = test_passes c.loop-at.invariant c.loop-at-test.true (rw (�
 
 pub trial-requires : goal.trial-requires
 trial-requires c = let p = c.requires in
-    let t = here (goal.at.trial-requires c).In-At (on-turn (goal.at.trial-requires c).In-At) in
+    let t = here (goal.at.trial-requires c).In-At in
     record {
       well_formed = (p.well_formed, t.known);
       plain_indexed = p.plain_indexed;

@@ -1,7 +1,6 @@
 -- Both loops: the stand at entry is held at each turn, with the places still awake, and what is to come of a rule's constraints decides.
 use Prim.Native.Nat.{◌-◌}
 use mathlib.Core.Bool.{not}
-use Rattle.theory.specs.Rule.{count}
 use Rattle.items.specs.Item.{has}
 use Rattle.tables.specs.Layout.{constraint_at, span, program_in}
 use Rattle.tables.proofs.PartsSpanned.{Testing}

@@ -8,6 +8,7 @@ use Rattle.stage.proofs.TrialMade.{Trying, trying}
 use Rattle.stage.proofs.trial.trial.Goals as goal
 use Rattle.stage.proofs.trial.trial.Goals.{After-conclusion-fact}
 
+-- the rule is tried once its conclusion is read
 one-trial : (c : After-conclusion-fact) → Trying (program_in c.args.tables.now) c.args.rule.0 c.args.index.now c.args.marks.now c.args.missing.now c.args.count c.mark_own.new.marks c.conclusion-fact.result
 one-trial c =
     let p = c.requires in
@@ -26,7 +27,7 @@ pub bounds-fired-count : goal.bounds-fired-count
 bounds-fired-count c = (one-trial (goal.at.bounds-fired-count c).After-conclusion-fact).cell
 
 pub enter-requires : goal.enter-requires
-enter-requires c = omega (arith, (one-trial (goal.at.enter-requires c).After-conclusion-fact).small, c.enter-arg-1.given.0)
+enter-requires c = omega (arith, (one-trial (goal.at.enter-requires c).After-conclusion-fact).small)
 
 pub derive-requires : goal.derive-requires
 derive-requires c = let p = c.requires in
