@@ -8,7 +8,7 @@ use mathlib.Core.Logic.{◌⊎◌, inl, inr, ⊎_elim}
 use borrow.Author.Tests.{eqb-true}
 use lib.ListN.{length, take}
 use lib.Dec.{eqb}
-use Rattle.theory.specs.Rule.{all, mem, NoRepeat, Program, Mask, FactSet, Sub, nothing, adjoin, rule, Step}
+use Rattle.theory.specs.Rule.{mem, NoRepeat, Program, Mask, FactSet, Sub, nothing, adjoin, rule, Step}
 use Rattle.theory.specs.Run.{Stand, run}
 use Rattle.theory.specs.Stable.{step_at, facts_of, used_rule, Proof, Admits}
 use Rattle.theory.specs.Check.{ends_with}

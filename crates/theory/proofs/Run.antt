@@ -9,7 +9,7 @@ use borrow.Author.Tests.{ltb-true}
 use lib.Dec.{eqb, ltb}
 use Rattle.theory.specs.Rule.{all, clear, mem, NoRepeat, Program, Mask, FactSet, Sub, nothing, null, count, rule, plain, exception, Step, Closed, plain_rules}
 use Rattle.theory.specs.Derive.{conclude, Fresh, fired, steps, step_by}
-use Rattle.theory.specs.Run.{Stand, rejected, spares, trial, eligible, stage, start, first_eligible, run, kept}
+use Rattle.theory.specs.Run.{Stand, rejected, spares, trial, eligible, stage, start, first_eligible, run}
 use Rattle.theory.specs.Chaining.{Disjoint}
 use Rattle.theory.specs.Conditions.{Names}
 use Rattle.theory.specs.Stable.{facts_of}

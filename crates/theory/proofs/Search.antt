@@ -9,7 +9,7 @@ use mathlib.Core.Option.{Option, none, some}
 use borrow.Author.Tests.{eqb-true}
 use lib.ListN.{length}
 use lib.Dec.{eqb}
-use Rattle.theory.specs.Rule.{mem, keep, up_to, how_many, Program, Mask, FactSet, Same, nothing, adjoin, count, exception, constraint_fact}
+use Rattle.theory.specs.Rule.{mem, up_to, how_many, Program, Mask, FactSet, Same, nothing, adjoin, count, exception, constraint_fact}
 use Rattle.theory.specs.Conditions.{Bounded, Names}
 use Rattle.theory.specs.Lists.{down_from}
 use Rattle.theory.specs.Check.{least_of}

@@ -3,7 +3,7 @@ use Prim.Native.Nat.{ℕ, ◌<◌}
 use mathlib.Core.Path.{◌≡◌, refl, ◌∙◌}
 use mathlib.Core.Bool.{Bool, true, false, not, cond}
 use mathlib.Core.List.{List, [], ◌∷◌}
-use mathlib.Core.Logic.{◌⊎◌, ⊎_elim}
+use mathlib.Core.Logic.{⊎_elim}
 use lib.Dec.{eqb, ltb}
 use Rattle.theory.specs.Rule.{all, any, clear, mem, null, Program, Mask, FactSet, count, rule, plain, exception, plain_rules, withheld, in_force}
 use Rattle.theory.specs.Run.{set_aside, run, rule_mark}

@@ -14,23 +14,24 @@ use Rattle.better.proofs.choose.Goals.{In-Yes}
 all_right : (c : In-Yes) → ◌≡◌ {A = Option Refusal} (better_no c.args.file.now c.args.first.now c.args.second.now) none
 all_right c = said_yes _ (sym c.in-Yes.is ∙ c.ask_both.ensures.value)
 
-held : (c : In-Yes) (all_right-here : ◌≡◌ {A = Option Refusal} (better_no c.args.file.now c.args.first.now c.args.second.now) none) → Tabled c.args.file.now c.ask_both.new.tables
-held c all_right-here = c.ask_both.ensures.scanned (both_right _ _ _ (all_right-here)).accepted
+held : (c : In-Yes) → Tabled c.args.file.now c.ask_both.new.tables
+held c = c.ask_both.ensures.scanned (both_right _ _ _ (all_right c)).accepted
 
 pub choose_tabled-requires : goal.choose_tabled-requires
-choose_tabled-requires c = record {
-  well_formed = (held (goal.at.choose_tabled-requires c).In-Yes (all_right (goal.at.choose_tabled-requires c).In-Yes)).well_formed;
-  may_order = both_may _ _ _ (held (goal.at.choose_tabled-requires c).In-Yes (all_right (goal.at.choose_tabled-requires c).In-Yes)) (both_right _ _ _ (all_right (goal.at.choose_tabled-requires c).In-Yes));
-}
+choose_tabled-requires c =
+    let y = (goal.at.choose_tabled-requires c).In-Yes in
+    record {
+      well_formed = (held y).well_formed;
+      may_order = both_may _ _ _ (held y) (both_right _ _ _ (all_right y));
+    }
 
 pub returns-in-No : goal.returns-in-No
-returns-in-No c = record {
-  value = (chosen _ _ _ _ (choice-refused _ _ _ _ (said_no _ _ (sym c.in-No.is ∙ c.ask_both.ensures.value)))).0;
-  choice_means = (chosen _ _ _ _ (choice-refused _ _ _ _ (said_no _ _ (sym c.in-No.is ∙ c.ask_both.ensures.value)))).1;
-}
+returns-in-No c =
+    let e = choice-refused c.args.file.now c.args.first.now c.args.second.now _ (said_no _ _ (sym c.in-No.is ∙ c.ask_both.ensures.value)) in
+    record { value = e; choice_means = (chosen _ _ _ _ e).1 }
 
 pub returns-in-Yes : goal.returns-in-Yes
-returns-in-Yes c = record {
-  value = (chosen _ _ _ _ (c.choose_tabled.ensures ∙ choice-there _ _ _ (held (goal.at.returns-in-Yes c).In-Yes (all_right (goal.at.returns-in-Yes c).In-Yes)) (all_right (goal.at.returns-in-Yes c).In-Yes))).0;
-  choice_means = (chosen _ _ _ _ (c.choose_tabled.ensures ∙ choice-there _ _ _ (held (goal.at.returns-in-Yes c).In-Yes (all_right (goal.at.returns-in-Yes c).In-Yes)) (all_right (goal.at.returns-in-Yes c).In-Yes))).1;
-}
+returns-in-Yes c =
+    let y = (goal.at.returns-in-Yes c).In-Yes in
+    let e = c.choose_tabled.ensures ∙ choice-there _ _ _ (held y) (all_right y) in
+    record { value = e; choice_means = (chosen _ _ _ _ e).1 }

@@ -17,9 +17,8 @@ slice_bounds-show-end c = sym (length-take-le _ _ (omega arith))
 
 pub returns : goal.returns
 returns c = let shows = c.show.ensures in
-    let put = c.before.before.before.before.before.before in
-    let there = text put in
+    let there = text (goal.at.returns c).After-put_text-n in
     record {
       value = (rw there at shows.0, rw there at shows.1);
-      upper_bound = omega (arith, rw there at shows.0, put.put-text.ensures.0.behind, put.put-text.ensures.1);
+      upper_bound = omega (arith, rw there at shows.0, c.put_text-n.ensures.put.behind, c.put_text-n.ensures.upper_bound);
     }

@@ -9,14 +9,12 @@ pub judge_program-requires : goal.judge_program-requires
 judge_program-requires c = (scan_passed _ _ _ (sym c.scan.ensures.value ∙ c.in-Yes.is) c.scan.ensures.scanned).tabled.well_formed
 
 pub returns-in-No : goal.returns-in-No
-returns-in-No c = record {
-  value = (answer_means _ _ _ _ (no-to_file _ _ _ _ (sym c.scan.ensures.value ∙ c.in-No.is))).0;
-  judge_means = (answer_means _ _ _ _ (no-to_file _ _ _ _ (sym c.scan.ensures.value ∙ c.in-No.is))).1;
-}
+returns-in-No c =
+    let e = no-to_file c.args.file.now c.args.list.now c.args.set.now _ (sym c.scan.ensures.value ∙ c.in-No.is) in
+    record { value = e; judge_means = (answer_means _ _ _ _ e).1 }
 
 pub returns-in-Yes : goal.returns-in-Yes
-returns-in-Yes c = let p = scan_passed _ _ _ (sym c.scan.ensures.value ∙ c.in-Yes.is) c.scan.ensures.scanned in
-    record {
-      value = (answer_means _ _ _ _ (c.judge_program.ensures ∙ program-judged _ _ _ _ p)).0;
-      judge_means = (answer_means _ _ _ _ (c.judge_program.ensures ∙ program-judged _ _ _ _ p)).1;
-    }
+returns-in-Yes c =
+    let p = scan_passed _ _ _ (sym c.scan.ensures.value ∙ c.in-Yes.is) c.scan.ensures.scanned in
+    let e = c.judge_program.ensures ∙ program-judged c.args.file.now c.args.list.now c.args.set.now _ p in
+    record { value = e; judge_means = (answer_means _ _ _ _ e).1 }

@@ -22,23 +22,21 @@ run_tabled-requires c = record {
 }
 
 pub returns-in-No : goal.returns-in-No
-returns-in-No c = record {
-  fact = (run-answered _ _ _ _ _ _ (outcome-refused _ _ _ _ _ _ (run-file_no _ _ _ _ _ _ (sym c.scan.ensures.value ∙ c.in-No.is)))).0;
-  run_numbers = (run-answered _ _ _ _ _ _ (outcome-refused _ _ _ _ _ _ (run-file_no _ _ _ _ _ _ (sym c.scan.ensures.value ∙ c.in-No.is)))).1;
-}
+returns-in-No c =
+    let e = outcome-refused c.args.file.now c.args.order.now c.args.fact_marks.now c.args.rule_marks.now c.args.steps.now _ (run-file_no _ _ _ _ _ _ (sym c.scan.ensures.value ∙ c.in-No.is)) in
+    record { fact = e; run_numbers = (run-answered _ _ _ _ _ _ e).1 }
 
 pub returns-in-No-ask_tabled : goal.returns-in-No-ask_tabled
-returns-in-No-ask_tabled c = record {
-  fact = (run-answered _ _ _ _ _ _ (outcome-refused _ _ _ _ _ _ (run-no _ _ _ _ _ (passed (goal.at.returns-in-No-ask_tabled c).In-Yes) _ (sym c.in-No-ask_tabled.is ∙ c.ask_tabled.ensures)))).0;
-  run_numbers = (run-answered _ _ _ _ _ _ (outcome-refused _ _ _ _ _ _ (run-no _ _ _ _ _ (passed (goal.at.returns-in-No-ask_tabled c).In-Yes) _ (sym c.in-No-ask_tabled.is ∙ c.ask_tabled.ensures)))).1;
-}
+returns-in-No-ask_tabled c =
+    let p = passed (goal.at.returns-in-No-ask_tabled c).In-Yes in
+    let e = outcome-refused c.args.file.now c.args.order.now c.args.fact_marks.now c.args.rule_marks.now c.args.steps.now _ (run-no _ _ _ _ _ p _ (sym c.in-No-ask_tabled.is ∙ c.ask_tabled.ensures)) in
+    record { fact = e; run_numbers = (run-answered _ _ _ _ _ _ e).1 }
 
 pub returns-in-Yes-ask_tabled : goal.returns-in-Yes-ask_tabled
-returns-in-Yes-ask_tabled c = record {
-  fact = (run-answered _ _ _ _ _ _
-      (c.run_tabled.ensures ∙ run-there (passed (goal.at.returns-in-Yes-ask_tabled c).In-Yes).tabled _ _ _ _
-      ∙ outcome-written _ _ _ _ _ (run-yes _ _ _ _ _ (passed (goal.at.returns-in-Yes-ask_tabled c).In-Yes) (sym c.in-Yes-ask_tabled.is ∙ c.ask_tabled.ensures)))).0;
-  run_numbers = (run-answered _ _ _ _ _ _
-      (c.run_tabled.ensures ∙ run-there (passed (goal.at.returns-in-Yes-ask_tabled c).In-Yes).tabled _ _ _ _
-      ∙ outcome-written _ _ _ _ _ (run-yes _ _ _ _ _ (passed (goal.at.returns-in-Yes-ask_tabled c).In-Yes) (sym c.in-Yes-ask_tabled.is ∙ c.ask_tabled.ensures)))).1;
-}
+returns-in-Yes-ask_tabled c =
+    let p = passed (goal.at.returns-in-Yes-ask_tabled c).In-Yes in
+    let e =
+    c.run_tabled.ensures
+    ∙ run-there p.tabled _ _ _ _
+    ∙ outcome-written c.args.file.now c.args.order.now c.args.fact_marks.now c.args.rule_marks.now c.args.steps.now (run-yes _ _ _ _ _ p (sym c.in-Yes-ask_tabled.is ∙ c.ask_tabled.ensures)) in
+    record { fact = e; run_numbers = (run-answered _ _ _ _ _ _ e).1 }

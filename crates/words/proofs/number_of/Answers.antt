@@ -1,5 +1,4 @@
 -- `number_of`: the bytes before the place are digits of the value so far.
-use Prim.Native.Nat.{◌-◌}
 use native.Mathlib.Omega.{arith}
 use Rattle.words.proofs.DigitsRead.{empty-word, long_word, none_read, fits, low_byte, high_byte, one_read, too_high, all_read}
 use Rattle.words.proofs.number_of.Goals as goal

@@ -1,5 +1,4 @@
 -- `copy_row`: word by word.
-use Prim.Native.Nat.{◌-◌}
 use Rattle.bits.proofs.MatrixMarked.{none_copied, one_copied, all-copied}
 use Rattle.bits.proofs.matrix.copy_row.Goals as goal
 

@@ -1,5 +1,4 @@
 -- `join_row`: word by word.
-use Prim.Native.Nat.{◌-◌}
 use mathlib.Core.Path.{refl}
 use Rattle.bits.proofs.RowJoined.{none_joined, one_joined, all-joined}
 use Rattle.bits.proofs.matrix.join_row.Goals as goal

@@ -1,5 +1,4 @@
 -- `take_from`: the first word that is not 0 has the lowest bit.
-use Prim.Native.Nat.{◌-◌}
 use native.Mathlib.Omega.{arith}
 use Rattle.bits.proofs.RowTaken.{passed_before, one_passed, one_falls, one_taken, before_taken, none_taken, none_falls, not_at}
 use Rattle.bits.proofs.row.take_from.Goals as goal

@@ -1,5 +1,4 @@
 -- `take_next`: a bit of the word at the place, of a word after it, or of any word is cleared.
-use Prim.Native.Nat.{◌-◌}
 use mathlib.Core.Path.{refl}
 use native.Mathlib.Omega.{arith}
 use Rattle.bits.proofs.RowMarked.{bit-inside}

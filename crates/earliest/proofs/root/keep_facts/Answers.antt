@@ -1,5 +1,4 @@
 -- `keep_facts`: the facts below f are kept.
-use Prim.Native.Nat.{◌-◌}
 use native.Mathlib.Omega.{arith}
 use Rattle.earliest.proofs.FactsListed.{none_kept, one_kept, all-kept}
 use Rattle.earliest.proofs.root.keep_facts.Goals as goal

@@ -1,5 +1,5 @@
 -- `write_rules`: the rules before the place are written.
-use Rattle.std.proofs.Common.{◌≡◌, ◌+◌, ◌-◌, ◌%◌, inl, inr, arith}
+use Rattle.std.proofs.Common.{◌≡◌, ◌+◌, ◌%◌, inl, inr, arith}
 use Rattle.generator.proofs.RulesPlaced.{none_drawn, next-turn, rule_fits, rule-drawn, all-drawn}
 use Rattle.generator.proofs.rules.write_rules.Goals as goal
 use Rattle.generator.proofs.rules.write_rules.Goals.{then-turn-eq-TURNS, else-turn-eq-TURNS}

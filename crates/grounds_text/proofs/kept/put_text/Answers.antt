@@ -21,7 +21,7 @@ stopped c =
     refused-text _ _ _ (file-no _ _ (sym c.scan.ensures.value ∙ c.in-No.is)) ∙ ap (line 0x45) (sym c.number.ensures)
 
 pub put_line-requires : goal.put_line-requires
-put_line-requires c = record { inside = omega (arith, c.requires, line-length 0x45 c.number.result (omega (arith, c.number.type-inv))) }
+put_line-requires c = record { inside = omega (arith, c.requires, line-length 0x45 c.number.result (omega (arith, c.number.type_inv))) }
 
 pub put_kept-requires : goal.put_kept-requires
 put_kept-requires c = record {
@@ -30,11 +30,10 @@ put_kept-requires c = record {
 }
 
 pub returns-in-No : goal.returns-in-No
-returns-in-No c = let told = c.before.before.before in
-    record {
-      put = rw (stopped told) c.put_line.ensures;
-      upper_bound = omega (arith, c.put_line.ensures.behind, line-length 0x45 told.number.result (omega (arith, told.number.type-inv)));
-    }
+returns-in-No c = record {
+  put = rw (stopped (goal.at.returns-in-No c).After-number) c.put_line.ensures;
+  upper_bound = omega (arith, c.put_line.ensures.behind, line-length 0x45 c.number.result (omega (arith, c.number.type_inv)));
+}
 
 pub returns-in-Yes : goal.returns-in-Yes
 returns-in-Yes c = let p = passed (goal.at.returns-in-Yes c).In-Yes in

@@ -6,7 +6,6 @@ use lib.ListN.{length}
 use Rattle.items.specs.Item.{narrow, body_length, item_of, fact_id, rule_id, step_kind}
 use Rattle.items.specs.declared.item.Item.TheVariants.{Facts, Opens, Premise, Constraint, Rules, Names, Step, Unread}
 use Rattle.items.proofs.Bodies.{a_step, step-at}
-use borrow.Author.Rules.{rules}
 use Rattle.items.proofs.item.item_of.Goals as goal
 use Rattle.items.proofs.item.item_of.Goals.{In_default}
 

@@ -1,7 +1,5 @@
 -- `all_named`: what is to come decides.
-use Prim.Native.Nat.{◌-◌}
 use mathlib.Core.Path.{sym, ap, ◌∙◌}
-use mathlib.Core.Logic.{⊎_elim}
 use native.Mathlib.Omega.{arith}
 use Rattle.theory.specs.Rule.{up_to, exception}
 use Rattle.theory.proofs.ListWalks.{whole-decides, not_tested, all_pass, one_fails, one_passes}
@@ -10,6 +8,7 @@ use Rattle.tables.specs.Layout.{program_in}
 use Rattle.tables.proofs.ProgramHeld.{rules-below}
 use Rattle.questions.proofs.NamesAsked.{known_unnamed, known_named, not_exception}
 use Rattle.naming.proofs.names.all_named.Goals as goal
+use Rattle.naming.proofs.names.all_named.Goals.{then-is_exception+else-named-i-ne1, else-is_exception}
 
 pub loop-i-init : goal.loop-i-init
 loop-i-init c = (omega arith, not_tested (whole-decides _ _) _ (ap up_to (sym c.rules_of-rules.ensures) ∙ range_all c.rules_of-rules.result))
@@ -33,7 +32,11 @@ overflow_add-i c = omega (arith, c.rules_of-rules.ensures, rules-below c.require
 pub loop-i-preserved : goal.loop-i-preserved
 loop-i-preserved c = (
   omega arith,
-  one_passes c.loop-i.invariant.1 _ _ (range_cons _ _ c.loop-i-test.true) (⊎_elim (λ w. known_named (exception (program_in c.args.tables.now)) c.args.named.now c.loop-i.i w.2.left) (λ w. not_exception (exception (program_in c.args.tables.now)) c.args.named.now c.loop-i.i (sym c.is_exception.ensures ∙ w.left)) c.if-is_exception.branch),
+  one_passes c.loop-i.invariant.1 _ _ (range_cons _ _ c.loop-i-test.true)
+      (elim c.if-is_exception.branch [
+        | then-is_exception+else-named-i-ne1 w ↦ known_named (exception (program_in c.args.tables.now)) c.args.named.now c.loop-i.i w.if-named-i-ne1.false
+        | else-is_exception w ↦ not_exception (exception (program_in c.args.tables.now)) c.args.named.now c.loop-i.i (sym c.is_exception.ensures ∙ w.if-is_exception.false)
+      ]),
 )
 
 pub returns : goal.returns

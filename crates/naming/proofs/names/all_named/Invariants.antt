@@ -1,5 +1,4 @@
 -- `all_named`: what is to come decides.
-use borrow.Author.Rules.{rules}
 use Prim.Native.Nat.{◌-◌, ◌≤◌}
 use mathlib.Core.Bool.{not, ◌||◌}
 use Rattle.theory.specs.Rule.{range, up_to, count, exception}

@@ -1,5 +1,4 @@
 -- `whole_names`: what is to come is whole where all is.
-use Prim.Native.Nat.{◌-◌}
 use mathlib.Core.Path.{refl, sym, ap, ◌∙◌}
 use Rattle.cursors.specs.declared.cursor.Row.TheVariants.{Order}
 use Rattle.cursors.proofs.Items.{found, closer, row-ended}

@@ -10,14 +10,12 @@ ask_list_of-requires c = (scan_passed _ _ _ (sym c.scan.ensures.value ∙ c.in-Y
 
 pub returns-in-No : goal.returns-in-No
 unfolding ask_list_questions
-returns-in-No c = record {
-  value = (answer_numbered _ _ (sym (ap answer_of (file_refused _ _ _ (sym c.scan.ensures.value ∙ c.in-No.is))))).0;
-  answer_numbers = (answer_numbered _ _ (sym (ap answer_of (file_refused _ _ _ (sym c.scan.ensures.value ∙ c.in-No.is))))).1;
-}
+returns-in-No c =
+    let p = answer_numbered (ask_list_questions c.args.file.now c.args.list.now) _ (sym (ap answer_of (file_refused _ _ _ (sym c.scan.ensures.value ∙ c.in-No.is)))) in
+    record { value = p.0; answer_numbers = p.1 }
 
 pub returns-in-Yes : goal.returns-in-Yes
-returns-in-Yes c = let p = scan_passed _ _ _ (sym c.scan.ensures.value ∙ c.in-Yes.is) c.scan.ensures.scanned in
-    record {
-      value = (answer_numbered _ _ (c.ask_list_of.ensures ∙ ap answer_of (list-questions _ p.accepted _ p.tabled.program _))).0;
-      answer_numbers = (answer_numbered _ _ (c.ask_list_of.ensures ∙ ap answer_of (list-questions _ p.accepted _ p.tabled.program _))).1;
-    }
+returns-in-Yes c =
+    let a = scan_passed _ _ _ (sym c.scan.ensures.value ∙ c.in-Yes.is) c.scan.ensures.scanned in
+    let p = answer_numbered (ask_list_questions c.args.file.now c.args.list.now) _ (c.ask_list_of.ensures ∙ ap answer_of (list-questions _ a.accepted _ a.tabled.program _)) in
+    record { value = p.0; answer_numbers = p.1 }

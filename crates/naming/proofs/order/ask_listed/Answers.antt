@@ -1,7 +1,6 @@
 -- `ask_listed`: 11 of the whole row, then the items.
 use Prim.Native.Nat.{ℕ}
 use mathlib.Core.Path.{sym, ap, ◌∙◌}
-use borrow.Author.Tests.{not-true, not-false}
 use lib.ListN.{length, length-replicate}
 use Rattle.items.specs.Item.{max_rules}
 use Rattle.questions.specs.Answer.{answer_of}
@@ -10,7 +9,7 @@ use Rattle.naming.proofs.order.ask_listed.Goals as goal
 
 pub returns-then-not-whole_names : goal.returns-then-not-whole_names
 returns-then-not-whole_names c = record {
-  value = sym (ap answer_of (not-names _ _ (sym c.whole_names.ensures ∙ not-true _ c.if-not-whole_names.true)));
+  value = sym (ap answer_of (not-names _ _ (sym c.whole_names.ensures ∙ c.if-not-whole_names.true)));
   listed = tt;
 }
 
@@ -19,6 +18,6 @@ ask_names-requires c = (c.requires.well_formed, ap length c.requires.fact ∙ le
 
 pub returns : goal.returns
 returns c = record {
-  value = list_answered _ _ c.requires.fact _ (sym c.whole_names.ensures ∙ not-false _ c.if-not-whole_names.false) _ c.ask_names.ensures.value;
+  value = list_answered _ _ c.requires.fact _ (sym c.whole_names.ensures ∙ c.if-not-whole_names.false) _ c.ask_names.ensures.value;
   listed = all_listed c.args.list.now _ c.requires.fact c.ask_names.new.named c.ask_names.result c.ask_names.ensures.all_named;
 }

@@ -1,6 +1,5 @@
 -- `next_open`: nothing that was passed over passes the test. A refuted guess takes its whole block along and the look begins anew, so the measure counts a
 -- guess for more than all nogoods.
-use Prim.Native.Nat.{◌-◌}
 use native.Mathlib.Omega.{arith}
 use Rattle.nogoods.proofs.PassedOver.{none_passed, more-passed}
 use Rattle.nogoods.proofs.nogood.next_open.Goals as goal

@@ -2,7 +2,6 @@
 use Prim.Native.Nat.{◌-◌}
 use mathlib.Core.Path.{◌≡◌, refl, sym, ◌∙◌}
 use mathlib.Core.List.{◌∷◌}
-use borrow.Author.Tests.{not-true, not-false}
 use borrow.Enum.Refused.{opened}
 use Rattle.cursors.specs.declared.cursor.Read.TheVariants.{Found}
 use Rattle.cursors.specs.declared.cursor.Row.TheVariants.{Steps}
@@ -21,8 +20,8 @@ item-read : (c : In-Found) → next_at c.args.proof.now c.loop-item.cursor ≡ F
 item-read c = sym c.next_step.ensures ∙ c.in-Found.is
 
 -- once it is a step
-a_step : (c : In-Step) (item-read-here : next_at c.args.proof.now c.loop-item.cursor ≡ Found c.in-Found.item c.in-Found.next) → steps_from c.args.proof.now c.loop-item.cursor ≡ step_of c.in-Step.f c.in-Step.rule ∷ steps_from c.args.proof.now c.in-Found.next
-a_step c item-read-here = step-read _ _ _ _ (item-read-here) _ _ c.in-Step.is
+a_step : (c : In-Step) → steps_from c.args.proof.now c.loop-item.cursor ≡ step_of c.in-Step.f c.in-Step.rule ∷ steps_from c.args.proof.now c.in-Found.next
+a_step c = step-read _ _ _ _ (sym c.next_step.ensures ∙ c.in-Found.is) _ _ c.in-Step.is
 
 pub loop-item-init : goal.loop-item-init
 loop-item-init c = (refl, none_walked _ _ _ _ _ c.requires.unmarked)
@@ -37,7 +36,7 @@ step_fits-requires c = record {
 }
 
 pub returns-then-not-step_fits : goal.returns-then-not-step_fits
-returns-then-not-step_fits c = one_fails c.loop-item.invariant.1 _ _ (a_step (goal.at.returns-then-not-step_fits c).In-Step (item-read (goal.at.returns-then-not-step_fits c).In-Found)) (sym c.step_fits.ensures.value ∙ not-true _ c.if-not-step_fits.true)
+returns-then-not-step_fits c = one_fails c.loop-item.invariant.1 _ _ (a_step (goal.at.returns-then-not-step_fits c).In-Step) (sym c.step_fits.ensures.value ∙ c.if-not-step_fits.true)
 
 pub loop-item-smaller-else-not-step_fits : goal.loop-item-smaller-else-not-step_fits
 loop-item-smaller-else-not-step_fits c = closer (found _ _ _ _ (item-read (goal.at.loop-item-smaller-else-not-step_fits c).In-Found))
@@ -45,7 +44,7 @@ loop-item-smaller-else-not-step_fits c = closer (found _ _ _ _ (item-read (goal.
 pub loop-item-preserved-else-not-step_fits : goal.loop-item-preserved-else-not-step_fits
 loop-item-preserved-else-not-step_fits c = (
   same_row _ _ _ _ Steps (item-read (goal.at.loop-item-preserved-else-not-step_fits c).In-Found) tt c.loop-item.invariant.0,
-  one_fits c.loop-item.invariant.1 _ _ (a_step (goal.at.loop-item-preserved-else-not-step_fits c).In-Step (item-read (goal.at.loop-item-preserved-else-not-step_fits c).In-Found)) _ (sym c.step_fits.ensures.value ∙ not-false _ c.if-not-step_fits.false) (c.step_fits.ensures.step_marked (not-false _ c.if-not-step_fits.false)),
+  one_fits c.loop-item.invariant.1 _ _ (a_step (goal.at.loop-item-preserved-else-not-step_fits c).In-Step) _ (sym c.step_fits.ensures.value ∙ c.if-not-step_fits.false) (c.step_fits.ensures.step_marked c.if-not-step_fits.false),
 )
 
 pub loop-item-smaller : goal.loop-item-smaller

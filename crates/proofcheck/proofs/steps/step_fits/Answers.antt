@@ -3,7 +3,6 @@ use Prim.Native.Nat.{◌<◌}
 use mathlib.Core.Path.{◌≡◌, refl, sym, ◌∙◌}
 use mathlib.Core.Bool.{true, false}
 use native.Mathlib.Omega.{arith}
-use borrow.Author.Tests.{not-true, not-false}
 use Rattle.theory.specs.Rule.{count, withheld, rule as rule_of}
 use Rattle.theory.proofs.Bools.{never}
 use Rattle.items.specs.Item.{narrow, max_facts}
@@ -23,12 +22,12 @@ unread : (c : Else-is_withheld) → withheld (program_in c.args.tables.now) c.ar
 unread c = sym c.is_withheld.ensures ∙ c.if-is_withheld.false
 
 -- once the rule concludes the fact
-in_table : (c : Else-concluded-fact) (known-here : c.args.rule.0 < count (program_in c.args.tables.now)) → c.args.fact.0 < max_facts narrow
-in_table c known-here = fact-few c.requires.tabled c.args.fact c.args.rule (known-here) c.conclusion-concluded.ensures c.if-concluded-fact.false
+in_table : (c : Else-concluded-fact) → c.args.fact.0 < max_facts narrow
+in_table c = fact-few c.requires.tabled c.args.fact c.args.rule (omega (arith, c.rules_of.ensures, c.if-rules_of-rule.false)) c.conclusion-concluded.ensures c.if-concluded-fact.false
 
 -- once the rule fits
 constraints-barred : (c : Else-not-rule_fits) → RuleMarked (rule_of (program_of c.args.file.now) c.args.rule.0) c.args.marks.now c.rule_fits.new.marks
-constraints-barred c = c.rule_fits.ensures.rule_marked (not-false _ c.if-not-rule_fits.false)
+constraints-barred c = c.rule_fits.ensures.rule_marked c.if-not-rule_fits.false
 
 pub returns-then-rules_of-rule : goal.returns-then-rules_of-rule
 returns-then-rules_of-rule c = record {
@@ -56,24 +55,24 @@ rule_fits-requires c = record {
 
 pub returns-then-not-rule_fits : goal.returns-then-not-rule_fits
 returns-then-not-rule_fits c = record {
-  value = rule-unfit c.requires.tabled c.args.fact c.args.rule (known (goal.at.returns-then-not-rule_fits c).Else-rules_of-rule) c.conclusion-concluded.ensures (unread (goal.at.returns-then-not-rule_fits c).Else-is_withheld) c.if-concluded-fact.false _ _ _ (sym (not-true _ c.if-not-rule_fits.true) ∙ c.rule_fits.ensures.value);
+  value = rule-unfit c.requires.tabled c.args.fact c.args.rule (known (goal.at.returns-then-not-rule_fits c).Else-rules_of-rule) c.conclusion-concluded.ensures (unread (goal.at.returns-then-not-rule_fits c).Else-is_withheld) c.if-concluded-fact.false _ _ _ (sym c.if-not-rule_fits.true ∙ c.rule_fits.ensures.value);
   step_marked = λ e. never e refl;
 }
 
 pub bounds-marks-number : goal.bounds-marks-number
-bounds-marks-number c = in_table (goal.at.bounds-marks-number c).Else-concluded-fact (known (goal.at.bounds-marks-number c).Else-rules_of-rule)
+bounds-marks-number c = in_table (goal.at.bounds-marks-number c).Else-concluded-fact
 
 pub returns-then-marks-number-eq-BARRED : goal.returns-then-marks-number-eq-BARRED
 returns-then-marks-number-eq-BARRED c = record {
-  value = bars-decide c.requires.tabled c.args.fact c.args.rule (known (goal.at.returns-then-marks-number-eq-BARRED c).Else-rules_of-rule) c.conclusion-concluded.ensures (unread (goal.at.returns-then-marks-number-eq-BARRED c).Else-is_withheld) c.if-concluded-fact.false _ _ _ (sym (not-false _ c.if-not-rule_fits.false) ∙ c.rule_fits.ensures.value) true (fact-barred (program_of c.args.file.now) (step_of c.args.fact c.args.rule) (constraints-barred (goal.at.returns-then-marks-number-eq-BARRED c).Else-not-rule_fits) c.if-marks-number-eq-BARRED.true);
+  value = bars-decide c.requires.tabled c.args.fact c.args.rule (known (goal.at.returns-then-marks-number-eq-BARRED c).Else-rules_of-rule) c.conclusion-concluded.ensures (unread (goal.at.returns-then-marks-number-eq-BARRED c).Else-is_withheld) c.if-concluded-fact.false _ _ _ (sym c.if-not-rule_fits.false ∙ c.rule_fits.ensures.value) true (fact-barred (program_of c.args.file.now) (step_of c.args.fact c.args.rule) (constraints-barred (goal.at.returns-then-marks-number-eq-BARRED c).Else-not-rule_fits) c.if-marks-number-eq-BARRED.true);
   step_marked = λ e. never e refl;
 }
 
 pub bounds-marks-number-2 : goal.bounds-marks-number-2
-bounds-marks-number-2 c = in_table (goal.at.bounds-marks-number-2 c).Else-concluded-fact (known (goal.at.bounds-marks-number-2 c).Else-rules_of-rule)
+bounds-marks-number-2 c = in_table (goal.at.bounds-marks-number-2 c).Else-concluded-fact
 
 pub returns : goal.returns
 returns c = record {
-  value = bars-decide c.requires.tabled c.args.fact c.args.rule (known (goal.at.returns c).Else-rules_of-rule) c.conclusion-concluded.ensures (unread (goal.at.returns c).Else-is_withheld) c.if-concluded-fact.false _ _ _ (sym (not-false _ c.if-not-rule_fits.false) ∙ c.rule_fits.ensures.value) false (fact-free (program_of c.args.file.now) (step_of c.args.fact c.args.rule) (constraints-barred (goal.at.returns c).Else-not-rule_fits) c.if-marks-number-eq-BARRED.false);
-  step_marked = λ e. fact-marked (program_of c.args.file.now) (step_of c.args.fact c.args.rule) (constraints-barred (goal.at.returns c).Else-not-rule_fits) (in_table (goal.at.returns c).Else-concluded-fact (known (goal.at.returns c).Else-rules_of-rule)) c.if-marks-number-eq-BARRED.false;
+  value = bars-decide c.requires.tabled c.args.fact c.args.rule (known (goal.at.returns c).Else-rules_of-rule) c.conclusion-concluded.ensures (unread (goal.at.returns c).Else-is_withheld) c.if-concluded-fact.false _ _ _ (sym c.if-not-rule_fits.false ∙ c.rule_fits.ensures.value) false (fact-free (program_of c.args.file.now) (step_of c.args.fact c.args.rule) (constraints-barred (goal.at.returns c).Else-not-rule_fits) c.if-marks-number-eq-BARRED.false);
+  step_marked = λ e. fact-marked (program_of c.args.file.now) (step_of c.args.fact c.args.rule) (constraints-barred (goal.at.returns c).Else-not-rule_fits) (in_table (goal.at.returns c).Else-concluded-fact) c.if-marks-number-eq-BARRED.false;
 }

@@ -1,5 +1,6 @@
 -- `scan_item`: each kind of the body has its function, and no other kind is of the body.
 use mathlib.Core.Path.{◌∙◌}
+use borrow.Author.Rules.{rules}
 use Rattle.cursors.proofs.Items.{found}
 use Rattle.reader.proofs.BodyAsked.{other_row}
 use Rattle.reader.proofs.BodyRead.{refuses, unread_refused, found_as, read_as}
@@ -23,4 +24,4 @@ returns-in-Unread c = λ s len late c₀ here short small w e.
     (refuses (unread_refused w (read_as e c.in-Unread.is) (λ f q. late f (c.in-Unread.is ∙ q))))
 
 pub returns-in_default : goal.returns-in_default
-returns-in_default c = λ s len late c₀ here short small w e. refuses (other_row w.verdict (found _ _ _ _ e) c.in_default.in_default-own.keys6)
+returns-in_default c = λ s len late c₀ here short small w e. refuses (other_row w.verdict (found _ _ _ _ e) (search rules))

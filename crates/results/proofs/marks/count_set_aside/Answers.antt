@@ -1,5 +1,5 @@
 -- `count_set_aside`: those counted and those to come are all that have the mark.
-use Prim.Native.Nat.{ℕ, ◌-◌, ◌<◌}
+use Prim.Native.Nat.{ℕ, ◌<◌}
 use mathlib.Core.Path.{◌≡◌, ap, ◌∙◌, sym}
 use mathlib.Core.Bool.{Bool}
 use native.Mathlib.Omega.{arith}

@@ -1,7 +1,6 @@
 -- `count_set_aside`: those counted and those to come are all that have the mark.
 use Prim.Native.Nat.{◌-◌, ◌≤◌}
 use mathlib.Core.Path.{◌≡◌}
-use borrow.Author.Rules.{rules}
 use lib.Dec.{eqb}
 use Rattle.theory.specs.Rule.{mem, count, in_force}
 use Rattle.theory.specs.Run.{Stand, rule_mark}

@@ -1,5 +1,4 @@
 -- `write_fact_marks`: the marks of the facts passed are written.
-use Prim.Native.Nat.{◌-◌}
 use mathlib.Core.Path.{◌∙◌}
 use Rattle.results.proofs.MarksWritten.{none_written, one_written, all-written, a_derived, a_rejected, an_open, fact-marks}
 use Rattle.results.proofs.marks.write_fact_marks.Goals as goal

@@ -1,11 +1,10 @@
 -- `write_rule_marks`: the marks of the rules passed are written.
-use Prim.Native.Nat.{ℕ, ◌-◌, ◌<◌}
+use Prim.Native.Nat.{ℕ, ◌<◌}
 use mathlib.Core.Path.{refl, ap, ◌∙◌}
 use mathlib.Core.Bool.{Bool}
 use native.Mathlib.Omega.{arith}
 use lib.ListN.{length-set}
 use Rattle.theory.specs.Rule.{count}
-use Rattle.theory.specs.Run.{rule_mark}
 use Rattle.items.specs.Item.{has}
 use Rattle.tables.specs.Layout.{program_in}
 use Rattle.tables.proofs.ProgramHeld.{in_table}

@@ -1,7 +1,6 @@
 -- `write_rule_marks`: the marks of the rules passed are written.
 use Prim.Native.Nat.{◌-◌}
 use mathlib.Core.Path.{◌≡◌}
-use borrow.Author.Rules.{rules}
 use lib.ListN.{length}
 use Rattle.theory.specs.Rule.{mem, count, in_force}
 use Rattle.theory.specs.Run.{Stand, rule_mark}

@@ -1,6 +1,5 @@
 -- `write_steps`: the steps of the rules passed are written.
 use Prim.Native.Nat.{◌-◌}
-use Rattle.theory.specs.Rule.{count}
 use Rattle.tables.specs.Layout.{program_in}
 use Rattle.results.proofs.StepsWritten.{Writing}
 use Rattle.results.proofs.steps.write_steps.Given as goal

@@ -1,5 +1,4 @@
 -- `constraints_clear`: what is to come decides what the whole does.
-use Prim.Native.Nat.{◌-◌}
 use mathlib.Core.Path.{sym, ap, ◌∙◌}
 use mathlib.Core.Bool.{not}
 use native.Mathlib.Omega.{arith}
