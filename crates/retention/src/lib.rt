@@ -1,5 +1,5 @@
 // The operations for callers in C and Rust: plain numbers by value, and no type of the engine. Each is the operation of the same name below,
-// with its answer as numbers.
+// with its answer as numbers. The crate retention_c exports them.
 
 #![tactic(auto)]
 
@@ -19,16 +19,14 @@ ghost use Rattle.replies.specs.Reply.{file_of, verdict_of_judged, verdict_of_che
 use replies::{ChoiceReply, Count, FileReply, RunCounts, Verdict};
 
 // Is the file accepted, and what does it count?
-#[unsafe(no_mangle)]
-pub extern "C" fn retention_accept(file: &[u8]) -> FileReply
+pub fn retention_accept(file: &[u8]) -> FileReply
     ensures { result ≡ file_of (accept_of file.now) }
 {
     replies::of_accept(reader::accept(file))
 }
 
 // Runs a file under an order.
-#[unsafe(no_mangle)]
-pub extern "C" fn retention_run(
+pub fn retention_run(
     file: &[u8],
     order: &[u8],
     fact_marks: &mut [u8],
@@ -41,8 +39,7 @@ pub extern "C" fn retention_run(
 }
 
 // Runs a file under an order, and keeps of its steps those that matter for a fact.
-#[unsafe(no_mangle)]
-pub extern "C" fn retention_grounds(
+pub fn retention_grounds(
     file: &[u8],
     order: &[u8],
     fact: u32,
@@ -56,24 +53,21 @@ pub extern "C" fn retention_grounds(
 }
 
 // Is a set stable for a file less some listed exception rules?
-#[unsafe(no_mangle)]
-pub extern "C" fn retention_judge(file: &[u8], list: &[u8], set: &[u8]) -> Verdict
+pub fn retention_judge(file: &[u8], list: &[u8], set: &[u8]) -> Verdict
     ensures { result ≡ verdict_of_judged (judged file.now list.now set.now) }
 {
     replies::of_judged(judge::judge(file, list, set))
 }
 
 // Is a row of steps a proof of a fact that a set admits?
-#[unsafe(no_mangle)]
-pub extern "C" fn retention_check(file: &[u8], set: &[u8], fact: u32, proof: &[u8]) -> Verdict
+pub fn retention_check(file: &[u8], set: &[u8], fact: u32, proof: &[u8]) -> Verdict
     ensures { result ≡ verdict_of_checked (checked file.now set.now fact proof.now) }
 {
     replies::of_checked(proofcheck::check(file, set, fact, proof))
 }
 
 // Searches a file for its earliest stable set.
-#[unsafe(no_mangle)]
-pub extern "C" fn retention_search(
+pub fn retention_search(
     file: &[u8],
     fact_marks: &mut [u8],
     rule_marks: &mut [u8],
@@ -86,32 +80,28 @@ pub extern "C" fn retention_search(
 }
 
 // The order by rank of a layered file.
-#[unsafe(no_mangle)]
-pub extern "C" fn retention_layered(file: &[u8], order: &mut [u8]) -> Count
+pub fn retention_layered(file: &[u8], order: &mut [u8]) -> Count
     ensures { ◌≡◌ {A = LayeredReply} (record { reply = result; order = order.new }) (layered_reply (layered_outcome file.now order.old)) }
 {
     replies::of_layered(layers::layered(file, order))
 }
 
 // Which of two orders sets aside fewer rules in the run of a file. A reference cannot be handed to a caller in C, so it is told which of the two is handed back.
-#[unsafe(no_mangle)]
-pub extern "C" fn retention_better(file: &[u8], first: &[u8], second: &[u8]) -> ChoiceReply
+pub fn retention_better(file: &[u8], first: &[u8], second: &[u8]) -> ChoiceReply
     ensures { result ≡ reply_of_choice (choice_of file.now first.now second.now) }
 {
     replies::of_choice(better::choose(file, first, second))
 }
 
 // A test load: a file of so many rules over so many facts, drawn from a start.
-#[unsafe(no_mangle)]
-pub extern "C" fn retention_load(start: u32, facts: u32, rules: u32, out: &mut [u8]) -> Count
+pub fn retention_load(start: u32, facts: u32, rules: u32, out: &mut [u8]) -> Count
     ensures { ◌≡◌ {A = LoadReply} (record { reply = result; out = out.new }) (load_reply (load_outcome start facts rules out.old)) }
 {
     replies::of_loaded(generator::load(start, facts, rules, out))
 }
 
 // The panel's text for a file, written where it fits. Answers its length.
-#[unsafe(no_mangle)]
-pub extern "C" fn retention_panel(file: &[u8], out: &mut [u8]) -> u32
+pub fn retention_panel(file: &[u8], out: &mut [u8]) -> u32
     ensures { (result ≡ length (panel_text file.now)) × (out.new ≡ shown (panel_text file.now) out.old) }
 {
     panel_text::render(file, out) as u32

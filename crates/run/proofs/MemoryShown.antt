@@ -8,7 +8,7 @@ use native.Mathlib.Omega.{arith}
 use borrow.Author.Tests.{ltb-true, ltb-false}
 use lib.ListN.{length, get_or, take, set, replicate, length-replicate}
 use lib.Dec.{eqb, ltb}
-use Rattle.theory.specs.Rule.{mem, Program, FactSet, nothing, in_force, rule, plain, plain_rules}
+use Rattle.theory.specs.Rule.{mem, Program, FactSet, nothing, in_force, plain, plain_rules}
 use Rattle.theory.specs.Conditions.{Bounded}
 use Rattle.theory.specs.Derive.{derive, fired as fired_from, meets, steps, step_by}
 use Rattle.theory.specs.Run.{rejected, start}

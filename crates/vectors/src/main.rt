@@ -9,22 +9,25 @@ mod report;
 
 use replay::read::NEXT;
 use report::COUNTS;
+use std::fs;
+use std::io;
+use std::io::Read;
 
 // More than the file of cases has. What is past its end is 0, and ends it.
 const ROOM: usize = 1441792;
 
 // One case after another, up to an empty row. Answers the place of that row.
-fn try_all(bytes: &[u8], counts: &mut [u32; COUNTS]) -> usize {
+fn try_all(rt: &HostRuntime, bytes: &[u8], counts: &mut [u32; COUNTS]) -> io::Result<usize> {
     let mut at: usize = 0;
     let mut turns: u32 = 65536;
     while turns > 0 {
         let head = replay::read::row(bytes, at);
         if head.len() == 0 {
-            return at;
+            return Ok(at);
         }
         let places = replay::read::places(bytes, at);
         let same = replay::call::agrees(bytes, places);
-        report::verdict(replay::read::row(bytes, places[1]), at, same);
+        report::verdict(rt, replay::read::row(bytes, places[1]), at, same)?;
         let mut k = 2 * (replay::read::number(head, 0) as usize);
         if !same {
             k += 1;
@@ -35,7 +38,7 @@ fn try_all(bytes: &[u8], counts: &mut [u32; COUNTS]) -> usize {
         at = places[NEXT];
         turns -= 1;
     }
-    at
+    Ok(at)
 }
 
 // The contract gives the length alone, which lending it as a slice needs.
@@ -45,12 +48,24 @@ fn room() -> [u8; ROOM]
     [0; ROOM]
 }
 
-fn main() {
+// Reads a file up to its end, or until the room is full.
+fn fill<R: Read>(file: &mut R, room: &mut [u8]) -> io::Result<()> {
+    let mut have: usize = 0;
+    while have < room.len() {
+        let more = file.read(&mut room[have..])?;
+        if more == 0 {
+            return Ok(());
+        }
+        have += more;
+    }
+    Ok(())
+}
+
+fn main(rt: HostRuntime) -> io::Result<()> {
     let mut room = room();
-    let fd = os::open_read(b"vectors.bin");
-    io::read_full(fd, &mut room);
-    libc::close(fd);
+    let mut file = fs::open(&rt, "vectors.bin")?;
+    fill(&mut file, &mut room)?;
     let mut counts = [0u32; COUNTS];
-    let end = try_all(&room, &mut counts);
-    report::counts(&room, end, &counts);
+    let end = try_all(&rt, &room, &mut counts)?;
+    report::counts(&rt, &room, end, &counts)
 }

@@ -1,5 +1,4 @@
 -- `same_facts`: what is to come decides.
-use Prim.Native.Nat.{◌-◌}
 use mathlib.Core.Path.{◌≡◌, sym, ap₂, ◌∙◌}
 use mathlib.Core.Bool.{Bool, beq}
 use native.Mathlib.Omega.{arith}

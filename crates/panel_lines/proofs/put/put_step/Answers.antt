@@ -12,8 +12,9 @@ fact-put : (c : After-put_field-next) → let a = c.args in Putting (step_line (
 unfolding step_line
 fact-put c = one_put (begun _ _ _ c.requires) _ _ refl _ _ c.put_field-next.ensures
 
-rule-put : (c : After-put_spaced-end) (fact-put-here : let a = c.args in Putting (step_line (step_of a.fact a.rule)) a.at a.out.now (spaced a.rule.0 ++ newline) c.put_field-next.result c.put_field-next.new.out) → let a = c.args in Putting (step_line (step_of a.fact a.rule)) a.at a.out.now newline c.put_spaced-end.result c.put_spaced-end.new.out
-rule-put c fact-put-here = one_put (fact-put-here) _ _ refl _ _ c.put_spaced-end.ensures
+rule-put : (c : After-put_spaced-end) → let a = c.args in Putting (step_line (step_of a.fact a.rule)) a.at a.out.now newline c.put_spaced-end.result c.put_spaced-end.new.out
+unfolding step_line
+rule-put c = one_put (one_put (begun _ _ _ c.requires) _ _ refl _ _ c.put_field-next.ensures) _ _ refl _ _ c.put_spaced-end.ensures
 
 pub put_field-next-requires : goal.put_field-next-requires
 unfolding step_line
@@ -23,7 +24,7 @@ pub put_spaced-end-requires : goal.put_spaced-end-requires
 put_spaced-end-requires c = next_fits (fact-put (goal.at.put_spaced-end-requires c).After-put_field-next) _ newline refl
 
 pub put-requires : goal.put-requires
-put-requires c = (rule-put (goal.at.put-requires c).After-put_spaced-end (fact-put (goal.at.put-requires c).After-put_field-next)).fits
+put-requires c = (rule-put (goal.at.put-requires c).After-put_spaced-end).fits
 
 pub returns : goal.returns
-returns c = (rule-put (goal.at.returns c).After-put_spaced-end (fact-put (goal.at.returns c).After-put_field-next)).finish _ _ c.put.ensures
+returns c = (rule-put (goal.at.returns c).After-put_spaced-end).finish _ _ c.put.ensures

@@ -1,6 +1,7 @@
 -- `put_steps`: the lines of the steps before the cursor are written.
 use Prim.Native.Nat.{◌-◌}
 use mathlib.Core.Path.{◌≡◌, refl, sym, ◌∙◌}
+use borrow.Author.Rules.{rules}
 use borrow.Enum.Refused.{opened}
 use Rattle.cursors.specs.declared.cursor.Row.TheVariants.{Steps}
 use Rattle.cursors.specs.declared.cursor.Read.TheVariants.{Found}
@@ -43,7 +44,7 @@ loop-item-smaller c = closer (found _ _ _ _ (item-read (goal.at.loop-item-smalle
 
 pub loop-item-preserved : goal.loop-item-preserved
 loop-item-preserved c = let read = item-read (goal.at.loop-item-preserved c).In-Found in
-    (same_row _ _ _ _ Steps read tt c.loop-item.invariant.0, other_passed _ _ _ _ _ _ c.loop-item.invariant.1 _ _ read (opened c.in_default.in_default-own.keys2))
+    (same_row _ _ _ _ Steps read tt c.loop-item.invariant.0, other_passed _ _ _ _ _ _ c.loop-item.invariant.1 _ _ read (search (rules, opened)))
 
 pub shape_of-out-in-Ended : goal.shape_of-out-in-Ended
 shape_of-out-in-Ended c = c.loop-item.invariant.1.kept

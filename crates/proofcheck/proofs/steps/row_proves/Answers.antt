@@ -2,6 +2,7 @@
 use Prim.Native.Nat.{◌-◌}
 use mathlib.Core.Path.{◌≡◌, refl, sym, ◌∙◌}
 use mathlib.Core.List.{◌∷◌}
+use borrow.Author.Rules.{rules}
 use borrow.Enum.Refused.{opened}
 use Rattle.cursors.specs.declared.cursor.Read.TheVariants.{Found}
 use Rattle.cursors.specs.declared.cursor.Row.TheVariants.{Steps}
@@ -53,8 +54,8 @@ loop-item-smaller c = closer (found _ _ _ _ (item-read (goal.at.loop-item-smalle
 pub loop-item-preserved : goal.loop-item-preserved
 loop-item-preserved c = (
   same_row _ _ _ _ Steps (item-read (goal.at.loop-item-preserved c).In-Found) tt c.loop-item.invariant.0,
-  walking_along c.loop-item.invariant.1 _ (other_item _ _ _ _ (item-read (goal.at.loop-item-preserved c).In-Found) (opened c.in_default-item.in_default-item-own.keys2)),
+  walking_along c.loop-item.invariant.1 _ (other_item _ _ _ _ (item-read (goal.at.loop-item-preserved c).In-Found) (search (rules, opened))),
 )
 
 pub returns-in_default : goal.returns-in_default
-returns-in_default c = all-walked c.loop-item.invariant.1 (nothing_read steps_of (λ fault. refl) _ _ _ (sym c.next_step.ensures) (opened c.in_default.in_default-own.keys2))
+returns-in_default c = all-walked c.loop-item.invariant.1 (nothing_read steps_of (λ fault. refl) _ _ _ (sym c.next_step.ensures) (search (rules, opened)))

@@ -1,5 +1,5 @@
 -- `all_stages`: between the stages the run stands where it goes on to its end.
-use Prim.Native.Nat.{ℕ, ◌-◌, ◌<◌}
+use Prim.Native.Nat.{ℕ, ◌<◌}
 use mathlib.Core.Path.{refl}
 use native.Mathlib.Omega.{arith}
 use lib.ListN.{take, length-replicate}

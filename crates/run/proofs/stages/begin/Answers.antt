@@ -1,6 +1,5 @@
 -- `begin`: from the outset, where no fact is barred.
 use mathlib.Core.Path.{◌≡◌, ap, ◌∙◌}
-use borrow.Author.Rules.{rules}
 use Rattle.theory.specs.Rule.{in_force, plain_rules}
 use Rattle.items.specs.Item.{has}
 use Rattle.tables.specs.Layout.{program_in}

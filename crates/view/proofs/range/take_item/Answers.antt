@@ -1,5 +1,6 @@
 -- `take_item`: each way of the read at the front is a law of `RangeItems`.
 use mathlib.Core.Path.{sym, ◌∙◌}
+use borrow.Author.Rules.{rules}
 use borrow.Enum.Refused.{opened}
 use Rattle.view.proofs.RangeItems.{empty-range, none_taken, other_there, premise_taken, constraint_taken}
 use Rattle.view.proofs.range.take_item.Goals as goal
@@ -14,7 +15,7 @@ pub returns-in-Constraint : goal.returns-in-Constraint
 returns-in-Constraint c = constraint_taken _ _ _ c.if-end-at.false _ _ (sym c.next_in_body.ensures ∙ c.in-Found.is) _ c.in-Constraint.is
 
 pub returns-in_default-item : goal.returns-in_default-item
-returns-in_default-item c = other_there _ _ _ c.if-end-at.false _ _ (sym c.next_in_body.ensures ∙ c.in-Found.is) (opened c.in_default-item.in_default-item-own.keys3)
+returns-in_default-item c = other_there _ _ _ c.if-end-at.false _ _ (sym c.next_in_body.ensures ∙ c.in-Found.is) (search (rules, opened))
 
 pub returns-in_default : goal.returns-in_default
-returns-in_default c = none_taken _ _ _ c.if-end-at.false _ (sym c.next_in_body.ensures) (opened c.in_default.in_default-own.keys2)
+returns-in_default c = none_taken _ _ _ c.if-end-at.false _ (sym c.next_in_body.ensures) (search (rules, opened))

@@ -1,0 +1,117 @@
+// The archive for callers in C and Rust: exports the operations of the crate retention under their names.
+
+#![tactic(auto)]
+
+ghost use Rattle.std.specs.Prelude.{◌≡◌, length};
+ghost use Rattle.reader.specs.Accept.{accept_of};
+ghost use Rattle.run.specs.Outcome.{run_outcome};
+ghost use Rattle.judge.specs.Judged.{judged};
+ghost use Rattle.proofcheck.specs.Checked.{checked};
+ghost use Rattle.search.specs.Outcome.{search_outcome};
+ghost use Rattle.keeping.specs.Outcome.{grounds_outcome};
+ghost use Rattle.layers.specs.Outcome.{layered_outcome};
+ghost use Rattle.generator.specs.Outcome.{load_outcome};
+ghost use Rattle.better.specs.Outcome.{choice_of};
+ghost use Rattle.panel_lines.specs.Text.{panel_text, shown};
+ghost use Rattle.replies.specs.Reply.{file_of, verdict_of_judged, verdict_of_checked, RunReply, run_reply, SearchReply, search_reply, GroundsReply, grounds_reply, LayeredReply, layered_reply, LoadReply, load_reply, reply_of_choice};
+
+use replies::{ChoiceReply, Count, FileReply, RunCounts, Verdict};
+
+// Is the file accepted, and what does it count?
+#[unsafe(no_mangle)]
+pub extern "C" fn retention_accept(file: &[u8]) -> FileReply
+    ensures { result ≡ file_of (accept_of file.now) }
+{
+    retention::retention_accept(file)
+}
+
+// Runs a file under an order.
+#[unsafe(no_mangle)]
+pub extern "C" fn retention_run(
+    file: &[u8],
+    order: &[u8],
+    fact_marks: &mut [u8],
+    rule_marks: &mut [u8],
+    steps: &mut [u8],
+) -> RunCounts
+    ensures { ◌≡◌ {A = RunReply} (record { reply = result; fact-marks = fact_marks.new; rule-marks = rule_marks.new; steps = steps.new }) (run_reply (run_outcome file.now order.now fact_marks.old rule_marks.old steps.old)) }
+{
+    retention::retention_run(file, order, fact_marks, rule_marks, steps)
+}
+
+// Runs a file under an order, and keeps of its steps those that matter for a fact.
+#[unsafe(no_mangle)]
+pub extern "C" fn retention_grounds(
+    file: &[u8],
+    order: &[u8],
+    fact: u32,
+    fact_marks: &mut [u8],
+    rule_marks: &mut [u8],
+    steps: &mut [u8],
+) -> Count
+    ensures { ◌≡◌ {A = GroundsReply} (record { reply = result; fact-marks = fact_marks.new; rule-marks = rule_marks.new; steps = steps.new }) (grounds_reply (grounds_outcome file.now order.now fact fact_marks.old rule_marks.old steps.old)) }
+{
+    retention::retention_grounds(file, order, fact, fact_marks, rule_marks, steps)
+}
+
+// Is a set stable for a file less some listed exception rules?
+#[unsafe(no_mangle)]
+pub extern "C" fn retention_judge(file: &[u8], list: &[u8], set: &[u8]) -> Verdict
+    ensures { result ≡ verdict_of_judged (judged file.now list.now set.now) }
+{
+    retention::retention_judge(file, list, set)
+}
+
+// Is a row of steps a proof of a fact that a set admits?
+#[unsafe(no_mangle)]
+pub extern "C" fn retention_check(file: &[u8], set: &[u8], fact: u32, proof: &[u8]) -> Verdict
+    ensures { result ≡ verdict_of_checked (checked file.now set.now fact proof.now) }
+{
+    retention::retention_check(file, set, fact, proof)
+}
+
+// Searches a file for its earliest stable set.
+#[unsafe(no_mangle)]
+pub extern "C" fn retention_search(
+    file: &[u8],
+    fact_marks: &mut [u8],
+    rule_marks: &mut [u8],
+    steps: &mut [u8],
+    order: &mut [u8],
+) -> RunCounts
+    ensures { ◌≡◌ {A = SearchReply} (record { reply = result; fact-marks = fact_marks.new; rule-marks = rule_marks.new; steps = steps.new; order = order.new }) (search_reply (search_outcome file.now fact_marks.old rule_marks.old steps.old order.old)) }
+{
+    retention::retention_search(file, fact_marks, rule_marks, steps, order)
+}
+
+// The order by rank of a layered file.
+#[unsafe(no_mangle)]
+pub extern "C" fn retention_layered(file: &[u8], order: &mut [u8]) -> Count
+    ensures { ◌≡◌ {A = LayeredReply} (record { reply = result; order = order.new }) (layered_reply (layered_outcome file.now order.old)) }
+{
+    retention::retention_layered(file, order)
+}
+
+// Which of two orders sets aside fewer rules in the run of a file. A reference cannot be handed to a caller in C, so it is told which of the two is handed back.
+#[unsafe(no_mangle)]
+pub extern "C" fn retention_better(file: &[u8], first: &[u8], second: &[u8]) -> ChoiceReply
+    ensures { result ≡ reply_of_choice (choice_of file.now first.now second.now) }
+{
+    retention::retention_better(file, first, second)
+}
+
+// A test load: a file of so many rules over so many facts, drawn from a start.
+#[unsafe(no_mangle)]
+pub extern "C" fn retention_load(start: u32, facts: u32, rules: u32, out: &mut [u8]) -> Count
+    ensures { ◌≡◌ {A = LoadReply} (record { reply = result; out = out.new }) (load_reply (load_outcome start facts rules out.old)) }
+{
+    retention::retention_load(start, facts, rules, out)
+}
+
+// The panel's text for a file, written where it fits. Answers its length.
+#[unsafe(no_mangle)]
+pub extern "C" fn retention_panel(file: &[u8], out: &mut [u8]) -> u32
+    ensures { (result ≡ length (panel_text file.now)) × (out.new ≡ shown (panel_text file.now) out.old) }
+{
+    retention::retention_panel(file, out)
+}
