@@ -97,9 +97,21 @@ def fallen(new, every):
         tokens[path] = set(WORD.findall(text))
     for old, to in sorted(new.items()):
         for path, words in tokens.items():
-            if old in words and to in words and to not in new:
+            if old in words and to in words and to not in new and to not in THERE:
                 bad.append((old, to, path))
     return bad
+
+
+# The same, where only these files have both.
+THERE = {
+    "left_out": ("left_out_lem", ("crates/theory/proofs/Guesses", "crates/guessing/proofs/GuessDerived")),
+    "none_left": ("none_left_lem", ("crates/proofcheck/",)),
+}
+
+
+def here(new, path):
+    """The names as a file has them."""
+    return {**new, **{old: to for old, (to, where) in THERE.items() if path.startswith(where)}}
 
 
 def names_function(pair):
@@ -174,9 +186,9 @@ def main():
     # a dash stays too where the name would fall together with another
     for old, _, where in fallen(new, every):
         for name in (old, where[5:] if where.startswith("also ") else ""):
-            if "-" in name:
+            if "-" in name and name not in OWN:
                 new.pop(name, None)
-    bad = [b for b in fallen(new, every) if not names_function(b)]
+    bad = [b for b in fallen(new, every) if not names_function(b) and b[0] not in OWN]
     if bad or "--list" in sys.argv:
         for b in bad:
             print("falls together:", *b)
@@ -190,9 +202,9 @@ def main():
         if path.endswith(".edit"):
             text = "".join(turned(l, known) if l.startswith(("old:", "new:")) else in_prose(l, known) for l in old.splitlines(True))
         elif path.endswith(".rt"):
-            text = "".join(in_code(l, new) for l in old.splitlines(True))
+            text = "".join(in_code(l, here(new, path)) for l in old.splitlines(True))
         else:
-            text = "".join(by_comment(l, mark, new) for l in old.splitlines(True))
+            text = "".join(by_comment(l, mark, here(new, path)) for l in old.splitlines(True))
         if any(path.endswith(e) for e in EXAMPLES):
             text = "".join(l if l.lstrip().startswith("--") else EXAMPLE.sub(lambda m: "example_" + m.group(1).lower(), l) for l in text.splitlines(True))
         write(path, text, old)
@@ -205,15 +217,15 @@ def main():
 
 # A lemma of a definition's name, by which the two would fall together, and the other names of that kind.
 OWN = {
-    "left_out": "left_out_lem",
     "all_digits": "all_digits_lem",
     "no_number": "no_number_lem",
     "none_allowed": "none_allowed_lem",
-    "none_left": "none_left_lem",
     "told_of": "told_of_lem",
     "handedOut": "handed_over",
     "factMarks": "marks_of_facts",
     "ruleMarks": "marks_of_rules",
+    "fact-marks": "fact_marks",
+    "rule-marks": "rule_marks",
     # named in comments, or in proofs of one function
     "firedFrom": "fired_from",
     "upheldIn": "upheld_in",

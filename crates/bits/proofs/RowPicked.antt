@@ -29,7 +29,7 @@ one_picked {p} {place} {after} t f =
     record {
       one_of = λ i e. ap p (sym (same_place e)) ∙ t;
       rest = λ i e. subst (λ (m : ℕ). Flags (without p m) after) (same_place e) f;
-      none_left_lem = λ e. not_at place (sym e);
+      none_left = λ e. not_at place (sym e);
     }
 
 -- The lowest bit of a word from one on is cleared.
@@ -65,6 +65,6 @@ first_taken falls taken = (
       record {
         one_of = λ i e. (lowest-is p i ((taken p f).lowest i e)).passes;
         rest = (taken p f).rest;
-        none_left_lem = λ e. nothing_left f ((taken p f).none_left_lem e);
+        none_left = λ e. nothing_left f ((taken p f).none_left e);
       },
 )

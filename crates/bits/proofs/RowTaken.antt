@@ -191,7 +191,7 @@ module _ {row₀ row : List ℕ} {at : ℕ} (w : Passed row₀ row at) where
       record {
         lowest = λ i e. not_at i e;
         rest = λ i e. not_at i e;
-        none_left_lem = λ e. zeros_before f row_words (λ k l. w.zeros k (omega arith)) (omega arith);
+        none_left = λ e. zeros_before f row_words (λ k l. w.zeros k (omega arith)) (omega arith);
         kept = λ e. f;
       }
 
@@ -216,7 +216,7 @@ module _ {row₀ row : List ℕ} {at : ℕ} (w : Passed row₀ row at) where
             record {
               lowest = λ i e. whole ∙ ap (λ (m : ℕ). some m) (same_place e);
               rest = λ i e. subst (λ (m : ℕ). Flags (without p m) (set row at v)) (same_place e) (lowest-rest at h l bit v b v-is f bit_is);
-              none_left_lem = λ e. not_at (at * word_bits + bit) (sym e);
+              none_left = λ e. not_at (at * word_bits + bit) (sym e);
               kept = λ e. not_at (at * word_bits + bit) (sym e);
             }
           where

@@ -41,14 +41,14 @@ lowest_of p = seek p (up_to max_rules)
 pub record Taken (p : ℕ → Bool) (answer : Lowest) (after : List ℕ) : Type 0 where
   pub lowest : (i : ℕ) → answer ≡ At i → lowest_of p ≡ some i
   pub rest : (i : ℕ) → answer ≡ At i → Flags (without p i) after
-  pub none_left_lem : answer ≡ Nothing → ◌≡◌ {A = Option ℕ} (lowest_of p) none
+  pub none_left : answer ≡ Nothing → ◌≡◌ {A = Option ℕ} (lowest_of p) none
   pub kept : answer ≡ Nothing → Flags p after
 
 -- What taking some number of the set answers, and leaves.
 pub record Picked (p : ℕ → Bool) (answer : Lowest) (after : List ℕ) : Type 0 where
   pub one_of : (i : ℕ) → answer ≡ At i → p i ≡ true
   pub rest : (i : ℕ) → answer ≡ At i → Flags (without p i) after
-  pub none_left_lem : answer ≡ Nothing → (i : ℕ) → p i ≡ false
+  pub none_left : answer ≡ Nothing → (i : ℕ) → p i ≡ false
 
 -- the sum of the words
 abbrev pub total : List ℕ → ℕ

@@ -40,7 +40,7 @@ module _ {P : Program} {on : Mask} {S : FactSet} {row : List ℕ} (w : Waits P o
       w.waits i (and_left (on i) _ t) (and_left (all S (rule P i).premises) _ both) (false_of_not (S (rule P i).conclusion) (and_right (all S (rule P i).premises) _ both))
 
   pub none_ready : {r : Lowest} {row' : List ℕ} → Taken w.p r row' → r ≡ taken.Nothing → Nothing ≡ found_of (lowest P on S)
-  none_ready t e = sym (ap found_of (no_number_lem (ready P on S) (count P) (λ j h. false_of (ready P on S j) (λ u. never (ready-waits j u) (nothing_left w.flags (t.none_left_lem e) j)))))
+  none_ready t e = sym (ap found_of (no_number_lem (ready P on S) (count P) (λ j h. false_of (ready P on S j) (λ u. never (ready-waits j u) (nothing_left w.flags (t.none_left e) j)))))
 
   -- Rule i was taken, the lowest that waits.
   module _ {r : Lowest} {row' : List ℕ} (t : Taken w.p r row') (i : ℕ) (e : r ≡ taken.At i) where

@@ -172,9 +172,9 @@ pub closer : {s : List ℕ} {c d : Cursor} {i : Item} → ReadAt s c i d → len
 closer f = omega arith
 
 -- No item is left exactly where no byte is.
-pub none_left_lem : (s : List ℕ) (c : Cursor) → length s ≤ c.at → items_at s c ≡ []
+pub none_left : (s : List ℕ) (c : Cursor) → length s ≤ c.at → items_at s c ≡ []
 unfolding items_at
-none_left_lem s c h = ap (items_in c.row 0) (drop_of_length-le s h)
+none_left s c h = ap (items_in c.row 0) (drop_of_length-le s h)
 
 pub some_left : (s : List ℕ) (c : Cursor) → c.at < length s → ended (items_at s c) ≡ false
 unfolding items_at

@@ -74,7 +74,7 @@ module _ (file : List ℕ) where
           (λ f h.
           let l : f < P.facts = mem-up_to P.facts f h in
           rw (lt-ltb f P.facts l)
-          (ap (λ (x : RunOutcome). eqb (get_or x.fact-marks f 0) 2) o_is ∙ ap (λ (m : ℕ). eqb m 2) (mark_at (fact_mark P s) P.facts facts f l)))
+          (ap (λ (x : RunOutcome). eqb (get_or x.fact_marks f 0) 2) o_is ∙ ap (λ (m : ℕ). eqb m 2) (mark_at (fact_mark P s) P.facts facts f l)))
 
       lines_are : run_text P s ≡ lines_of file o
       unfolding run_text

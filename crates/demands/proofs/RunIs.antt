@@ -96,21 +96,21 @@ module _ (file order facts rules steps : List ℕ) (passed : ◌≡◌ {A = Opti
   unfolding run_written
   withheld-is = ap (withheld_set file) o_is ∙ read_withheld P in_bounds names rules
 
-  open_is : (f : ℕ) → f < P.facts → derived_set file o f ≡ false → rejected_set file o f ≡ false → get_or o.fact-marks f 0 ≡ 0
+  open_is : (f : ℕ) → f < P.facts → derived_set file o f ≡ false → rejected_set file o f ≡ false → get_or o.fact_marks f 0 ≡ 0
   unfolding run_written fact_mark
   open_is f l d r =
-      ap (λ (x : RunOutcome). get_or x.fact-marks f 0) o_is
+      ap (λ (x : RunOutcome). get_or x.fact_marks f 0) o_is
       ∙ (mark_at (fact_mark P s) P.facts facts f l
       ∙ open_mark (s.derived f) (rejected P s.applied f) (rw derived_is at d) (rw rejected-is at r))
 
-  other_is : (c : ℕ) → c < count P → plain_set file o c ≡ false → applied_set file o c ≡ false → aside_set file o c ≡ false → withheld_set file o c ≡ false → get_or o.rule-marks c 0 ≡ 3
+  other_is : (c : ℕ) → c < count P → plain_set file o c ≡ false → applied_set file o c ≡ false → aside_set file o c ≡ false → withheld_set file o c ≡ false → get_or o.rule_marks c 0 ≡ 3
   unfolding run_written rule_mark
   other_is c l p a x w =
-      ap (λ (x : RunOutcome). get_or x.rule-marks c 0) o_is
+      ap (λ (x : RunOutcome). get_or x.rule_marks c 0) o_is
       ∙ (mark_at (rule_mark P (in_force P) s) (count P) rules c l
       ∙ other_mark (plain P c) (mem c s.applied) (set_aside P (in_force P) s.derived c) (in_force P c) (rw plain-is at p) (rw applied_is at a) (rw aside_is at x) (read_on P c (rw withheld-is at w)))
 
-  stages_are : run_stages o.answer ≡ how_many (λ m. eqb m 1) (take (count P) o.rule-marks)
+  stages_are : run_stages o.answer ≡ how_many (λ m. eqb m 1) (take (count P) o.rule_marks)
   unfolding run_written
   stages_are =
       rw o_is
@@ -143,16 +143,16 @@ module _ (file order facts rules steps : List ℕ) (passed : ◌≡◌ {A = Opti
   unfolding run_written
   steps-stay = rw o_is (over-kept (step_bytes narrow s.trace) steps (step_width narrow * length s.trace) (step-bytes_length s.trace))
 
-  facts-stay : drop P.facts o.fact-marks ≡ drop P.facts facts
+  facts-stay : drop P.facts o.fact_marks ≡ drop P.facts facts
   unfolding run_written
   facts-stay =
-      ap (λ (x : RunOutcome). drop P.facts x.fact-marks) o_is
+      ap (λ (x : RunOutcome). drop P.facts x.fact_marks) o_is
       ∙ over-kept (marks_of_facts P s) facts P.facts (mapped_length (fact_mark P s) P.facts)
 
-  rules-stay : drop (count P) o.rule-marks ≡ drop (count P) rules
+  rules-stay : drop (count P) o.rule_marks ≡ drop (count P) rules
   unfolding run_written
   rules-stay =
-      ap (λ (x : RunOutcome). drop (count P) x.rule-marks) o_is
+      ap (λ (x : RunOutcome). drop (count P) x.rule_marks) o_is
       ∙ over-kept (marks_of_rules P (in_force P) s) rules (count P) (mapped_length (rule_mark P (in_force P) s) (count P))
 
   pub run-passed : RunIs file order facts rules steps o

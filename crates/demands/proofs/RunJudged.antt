@@ -49,7 +49,7 @@ run_judged file order facts rules steps e =
     is = run-passed file order facts rules steps ran
 
     within : (f : ℕ) → P.facts ≤ f → derived_set file o f ≡ false
-    within f l = marked-past P.facts 1 o.fact-marks f l
+    within f l = marked-past P.facts 1 o.fact_marks f l
 
     excepted : (i : ℕ) → aside_set file o i ≡ true → exception P i ≡ true
     excepted i a = aside_exception P (in_force P) (run_of file order) (run_sound P (in_force P) (named_in order)) i (aside_supported P (in_force P) (run_of file order).derived i (rw (aside_is file order facts rules steps ran) at a))

@@ -133,11 +133,11 @@ module _ (s t : List ℕ) (yes-s : ◌≡◌ {A = Option Refusal} (file_no s) no
       elim (run-asked order (length facts) (length rules) (length steps) i) as (λ _. RunOutcome) [
         | none ↦ record {
           answer = ran.Done (stage_count (end i)) (step_count (end i));
-          fact-marks = over (alike_fact_marks a (named_in order) i) facts;
-          rule-marks = over (alike_rule_marks a (named_in order) i) rules;
+          fact_marks = over (alike_fact_marks a (named_in order) i) facts;
+          rule_marks = over (alike_rule_marks a (named_in order) i) rules;
           steps = over (step_bytes narrow (end i).trace) steps;
         }
-        | some r ↦ record { answer = ran.Refused r; fact-marks = facts; rule-marks = rules; steps = steps }
+        | some r ↦ record { answer = ran.Refused r; fact_marks = facts; rule_marks = rules; steps = steps }
       ]
     where
       end : run_of s order ≡ run_of t order
@@ -158,8 +158,8 @@ module _ (s t : List ℕ) (yes-s : ◌≡◌ {A = Option Refusal} (file_no s) no
       elim (grounds_asked order fact (length facts) (length rules) (length steps) i) as (λ _. GroundsOutcome) [
         | none ↦ record {
           answer = told.Given (length (alike_grounds a (named_in order) fact i));
-          fact-marks = over (alike_fact_marks a (named_in order) i) facts;
-          rule-marks = over (alike_rule_marks a (named_in order) i) rules;
+          fact_marks = over (alike_fact_marks a (named_in order) i) facts;
+          rule_marks = over (alike_rule_marks a (named_in order) i) rules;
           steps = over (step_bytes narrow (alike_grounds a (named_in order) fact i)) steps;
         }
         | some r ↦ grounds_refused r facts rules steps
@@ -235,8 +235,8 @@ module _ (s t : List ℕ) (yes-s : ◌≡◌ {A = Option Refusal} (file_no s) no
       elim (search-asked (length facts) (length rules) (length steps) (length order) i) as (λ _. SearchOutcome) [
         | none ↦ record {
           answer = searched.Found (stage_count (same_end i)) (step_count (same_end i));
-          fact-marks = over (alike_fact_marks a (same_written i) i) facts;
-          rule-marks = over (alike_rule_marks a (same_written i) i) rules;
+          fact_marks = over (alike_fact_marks a (same_written i) i) facts;
+          rule_marks = over (alike_rule_marks a (same_written i) i) rules;
           steps = over (step_bytes narrow (same_end i).trace) steps;
           order = over (naming (same_written i)) order;
         }

@@ -113,8 +113,8 @@ module _ (file facts rules steps order : List ℕ) (passed : ◌≡◌ {A = Opti
     unfolding search_written run_written
     agrees =
         record {
-          fact-marks = ap (λ (x : RunOutcome). take P.facts x.fact-marks) ran-so ∙ (marks_front (fact_mark P s) P.facts facts' ∙ sym (ap (λ (x : SearchOutcome). take P.facts x.fact-marks) o_is ∙ marks_front (fact_mark P s) P.facts facts));
-          rule-marks = ap (λ (x : RunOutcome). take (count P) x.rule-marks) ran-so ∙ (marks_front (rule_mark P (in_force P) s) (count P) rules' ∙ sym (ap (λ (x : SearchOutcome). take (count P) x.rule-marks) o_is ∙ marks_front (rule_mark P (in_force P) s) (count P) rules));
+          fact_marks = ap (λ (x : RunOutcome). take P.facts x.fact_marks) ran-so ∙ (marks_front (fact_mark P s) P.facts facts' ∙ sym (ap (λ (x : SearchOutcome). take P.facts x.fact_marks) o_is ∙ marks_front (fact_mark P s) P.facts facts));
+          rule_marks = ap (λ (x : RunOutcome). take (count P) x.rule_marks) ran-so ∙ (marks_front (rule_mark P (in_force P) s) (count P) rules' ∙ sym (ap (λ (x : SearchOutcome). take (count P) x.rule_marks) o_is ∙ marks_front (rule_mark P (in_force P) s) (count P) rules));
           steps = ap step_row ran-so ∙ (steps_front s.trace steps' ∙ sym steps-are);
           stage-count = ap (λ (x : RunOutcome). run_stages x.answer) ran-so ∙ sym (ap (λ (x : SearchOutcome). search_stages x.answer) o_is);
           step_count = ap (λ (x : RunOutcome). run_steps x.answer) ran-so ∙ sym (ap (λ (x : SearchOutcome). search_steps x.answer) o_is);
@@ -131,16 +131,16 @@ module _ (file facts rules steps order : List ℕ) (passed : ◌≡◌ {A = Opti
         leads = rw (set_is, bytes_are) (leads-to file yeses.0 M earliest.stable);
         order_is = ap named_in bytes_are ∙ (naming-names row ∙ ap (order_for P (in_force P)) (sym set_is));
         same_result = agrees;
-        same_fact_marks = ap (λ (x : RunOutcome). x.fact-marks) same_bytes ∙ sym (ap (λ (x : SearchOutcome). x.fact-marks) o_is);
-        same_rule_marks = ap (λ (x : RunOutcome). x.rule-marks) same_bytes ∙ sym (ap (λ (x : SearchOutcome). x.rule-marks) o_is);
+        same_fact_marks = ap (λ (x : RunOutcome). x.fact_marks) same_bytes ∙ sym (ap (λ (x : SearchOutcome). x.fact_marks) o_is);
+        same_rule_marks = ap (λ (x : RunOutcome). x.rule_marks) same_bytes ∙ sym (ap (λ (x : SearchOutcome). x.rule_marks) o_is);
         same_steps = ap (λ (x : RunOutcome). x.steps) same_bytes ∙ sym (ap (λ (x : SearchOutcome). x.steps) o_is);
-        none_aside = λ i. ap (λ (x : SearchOutcome). marked (count P) 2 x.rule-marks i) o_is ∙ (ap (λ (p : ℕ → Bool). p i) (read_aside P in_bounds row rules) ∙ order-none_aside P (in_force P) M earliest.stable i);
-        withheld_rules = λ i. ap (λ (x : SearchOutcome). marked (count P) 4 x.rule-marks i) o_is ∙ ap (λ (p : ℕ → Bool). p i) (read_withheld P in_bounds row rules);
+        none_aside = λ i. ap (λ (x : SearchOutcome). marked (count P) 2 x.rule_marks i) o_is ∙ (ap (λ (p : ℕ → Bool). p i) (read_aside P in_bounds row rules) ∙ order-none_aside P (in_force P) M earliest.stable i);
+        withheld_rules = λ i. ap (λ (x : SearchOutcome). marked (count P) 4 x.rule_marks i) o_is ∙ ap (λ (p : ℕ → Bool). p i) (read_withheld P in_bounds row rules);
         stages = rw o_is (sym (run-stages P (in_force P) row) ∙ ap (how_many (λ m. eqb m 1)) (sym (marks_front (rule_mark P (in_force P) s) (count P) rules)));
         rows_are = λ f. rows_read file yeses.0 M earliest.stable (λ g. written_proof g o) row_is f ∙ ap (row_to f) (sym searched_trace);
         rows_prove = rw set_is (rows_prove file yeses.0 M earliest.stable (λ g. written_proof g o) row_is);
-        fact_marks_kept = ap (λ (x : SearchOutcome). drop P.facts x.fact-marks) o_is ∙ over-kept (marks_of_facts P s) facts P.facts (mapped_length (fact_mark P s) P.facts);
-        rule_marks_kept = ap (λ (x : SearchOutcome). drop (count P) x.rule-marks) o_is ∙ over-kept (marks_of_rules P (in_force P) s) rules (count P) (mapped_length (rule_mark P (in_force P) s) (count P));
+        fact_marks_kept = ap (λ (x : SearchOutcome). drop P.facts x.fact_marks) o_is ∙ over-kept (marks_of_facts P s) facts P.facts (mapped_length (fact_mark P s) P.facts);
+        rule_marks_kept = ap (λ (x : SearchOutcome). drop (count P) x.rule_marks) o_is ∙ over-kept (marks_of_rules P (in_force P) s) rules (count P) (mapped_length (rule_mark P (in_force P) s) (count P));
         steps_kept = rw o_is (over-kept (step_bytes narrow s.trace) steps (step_width narrow * length s.trace) (step-bytes_length s.trace));
         order_kept = ap (λ (x : SearchOutcome). drop (name_width * exceptions P) x.order) o_is ∙ over-kept (naming row) order (name_width * exceptions P) (order-width P M);
       }

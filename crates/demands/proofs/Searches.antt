@@ -46,7 +46,7 @@ module _ (file facts rules steps order : List ℕ) where
     buffers_fit : ◌≡◌ {A = Option Refusal} (buffers_no narrow P (length facts) (length rules) (length steps)) none
     unfolding buffer_questions
     buffers_fit =
-        rw (le-leb P.facts (length facts) large.fact-marks, le-leb (count P) (length rules) large.rule-marks, le-leb (step_width narrow * P.facts) (length steps) large.step_items)
+        rw (le-leb P.facts (length facts) large.fact_marks, le-leb (count P) (length rules) large.rule_marks, le-leb (step_width narrow * P.facts) (length steps) large.step_items)
 
     -- what is left to ask
     guessed-left : early_no file (length facts) (length rules) (length steps) (length order) ≡ first_no (guessed_question P ∷ [])

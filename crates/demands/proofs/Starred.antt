@@ -66,7 +66,7 @@ taken-so file e = search_is file (fact_room file) (rule_room file) (step_room fi
 
 pub earliest_so : (file set : List ℕ) → set_of (program_of file).facts (found_set file (searches file)) ≡ set → search_number (searches file).answer ≡ 0 → Earliest (program_of file) (in_force (program_of file)) any_set (has set)
 earliest_so file set r e =
-    let back : has set ≡ found_set file (searches file) = ap has (sym r) ∙ set_back (program_of file).facts (found_set file (searches file)) (marked-past (program_of file).facts 1 (searches file).fact-marks) in
+    let back : has set ≡ found_set file (searches file) = ap has (sym r) ∙ set_back (program_of file).facts (found_set file (searches file)) (marked-past (program_of file).facts 1 (searches file).fact_marks) in
     rw back (taken-so file e).earliest
 
 none_so : (file : List ℕ) → search_number (searches file).answer ≡ 41 → (M : FactSet) → Stable (program_of file) (in_force (program_of file)) M → ⊥

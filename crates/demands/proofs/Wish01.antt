@@ -119,8 +119,8 @@ module _ (file order : List ℕ) (fact : ℕ) (facts rules steps : List ℕ) whe
     grounds_are =
         record {
           run_result = ap (λ (x : RunOutcome). run_number x.answer) (run-written file order facts rules steps run-passed);
-          fact-marks = ap (λ (x : GroundsOutcome). x.fact-marks) o_is ∙ sym (ap (λ (x : RunOutcome). x.fact-marks) (run-written file order facts rules steps run-passed));
-          rule-marks = ap (λ (x : GroundsOutcome). x.rule-marks) o_is ∙ sym (ap (λ (x : RunOutcome). x.rule-marks) (run-written file order facts rules steps run-passed));
+          fact_marks = ap (λ (x : GroundsOutcome). x.fact_marks) o_is ∙ sym (ap (λ (x : RunOutcome). x.fact_marks) (run-written file order facts rules steps run-passed));
+          rule_marks = ap (λ (x : GroundsOutcome). x.rule_marks) o_is ∙ sym (ap (λ (x : RunOutcome). x.rule_marks) (run-written file order facts rules steps run-passed));
           counted = ap length row_is ∙ sym count-is;
           steps_kept = rw o_is (over-kept (step_bytes narrow (grounds_of P fact s.trace)) steps (step_width narrow * length (grounds_of P fact s.trace)) (step-bytes_length (grounds_of P fact s.trace)));
           kept_exists = (kept_steps P fact s.trace, rw (traced run-passed) (run-kept P (in_force P) (named_in order) fact));

@@ -302,7 +302,7 @@ module _ (file : List ℕ) where
         step_refused = λ set fact row k l w. else_no (checked file set fact row) (λ v. never ((checked-so set fact row v).in-force k l) (withheld-off P (step_at (row_of row) k).by w));
         search_last = λ facts rules steps order e. rw (search_is file facts rules steps order e).order_is (last-so _ (order-off_last P (in_force P) (found_set file (search_outcome file facts rules steps order))));
         layered_last = layered_so;
-        left_out_lem = λ order i accepted yes-list w unnamed. order-gets accepted order NotAllNamed (leaves_out accepted order i yes-list w unnamed);
+        left_out = λ order i accepted yes-list w unnamed. order-gets accepted order NotAllNamed (leaves_out accepted order i yes-list w unnamed);
         other_named = λ order accepted t. order-gets accepted order NotAnException (names-other accepted order t);
         run_marks_short = λ order facts rules steps accepted yes-order f short. run_short accepted order facts rules steps yes-order f short;
         search_marks_short = λ facts rules steps order accepted f short. search-marks accepted facts rules steps order f short;

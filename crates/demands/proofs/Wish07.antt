@@ -107,7 +107,7 @@ module _ (file : List ℕ) where
           ap (λ (w : List ℕ). better_of file x w) two-three
           ∙ better-handed file x (better (aside_of file) y z) (asked-both _ _ p (handed-questioned y z q r))
 
-  marks_counted : (order facts rules steps : List ℕ) → run_number (run_outcome file order facts rules steps).answer ≡ 0 → aside_of file order ≡ how_many (λ m. eqb m 2) (take (count P) (run_outcome file order facts rules steps).rule-marks)
+  marks_counted : (order facts rules steps : List ℕ) → run_number (run_outcome file order facts rules steps).answer ≡ 0 → aside_of file order ≡ how_many (λ m. eqb m 2) (take (count P) (run_outcome file order facts rules steps).rule_marks)
   unfolding run_written
   marks_counted order facts rules steps e =
       rw (run-written file order facts rules steps (run-answered file order facts rules steps e))

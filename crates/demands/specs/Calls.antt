@@ -154,7 +154,7 @@ run_replied o =
     record {
       number = run_number o.answer;
       counts = run_stages o.answer ∷ run_steps o.answer ∷ [];
-      left = o.fact-marks ∷ o.rule-marks ∷ o.steps ∷ [];
+      left = o.fact_marks ∷ o.rule_marks ∷ o.steps ∷ [];
     }
 
 abbrev pub run_call : List ℕ → List ℕ → List ℕ → List ℕ → List ℕ → Call
@@ -172,7 +172,7 @@ grounds_replied o =
     record {
       number = grounds_number o.answer;
       counts = grounds_count o.answer ∷ [];
-      left = o.fact-marks ∷ o.rule-marks ∷ o.steps ∷ [];
+      left = o.fact_marks ∷ o.rule_marks ∷ o.steps ∷ [];
     }
 
 abbrev pub grounds_call : List ℕ → List ℕ → ℕ → List ℕ → List ℕ → List ℕ → Call
@@ -202,7 +202,7 @@ search_replied o =
     record {
       number = search_number o.answer;
       counts = search_stages o.answer ∷ search_steps o.answer ∷ [];
-      left = o.fact-marks ∷ o.rule-marks ∷ o.steps ∷ o.order ∷ [];
+      left = o.fact_marks ∷ o.rule_marks ∷ o.steps ∷ o.order ∷ [];
     }
 
 abbrev pub search_call : List ℕ → List ℕ → List ℕ → List ℕ → List ℕ → Call

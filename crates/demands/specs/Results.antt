@@ -34,23 +34,23 @@ set_of n S = map (λ f. cond (S f) 1 0) (up_to n)
 
 -- D, the facts with mark 1; R, those with mark 2
 abbrev pub derived_set : List ℕ → RunOutcome → FactSet
-derived_set file o = marked (program_of file).facts 1 o.fact-marks
+derived_set file o = marked (program_of file).facts 1 o.fact_marks
 
 abbrev pub rejected_set : List ℕ → RunOutcome → FactSet
-rejected_set file o = marked (program_of file).facts 2 o.fact-marks
+rejected_set file o = marked (program_of file).facts 2 o.fact_marks
 
 -- the plain rules, mark 0; the rules applied at a stage, mark 1; the rules set aside, mark 2; the withheld rules, mark 4
 abbrev pub plain_set : List ℕ → RunOutcome → ℕ → Bool
-plain_set file o = marked (count (program_of file)) 0 o.rule-marks
+plain_set file o = marked (count (program_of file)) 0 o.rule_marks
 
 abbrev pub applied_set : List ℕ → RunOutcome → ℕ → Bool
-applied_set file o = marked (count (program_of file)) 1 o.rule-marks
+applied_set file o = marked (count (program_of file)) 1 o.rule_marks
 
 abbrev pub aside_set : List ℕ → RunOutcome → ℕ → Bool
-aside_set file o = marked (count (program_of file)) 2 o.rule-marks
+aside_set file o = marked (count (program_of file)) 2 o.rule_marks
 
 abbrev pub withheld_set : List ℕ → RunOutcome → ℕ → Bool
-withheld_set file o = marked (count (program_of file)) 4 o.rule-marks
+withheld_set file o = marked (count (program_of file)) 4 o.rule_marks
 
 -- the bytes of the steps that it wrote, as many as it counts
 abbrev pub step_row : RunOutcome → List ℕ
@@ -80,7 +80,7 @@ pub record RunIs (file order facts rules steps : List ℕ) (o : RunOutcome) : Ty
   -- Fact mark 1 is on exactly the facts that D ever has, fact mark 2 on those of R, mark 0 on all others.
   pub derived : (D R : ℕ → FactSet) → ChainsAlong file order D R → IsUnion D (derived_set file o)
   pub rejections : (D R : ℕ → FactSet) → ChainsAlong file order D R → IsUnion R (rejected_set file o)
-  pub open_facts : (f : ℕ) → f < (program_of file).facts → derived_set file o f ≡ false → rejected_set file o f ≡ false → get_or o.fact-marks f 0 ≡ 0
+  pub open_facts : (f : ℕ) → f < (program_of file).facts → derived_set file o f ≡ false → rejected_set file o f ≡ false → get_or o.fact_marks f 0 ≡ 0
   -- No fact is ever in both.
   pub disjoint : (D R : ℕ → FactSet) → ChainsAlong file order D R → (m n : ℕ) → Disjoint (D m) (R n)
   -- Rule mark 0 is on exactly the plain rules, ..
@@ -92,10 +92,10 @@ pub record RunIs (file order facts rules steps : List ℕ) (o : RunOutcome) : Ty
   pub set-aside : (c : ℕ) → (aside_set file o c ≡ true) ↔ Supported (program_of file) (in_force (program_of file)) (derived_set file o) c
   pub inconsistent : (c : ℕ) → (aside_set file o c ≡ true) ↔ Inconsistent (program_of file) (in_force (program_of file)) (derived_set file o) (rejected_set file o) c
   pub withheld_rules : (c : ℕ) → withheld_set file o c ≡ withheld (program_of file) c
-  pub other_rules : (c : ℕ) → c < count (program_of file) → plain_set file o c ≡ false → applied_set file o c ≡ false → aside_set file o c ≡ false → withheld_set file o c ≡ false → get_or o.rule-marks c 0 ≡ 3
+  pub other_rules : (c : ℕ) → c < count (program_of file) → plain_set file o c ≡ false → applied_set file o c ≡ false → aside_set file o c ≡ false → withheld_set file o c ≡ false → get_or o.rule_marks c 0 ≡ 3
   -- A rule is taken at each stage that is counted, and at none after these; the stage count is the number of rule marks 1.
   pub stages_taken : (D R : ℕ → FactSet) → ChainsAlong file order D R → (n : ℕ) → (n < run_stages o.answer) ↔ ((c : ℕ) × TakenAt file order D R n c)
-  pub stages : run_stages o.answer ≡ how_many (λ m. eqb m 1) (take (count (program_of file)) o.rule-marks)
+  pub stages : run_stages o.answer ≡ how_many (λ m. eqb m 1) (take (count (program_of file)) o.rule_marks)
   -- No applicable rule is left.
   pub none_applicable : (c : ℕ) → Applicable (program_of file) (in_force (program_of file)) (derived_set file o) (rejected_set file o) c → ⊥
   -- A fact that no rule in force concludes counts as absent.
@@ -112,8 +112,8 @@ pub record RunIs (file order facts rules steps : List ℕ) (o : RunOutcome) : Ty
   pub row_proves : (f : ℕ) → derived_set file o f ≡ true → Proof (program_of file) (in_force (program_of file)) (steps_up_to f o) f
   pub row_admitted : (f : ℕ) → derived_set file o f ≡ true → Admits (program_of file) (derived_set file o) (steps_up_to f o)
   -- Past what is written each buffer keeps its contents.
-  pub fact_marks_kept : drop (program_of file).facts o.fact-marks ≡ drop (program_of file).facts facts
-  pub rule_marks_kept : drop (count (program_of file)) o.rule-marks ≡ drop (count (program_of file)) rules
+  pub fact_marks_kept : drop (program_of file).facts o.fact_marks ≡ drop (program_of file).facts facts
+  pub rule_marks_kept : drop (count (program_of file)) o.rule_marks ≡ drop (count (program_of file)) rules
   pub steps_kept : drop (step_width narrow * run_steps o.answer) o.steps ≡ drop (step_width narrow * run_steps o.answer) steps
 
 -- Handed the rules with mark 2 as a list and the facts with mark 1 as a set, the judge says stable.
@@ -162,7 +162,7 @@ pub record LeadsTo (file order : List ℕ) (M : FactSet) : Type 0 where
 
 -- the set that a search found: the facts with mark 1
 abbrev pub found_set : List ℕ → SearchOutcome → FactSet
-found_set file o = marked (program_of file).facts 1 o.fact-marks
+found_set file o = marked (program_of file).facts 1 o.fact_marks
 
 -- the order that it wrote: an item for each exception rule
 abbrev pub written_order : List ℕ → SearchOutcome → List ℕ
@@ -180,8 +180,8 @@ written_proof f o = take (step_width narrow * length (row_to f (row_of (written_
 
 -- A run gives the marks, steps and counts that the search gives.
 pub record SameResult (file : List ℕ) (o : SearchOutcome) (r : RunOutcome) : Type 0 where
-  pub fact-marks : take (program_of file).facts r.fact-marks ≡ take (program_of file).facts o.fact-marks
-  pub rule-marks : take (count (program_of file)) r.rule-marks ≡ take (count (program_of file)) o.rule-marks
+  pub fact_marks : take (program_of file).facts r.fact_marks ≡ take (program_of file).facts o.fact_marks
+  pub rule_marks : take (count (program_of file)) r.rule_marks ≡ take (count (program_of file)) o.rule_marks
   pub steps : step_row r ≡ written_steps o
   pub stage-count : run_stages r.answer ≡ search_stages o.answer
   pub step_count : run_steps r.answer ≡ search_steps o.answer
@@ -197,19 +197,19 @@ pub record SearchIs (file facts rules steps order : List ℕ) (o : SearchOutcome
   -- The run under that order gives the same marks, steps and counts, in any buffers that suffice for it; ..
   pub same_result : (facts' rules' steps' : List ℕ) → buffers_no narrow (program_of file) (length facts') (length rules') (length steps') ≡ none → SameResult file o (run_outcome file (written_order file o) facts' rules' steps')
   -- .. in the buffers that the search was lent, byte for byte.
-  pub same_fact_marks : (run_outcome file (written_order file o) facts rules steps).fact-marks ≡ o.fact-marks
-  pub same_rule_marks : (run_outcome file (written_order file o) facts rules steps).rule-marks ≡ o.rule-marks
+  pub same_fact_marks : (run_outcome file (written_order file o) facts rules steps).fact_marks ≡ o.fact_marks
+  pub same_rule_marks : (run_outcome file (written_order file o) facts rules steps).rule_marks ≡ o.rule_marks
   pub same_steps : (run_outcome file (written_order file o) facts rules steps).steps ≡ o.steps
   -- By the search's own rule marks nothing is set aside, mark 4 is on exactly the withheld rules, and the stage count is the number of rule marks 1.
-  pub none_aside : (i : ℕ) → marked (count (program_of file)) 2 o.rule-marks i ≡ false
-  pub withheld_rules : (i : ℕ) → marked (count (program_of file)) 4 o.rule-marks i ≡ withheld (program_of file) i
-  pub stages : search_stages o.answer ≡ how_many (λ m. eqb m 1) (take (count (program_of file)) o.rule-marks)
+  pub none_aside : (i : ℕ) → marked (count (program_of file)) 2 o.rule_marks i ≡ false
+  pub withheld_rules : (i : ℕ) → marked (count (program_of file)) 4 o.rule_marks i ≡ withheld (program_of file) i
+  pub stages : search_stages o.answer ≡ how_many (λ m. eqb m 1) (take (count (program_of file)) o.rule_marks)
   -- Its own steps, from the first up to a fact's own, prove each fact of the set.
   pub rows_are : (f : ℕ) → row_of (written_proof f o) ≡ row_to f (row_of (written_steps o))
   pub rows_prove : RowsProve file (found_set file o) (λ f. written_proof f o)
   -- Past what is written each buffer keeps its contents.
-  pub fact_marks_kept : drop (program_of file).facts o.fact-marks ≡ drop (program_of file).facts facts
-  pub rule_marks_kept : drop (count (program_of file)) o.rule-marks ≡ drop (count (program_of file)) rules
+  pub fact_marks_kept : drop (program_of file).facts o.fact_marks ≡ drop (program_of file).facts facts
+  pub rule_marks_kept : drop (count (program_of file)) o.rule_marks ≡ drop (count (program_of file)) rules
   pub steps_kept : drop (step_width narrow * search_steps o.answer) o.steps ≡ drop (step_width narrow * search_steps o.answer) steps
   pub order_kept : drop (name_width * exceptions (program_of file)) o.order ≡ drop (name_width * exceptions (program_of file)) order
 
@@ -217,8 +217,8 @@ pub record SearchIs (file facts rules steps order : List ℕ) (o : SearchOutcome
 
 -- Buffers are large enough (document 01) for a file: questions 31 to 34 get yes.
 pub record LargeEnough (file facts rules steps order : List ℕ) : Type 0 where
-  pub fact-marks : (program_of file).facts ≤ length facts
-  pub rule-marks : count (program_of file) ≤ length rules
+  pub fact_marks : (program_of file).facts ≤ length facts
+  pub rule_marks : count (program_of file) ≤ length rules
   pub step_items : step_width narrow * (program_of file).facts ≤ length steps
   pub rule-items : name_width * exceptions (program_of file) ≤ length order
 

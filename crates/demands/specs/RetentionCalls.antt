@@ -41,7 +41,7 @@ retention_run_call file order facts rules steps =
         record {
           number = o.reply.refusal;
           counts = o.reply.stages ∷ o.reply.steps ∷ [];
-          left = o.fact-marks ∷ o.rule-marks ∷ o.steps ∷ [];
+          left = o.fact_marks ∷ o.rule_marks ∷ o.steps ∷ [];
         }
 
 -- `retention_grounds`
@@ -54,7 +54,7 @@ retention_grounds_call file order fact facts rules steps =
         record {
           number = o.reply.refusal;
           counts = o.reply.count ∷ [];
-          left = o.fact-marks ∷ o.rule-marks ∷ o.steps ∷ [];
+          left = o.fact_marks ∷ o.rule_marks ∷ o.steps ∷ [];
         }
 
 -- `retention_judge` and `retention_check`
@@ -78,7 +78,7 @@ retention_search_call file facts rules steps order =
         record {
           number = o.reply.refusal;
           counts = o.reply.stages ∷ o.reply.steps ∷ [];
-          left = o.fact-marks ∷ o.rule-marks ∷ o.steps ∷ o.order ∷ [];
+          left = o.fact_marks ∷ o.rule_marks ∷ o.steps ∷ o.order ∷ [];
         }
 
 -- `retention_layered`

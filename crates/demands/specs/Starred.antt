@@ -83,8 +83,8 @@ pub record Starred : Type 0 where
       Runs bytes.example_a (1 ∷ 2 ∷ [])
       (record {
         answer = Done 1 2;
-        fact-marks = 1 ∷ 1 ∷ 2 ∷ 0 ∷ [];
-        rule-marks = 0 ∷ 1 ∷ 3 ∷ 0 ∷ [];
+        fact_marks = 1 ∷ 1 ∷ 2 ∷ 0 ∷ [];
+        rule_marks = 0 ∷ 1 ∷ 3 ∷ 0 ∷ [];
         steps = 6 ∷ 0 ∷ 0 ∷ 0 ∷ 6 ∷ 1 ∷ 0 ∷ 1 ∷ 9 ∷ 9 ∷ 9 ∷ 9 ∷ 9 ∷ 9 ∷ 9 ∷ 9 ∷ [];
       })
       × IsStable bytes.example_a [] (1 ∷ 1 ∷ 0 ∷ 0 ∷ [])
@@ -93,8 +93,8 @@ pub record Starred : Type 0 where
       Runs bytes.example_a (2 ∷ 1 ∷ [])
       (record {
         answer = Done 1 3;
-        fact-marks = 1 ∷ 2 ∷ 1 ∷ 1 ∷ [];
-        rule-marks = 0 ∷ 3 ∷ 1 ∷ 0 ∷ [];
+        fact_marks = 1 ∷ 2 ∷ 1 ∷ 1 ∷ [];
+        rule_marks = 0 ∷ 3 ∷ 1 ∷ 0 ∷ [];
         steps = 6 ∷ 0 ∷ 0 ∷ 0 ∷ 6 ∷ 2 ∷ 0 ∷ 2 ∷ 6 ∷ 3 ∷ 0 ∷ 3 ∷ 9 ∷ 9 ∷ 9 ∷ 9 ∷ [];
       })
       × IsStable bytes.example_a [] (1 ∷ 0 ∷ 1 ∷ 1 ∷ [])
@@ -104,15 +104,15 @@ pub record Starred : Type 0 where
       SearchTakes bytes.example_a (1 ∷ 1 ∷ 0 ∷ 0 ∷ [])
       (record {
         answer = Found 1 2;
-        fact-marks = 1 ∷ 1 ∷ 2 ∷ 0 ∷ [];
-        rule-marks = 0 ∷ 1 ∷ 3 ∷ 0 ∷ [];
+        fact_marks = 1 ∷ 1 ∷ 2 ∷ 0 ∷ [];
+        rule_marks = 0 ∷ 1 ∷ 3 ∷ 0 ∷ [];
         steps = 6 ∷ 0 ∷ 0 ∷ 0 ∷ 6 ∷ 1 ∷ 0 ∷ 1 ∷ 9 ∷ 9 ∷ 9 ∷ 9 ∷ 9 ∷ 9 ∷ 9 ∷ 9 ∷ [];
         order = 5 ∷ 0 ∷ 1 ∷ 5 ∷ 0 ∷ 2 ∷ [];
       })
   -- B: nothing derived, rule 0 set aside, search 41.
   pub example_b :
       Runs bytes.example_b (0 ∷ [])
-      (record { answer = Done 0 0; fact-marks = 0 ∷ []; rule-marks = 2 ∷ []; steps = 9 ∷ 9 ∷ 9 ∷ 9 ∷ [] })
+      (record { answer = Done 0 0; fact_marks = 0 ∷ []; rule_marks = 2 ∷ []; steps = 9 ∷ 9 ∷ 9 ∷ 9 ∷ [] })
       × IsStable bytes.example_b (0 ∷ []) (0 ∷ [])
       × SearchTakesNone bytes.example_b
   -- C, order 0 1. Rule 1 is set aside: {0} is stable for the file less that rule, and not for the whole.
@@ -120,8 +120,8 @@ pub record Starred : Type 0 where
       Runs bytes.example_c (0 ∷ 1 ∷ [])
       (record {
         answer = Done 1 1;
-        fact-marks = 1 ∷ 2 ∷ 0 ∷ [];
-        rule-marks = 1 ∷ 2 ∷ [];
+        fact_marks = 1 ∷ 2 ∷ 0 ∷ [];
+        rule_marks = 1 ∷ 2 ∷ [];
         steps = 6 ∷ 0 ∷ 0 ∷ 0 ∷ 9 ∷ 9 ∷ 9 ∷ 9 ∷ 9 ∷ 9 ∷ 9 ∷ 9 ∷ [];
       })
       × IsStable bytes.example_c (1 ∷ []) (1 ∷ 0 ∷ 0 ∷ [])
@@ -131,8 +131,8 @@ pub record Starred : Type 0 where
       Runs bytes.example_c (1 ∷ 0 ∷ [])
       (record {
         answer = Done 1 1;
-        fact-marks = 0 ∷ 1 ∷ 2 ∷ [];
-        rule-marks = 3 ∷ 1 ∷ [];
+        fact_marks = 0 ∷ 1 ∷ 2 ∷ [];
+        rule_marks = 3 ∷ 1 ∷ [];
         steps = 6 ∷ 1 ∷ 0 ∷ 1 ∷ 9 ∷ 9 ∷ 9 ∷ 9 ∷ 9 ∷ 9 ∷ 9 ∷ 9 ∷ [];
       })
       × IsStable bytes.example_c [] (0 ∷ 1 ∷ 0 ∷ [])
@@ -141,21 +141,21 @@ pub record Starred : Type 0 where
       SearchTakes bytes.example_c (0 ∷ 1 ∷ 0 ∷ [])
       (record {
         answer = Found 1 1;
-        fact-marks = 0 ∷ 1 ∷ 2 ∷ [];
-        rule-marks = 3 ∷ 1 ∷ [];
+        fact_marks = 0 ∷ 1 ∷ 2 ∷ [];
+        rule_marks = 3 ∷ 1 ∷ [];
         steps = 6 ∷ 1 ∷ 0 ∷ 1 ∷ 9 ∷ 9 ∷ 9 ∷ 9 ∷ 9 ∷ 9 ∷ 9 ∷ 9 ∷ [];
         order = 5 ∷ 0 ∷ 1 ∷ 5 ∷ 0 ∷ 0 ∷ [];
       })
   -- D: rule 1 set aside, 41.
   pub example_d :
       Runs bytes.example_d (1 ∷ [])
-      (record { answer = Done 0 0; fact-marks = 0 ∷ 0 ∷ []; rule-marks = 0 ∷ 2 ∷ []; steps = 9 ∷ 9 ∷ 9 ∷ 9 ∷ 9 ∷ 9 ∷ 9 ∷ 9 ∷ [] })
+      (record { answer = Done 0 0; fact_marks = 0 ∷ 0 ∷ []; rule_marks = 0 ∷ 2 ∷ []; steps = 9 ∷ 9 ∷ 9 ∷ 9 ∷ 9 ∷ 9 ∷ 9 ∷ 9 ∷ [] })
       × IsStable bytes.example_d (1 ∷ []) (0 ∷ 0 ∷ [])
       × SearchTakesNone bytes.example_d
   -- E: the empty set, an empty order.
   pub example_e :
-      Runs bytes.example_e [] (record { answer = Done 0 0; fact-marks = []; rule-marks = []; steps = [] })
+      Runs bytes.example_e [] (record { answer = Done 0 0; fact_marks = []; rule_marks = []; steps = [] })
       × IsStable bytes.example_e [] []
-      × SearchTakes bytes.example_e [] (record { answer = Found 0 0; fact-marks = []; rule-marks = []; steps = []; order = [] })
+      × SearchTakes bytes.example_e [] (record { answer = Found 0 0; fact_marks = []; rule_marks = []; steps = []; order = [] })
   -- F: {0} is not stable, the empty set is.
   pub example_f : IsNotStable bytes.example_f [] (1 ∷ []) × IsStable bytes.example_f [] (0 ∷ [])

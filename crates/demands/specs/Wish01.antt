@@ -23,8 +23,8 @@ kept_row o = row_of (kept_bytes o)
 pub record GroundsAre (file : List ℕ) (fact : ℕ) (steps : List ℕ) (ran : RunOutcome) (o : GroundsOutcome) : Type 0 where
   -- "It needs the run's buffers, writes the run's marks ..
   pub run_result : run_number ran.answer ≡ 0
-  pub fact-marks : o.fact-marks ≡ ran.fact-marks
-  pub rule-marks : o.rule-marks ≡ ran.rule-marks
+  pub fact_marks : o.fact_marks ≡ ran.fact_marks
+  pub rule_marks : o.rule_marks ≡ ran.rule_marks
   -- .. and, in the step buffer, the kept steps only, and returns their count."
   pub counted : length (kept_row o) ≡ grounds_count o.answer
   pub steps_kept : drop (step_width narrow * grounds_count o.answer) o.steps ≡ drop (step_width narrow * grounds_count o.answer) steps

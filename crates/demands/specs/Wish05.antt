@@ -35,8 +35,8 @@ pub record LoadExample : Type 0 where
       Runs (load_bytes 0 4 1) (0 ∷ [])
       (record {
         answer = Done 1 1;
-        fact-marks = 0 ∷ 0 ∷ 2 ∷ 1 ∷ [];
-        rule-marks = 1 ∷ [];
+        fact_marks = 0 ∷ 0 ∷ 2 ∷ 1 ∷ [];
+        rule_marks = 1 ∷ [];
         steps = 6 ∷ 3 ∷ 0 ∷ 0 ∷ 9 ∷ 9 ∷ 9 ∷ 9 ∷ 9 ∷ 9 ∷ 9 ∷ 9 ∷ 9 ∷ 9 ∷ 9 ∷ 9 ∷ [];
       })
 

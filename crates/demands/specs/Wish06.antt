@@ -110,7 +110,7 @@ pub record Wish06 (file : List ℕ) : Type 0 where
   pub search_last : (facts rules steps order : List ℕ) → search_number (search_outcome file facts rules steps order).answer ≡ 0 → WithheldLast (program_of file) (named_in (written_order file (search_outcome file facts rules steps order)))
   pub layered_last : (order : List ℕ) → layered_number (layered_outcome file order).answer ≡ 0 → WithheldLast (program_of file) (named_in (handed_over (layered_outcome file order)))
   -- "Orders still name them .. so questions .. 12, 14 .. count them": an order that leaves one out gets 14, and 12 is for a rule past the last one or a plain one.
-  pub left_out_lem : (order : List ℕ) (i : ℕ) → file_no file ≡ none → first_no (list_questions (exception (program_of file)) order) ≡ none → withheld (program_of file) i ≡ true → mem i (named_in order) ≡ false → OrderGets file order 14
+  pub left_out : (order : List ℕ) (i : ℕ) → file_no file ≡ none → first_no (list_questions (exception (program_of file)) order) ≡ none → withheld (program_of file) i ≡ true → mem i (named_in order) ≡ false → OrderGets file order 14
   pub other_named : (order : List ℕ) → file_no file ≡ none → NamesOther (program_of file) order → OrderGets file order 12
   -- ".. 32 and 34 ..": too few bytes for the marks of all rules get 32, and for the items of all exception rules 34, where the questions before get yes.
   pub run_marks_short : (order facts rules steps : List ℕ) → file_no file ≡ none → order_no (exception (program_of file)) (count (program_of file)) order ≡ none → (program_of file).facts ≤ length facts → length rules < count (program_of file) → run_number (run_outcome file order facts rules steps).answer ≡ 32
@@ -133,5 +133,5 @@ held = 0x10 ∷ 0x02 ∷ 0x07 ∷ 0x01 ∷ 0x01 ∷ 0x00 ∷ 0x03 ∷ 0x01 ∷ 0
 
 -- An unread hold label: 2 facts, 1 is unread; 0 < !1. The rule is withheld, nothing follows, and the search takes the empty set.
 pub record UnreadExample : Type 0 where
-  pub runs : Runs held (0 ∷ []) (record { answer = Done 0 0; fact-marks = 0 ∷ 0 ∷ []; rule-marks = 4 ∷ []; steps = 9 ∷ 9 ∷ 9 ∷ 9 ∷ 9 ∷ 9 ∷ 9 ∷ 9 ∷ [] })
-  pub takes : SearchTakes held (0 ∷ 0 ∷ []) (record { answer = Found 0 0; fact-marks = 0 ∷ 0 ∷ []; rule-marks = 4 ∷ []; steps = 9 ∷ 9 ∷ 9 ∷ 9 ∷ 9 ∷ 9 ∷ 9 ∷ 9 ∷ []; order = 5 ∷ 0 ∷ 0 ∷ [] })
+  pub runs : Runs held (0 ∷ []) (record { answer = Done 0 0; fact_marks = 0 ∷ 0 ∷ []; rule_marks = 4 ∷ []; steps = 9 ∷ 9 ∷ 9 ∷ 9 ∷ 9 ∷ 9 ∷ 9 ∷ 9 ∷ [] })
+  pub takes : SearchTakes held (0 ∷ 0 ∷ []) (record { answer = Found 0 0; fact_marks = 0 ∷ 0 ∷ []; rule_marks = 4 ∷ []; steps = 9 ∷ 9 ∷ 9 ∷ 9 ∷ 9 ∷ 9 ∷ 9 ∷ 9 ∷ []; order = 5 ∷ 0 ∷ 0 ∷ [] })

@@ -48,7 +48,7 @@ pub record ByPairs (file x y z : List ℕ) : Type 0 where
 pub record Wish07 (file : List ℕ) : Type 0 where
   pub result : (first second : List ℕ) → no_number (better_no file first second) ≡ 0 → BetterIs file first second
   -- The rules that an order sets aside are those with rule mark 2 that the run under it writes; no withheld rule is among them.
-  pub counted : (order facts rules steps : List ℕ) → run_number (run_outcome file order facts rules steps).answer ≡ 0 → aside_of file order ≡ how_many (λ m. eqb m 2) (take (count (program_of file)) (run_outcome file order facts rules steps).rule-marks)
+  pub counted : (order facts rules steps : List ℕ) → run_number (run_outcome file order facts rules steps).answer ≡ 0 → aside_of file order ≡ how_many (λ m. eqb m 2) (take (count (program_of file)) (run_outcome file order facts rules steps).rule_marks)
   pub withheld_not : (order facts rules steps : List ℕ) → run_number (run_outcome file order facts rules steps).answer ≡ 0 → (i : ℕ) → withheld (program_of file) i ≡ true → aside_set file (run_outcome file order facts rules steps) i ≡ false
   -- "The comparison must be total, ..
   pub total : (x y : List ℕ) → NoWorse file x y ⊎ NoWorse file y x

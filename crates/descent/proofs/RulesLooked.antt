@@ -117,8 +117,8 @@ looked_elsewhere k to none_behind =
 -- A fact with no rule left is left for the one that opened it.
 module _ {P : Program} {seen stack roots todo ranks : List ℕ} {n m at : ℕ} (w : Walking P seen stack roots n m) (inside : at < n) (k : Looked P seen stack roots todo ranks n m at) (done : get_or todo (fact_at stack at) 0 ≡ thread_end) where
   -- so has every fact at that place or behind it
-  none_left_lem : (f : ℕ) → f < P.facts → seen_of seen f < max_facts narrow → at ≤ seen_of seen f → get_or todo f 0 ≡ thread_end
-  none_left_lem f l is_open up =
+  none_left : (f : ℕ) → f < P.facts → seen_of seen f < max_facts narrow → at ≤ seen_of seen f → get_or todo f 0 ≡ thread_end
+  none_left f l is_open up =
       same_or (seen_of seen f) at
       (λ e. let there : fact_at stack at ≡ f = subst (λ a. fact_at stack a ≡ f) e (w.place_there f l is_open).1 in subst (λ g. get_or todo g 0 ≡ thread_end) there done)
       (λ e. k.none_behind f l is_open (omega arith))
@@ -127,7 +127,7 @@ module _ {P : Program} {seen stack roots todo ranks : List ℕ} {n m at : ℕ} (
   looked_left =
       looked_elsewhere k (opener_at stack at)
       (λ f l is_open behind.
-      ⊎_elim (λ e. k.none_between at f inside l behind (ltb-true _ _ e)) (λ e. none_left_lem f l is_open (ltb-false _ _ e)) (either (ltb (seen_of seen f) at)))
+      ⊎_elim (λ e. k.none_between at f inside l behind (ltb-true _ _ e)) (λ e. none_left f l is_open (ltb-false _ _ e)) (either (ltb (seen_of seen f) at)))
 
   -- The last component is closed.
   module _ (here : Current roots n m at) (some_root : 0 < m) (last : root_place roots (m - 1) ≡ at) {seen' ranks' : List ℕ} (c : ClosedFrom stack at n seen ranks seen' ranks') where
@@ -172,7 +172,7 @@ module _ {P : Program} {seen stack roots todo ranks : List ℕ} {n m at : ℕ} (
     looked_shut i h s =
         let (low, high) = was_place (rule P i).conclusion s in
         let is_open = small_place (rule P i).conclusion high in
-        inr (is_open, omega (arith, none_left_lem (rule P i).conclusion (k.bounds.conclusion_below i h) is_open low, k.few_rules))
+        inr (is_open, omega (arith, none_left (rule P i).conclusion (k.bounds.conclusion_below i h) is_open low, k.few_rules))
 
     looked_kept : (i : ℕ) → WasKept (rule P i).conclusion → WasLooked P seen' todo i → WasLooked P seen todo i
     looked_kept i s d = subst (λ x. (x ≡ closed) ⊎ ((x < max_facts narrow) × (i < get_or todo (rule P i).conclusion 0))) s.same_seen d

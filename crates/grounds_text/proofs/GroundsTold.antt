@@ -40,11 +40,11 @@ record Told (P : Program) (fact : ℕ) (answer : Grounds) (steps : List ℕ) : T
   given : (n : ℕ) → answer ≡ Given n → ((ascending_run P).derived fact ≡ true) × (n ≡ length (grounds_of P fact (ascending_run P).trace))
   written : (n : ℕ) → answer ≡ Given n → steps ≡ over (step_bytes narrow (grounds_of P fact (ascending_run P).trace)) (replicate (max_facts narrow * step_width narrow) 0)
 
-told-by : (P : Program) (fact : ℕ) (answer : Grounds) (facts rules steps : List ℕ) → ◌≡◌ {A = GroundsOutcome} (record { answer = answer; fact-marks = facts; rule-marks = rules; steps = steps }) (grounds_told P (ascending_run P) fact (replicate (max_facts narrow) 0) (replicate max_rules 0) (replicate (max_facts narrow * step_width narrow) 0)) → Told P fact answer steps
+told-by : (P : Program) (fact : ℕ) (answer : Grounds) (facts rules steps : List ℕ) → ◌≡◌ {A = GroundsOutcome} (record { answer = answer; fact_marks = facts; rule_marks = rules; steps = steps }) (grounds_told P (ascending_run P) fact (replicate (max_facts narrow) 0) (replicate max_rules 0) (replicate (max_facts narrow * step_width narrow) 0)) → Told P fact answer steps
 unfolding grounds_told grounds_written
 told-by P fact answer facts rules steps e = go ((ascending_run P).derived fact) refl e
   where
-    go : (b : Bool) → (ascending_run P).derived fact ≡ b → ◌≡◌ {A = GroundsOutcome} (record { answer = answer; fact-marks = facts; rule-marks = rules; steps = steps }) (cond b (grounds_written P (ascending_run P) fact (replicate (max_facts narrow) 0) (replicate max_rules 0) (replicate (max_facts narrow * step_width narrow) 0)) (grounds_refused NotDerived (replicate (max_facts narrow) 0) (replicate max_rules 0) (replicate (max_facts narrow * step_width narrow) 0))) → Told P fact answer steps
+    go : (b : Bool) → (ascending_run P).derived fact ≡ b → ◌≡◌ {A = GroundsOutcome} (record { answer = answer; fact_marks = facts; rule_marks = rules; steps = steps }) (cond b (grounds_written P (ascending_run P) fact (replicate (max_facts narrow) 0) (replicate max_rules 0) (replicate (max_facts narrow * step_width narrow) 0)) (grounds_refused NotDerived (replicate (max_facts narrow) 0) (replicate max_rules 0) (replicate (max_facts narrow * step_width narrow) 0))) → Told P fact answer steps
     go true d q =
         let a : answer ≡ Given (length (grounds_of P fact (ascending_run P).trace)) = ap (λ (x : GroundsOutcome). x.answer) q in
         record {
@@ -71,7 +71,7 @@ module _ {T : List ℕ} (w : WellFormed T) (order : List ℕ) (o : order ≡ nam
   in_order : run_in T order ≡ ascending_run P
   in_order = ap (λ (l : List ℕ). run P (in_force P) (named_in l)) o ∙ ap (run P (in_force P)) (naming-names (ascending P))
 
-  module _ (fact : ℕ) (answer : Grounds) (facts rules steps : List ℕ) (e : ◌≡◌ {A = GroundsOutcome} (record { answer = answer; fact-marks = facts; rule-marks = rules; steps = steps }) (grounds_told P (run_in T order) fact (replicate (max_facts narrow) 0) (replicate max_rules 0) (replicate (max_facts narrow * step_width narrow) 0))) where
+  module _ (fact : ℕ) (answer : Grounds) (facts rules steps : List ℕ) (e : ◌≡◌ {A = GroundsOutcome} (record { answer = answer; fact_marks = facts; rule_marks = rules; steps = steps }) (grounds_told P (run_in T order) fact (replicate (max_facts narrow) 0) (replicate max_rules 0) (replicate (max_facts narrow * step_width narrow) 0))) where
     told : Told P fact answer steps
     told =
         told-by P fact answer facts rules steps (e ∙ ap (λ (s : Stand). grounds_told P s fact (replicate (max_facts narrow) 0) (replicate max_rules 0) (replicate (max_facts narrow * step_width narrow) 0)) in_order)

@@ -63,7 +63,7 @@ pub fn index_rules(
 )
     requires { WellFormed tables.now × Blank index.old missing.old }
     ensures indexed { Indexed (program_in tables.now) index.new }
-    ensures left_out_lem { LeftOut (program_in tables.now) off.now index.new }
+    ensures left_out { LeftOut (program_in tables.now) off.now index.new }
     ensures sized { Sized (program_in tables.now) index.new missing.new }
 {
     let rules = rules_of(tables);

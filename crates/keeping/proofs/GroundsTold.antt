@@ -63,7 +63,7 @@ module _ {P : Program} (order : List ℕ) {marks fired : List ℕ} {n : ℕ} (fe
     counted : m ≡ length (grounds_of P fact ran.trace)
     counted = sym (length-take-le m row inside) ∙ sym (length-map (take m row) (step_by P)) ∙ ap length same_steps
 
-    pub told-given : (facts rules steps facts' rules' steps' : List ℕ) → facts' ≡ over (marks_of_facts P ran) facts → rules' ≡ over (marks_of_rules P (in_force P) ran) rules → steps' ≡ over (step_bytes narrow (steps_by P (take m row))) steps → ◌≡◌ {A = GroundsOutcome} (record { answer = Given m; fact-marks = facts'; rule-marks = rules'; steps = steps' }) (grounds_told P ran fact facts rules steps)
+    pub told-given : (facts rules steps facts' rules' steps' : List ℕ) → facts' ≡ over (marks_of_facts P ran) facts → rules' ≡ over (marks_of_rules P (in_force P) ran) rules → steps' ≡ over (step_bytes narrow (steps_by P (take m row))) steps → ◌≡◌ {A = GroundsOutcome} (record { answer = Given m; fact_marks = facts'; rule_marks = rules'; steps = steps' }) (grounds_told P ran fact facts rules steps)
     unfolding grounds_told grounds_written
     told-given facts rules steps facts' rules' steps' a b c =
         let d : ran.derived fact ≡ true = sym (marked-derived fact) ∙ t in

@@ -18,8 +18,8 @@ use Rattle.keeping.specs.declared.answer.Grounds.TheVariants.{Given, Refused}
 -- The answer, and the three buffers.
 pub record GroundsOutcome : Type 0 where
   pub answer : Grounds
-  pub fact-marks : List ℕ
-  pub rule-marks : List ℕ
+  pub fact_marks : List ℕ
+  pub rule_marks : List ℕ
   pub steps : List ℕ
 
 -- Of a run that ends at s: the count of the kept steps is answered, and over the fronts of the buffers are written the run's marks and the kept steps only.
@@ -27,14 +27,14 @@ unfoldable pub grounds_written : Program → Stand → ℕ → List ℕ → List
 grounds_written P s fact facts rules steps =
     record {
       answer = Given (length (grounds_of P fact s.trace));
-      fact-marks = over (marks_of_facts P s) facts;
-      rule-marks = over (marks_of_rules P (in_force P) s) rules;
+      fact_marks = over (marks_of_facts P s) facts;
+      rule_marks = over (marks_of_rules P (in_force P) s) rules;
       steps = over (step_bytes narrow (grounds_of P fact s.trace)) steps;
     }
 
 -- A refusal alters no byte.
 abbrev pub grounds_refused : Refusal → List ℕ → List ℕ → List ℕ → GroundsOutcome
-grounds_refused r facts rules steps = record { answer = Refused r; fact-marks = facts; rule-marks = rules; steps = steps }
+grounds_refused r facts rules steps = record { answer = Refused r; fact_marks = facts; rule_marks = rules; steps = steps }
 
 -- What the operation answers and leaves.
 unfoldable pub grounds_outcome : List ℕ → List ℕ → ℕ → List ℕ → List ℕ → List ℕ → GroundsOutcome

@@ -24,7 +24,7 @@ pub fn grounds(
     rule_marks: &mut [u8],
     steps: &mut [u8],
 ) -> Grounds
-    ensures fact { ◌≡◌ {A = GroundsOutcome} (record { answer = result; fact-marks = fact_marks.new; rule-marks = rule_marks.new; steps = steps.new }) (grounds_outcome file.now order.now fact fact_marks.old rule_marks.old steps.old) }
+    ensures fact { ◌≡◌ {A = GroundsOutcome} (record { answer = result; fact_marks = fact_marks.new; rule_marks = rule_marks.new; steps = steps.new }) (grounds_outcome file.now order.now fact fact_marks.old rule_marks.old steps.old) }
     ensures grounds_numbers { GroundsNumbers file.now order.now fact (grounds_no file.now order.now fact (length fact_marks.old) (length rule_marks.old) (length steps.old)) result }
 {
     let mut tables = [0u16; TABLE_CELLS];

@@ -39,7 +39,7 @@ pub fn grounds_tabled(
 ) -> Grounds
     requires well_formed { WellFormed tables.now }
     requires may_run { MayRun (program_in tables.now) (named_in order.now) (length fact_marks.old) (length rule_marks.old) (length steps.old) }
-    ensures { ◌≡◌ {A = GroundsOutcome} (record { answer = result; fact-marks = fact_marks.new; rule-marks = rule_marks.new; steps = steps.new }) (grounds_told (program_in tables.now) (run_in tables.now order.now) fact fact_marks.old rule_marks.old steps.old) }
+    ensures { ◌≡◌ {A = GroundsOutcome} (record { answer = result; fact_marks = fact_marks.new; rule_marks = rule_marks.new; steps = steps.new }) (grounds_told (program_in tables.now) (run_in tables.now order.now) fact fact_marks.old rule_marks.old steps.old) }
 {
     let mut marks = [0u8; MAX_FACTS];
     let mut fired = [0u16; MAX_FACTS];

@@ -33,5 +33,6 @@ fn main(rt: HostRuntime) -> io::Result<()> {
             }
         }
     }
-    rt.stderr().write_all(b"usage: load START FACTS RULES >RULES-FILE\n")
+    rt.stderr()
+        .write_all(b"usage: load START FACTS RULES >RULES-FILE\n")
 }

@@ -58,14 +58,14 @@ front-aside P b order room =
     rw (lt-ltb i (count P) known) at (ap (λ (S : ℕ → Bool). S i) (read_aside P b order room)))
 
 -- Where the run has ended at s.
-pub record RunEnded (P : Program) (s : Stand) (answer : Ran) (fact-marks rule-marks steps : List ℕ) : Type 0 where
+pub record RunEnded (P : Program) (s : Stand) (answer : Ran) (fact_marks rule_marks steps : List ℕ) : Type 0 where
   pub answered : answer ≡ Done (stage_count s) (step_count s)
-  pub facts_marked : fact-marks ≡ over (marks_of_facts P s) (replicate (max_facts narrow) 0)
-  pub rules_marked : rule-marks ≡ over (marks_of_rules P (in_force P) s) (replicate max_rules 0)
+  pub facts_marked : fact_marks ≡ over (marks_of_facts P s) (replicate (max_facts narrow) 0)
+  pub rules_marked : rule_marks ≡ over (marks_of_rules P (in_force P) s) (replicate max_rules 0)
   pub steps_written : steps ≡ over (step_bytes narrow s.trace) (replicate (max_facts narrow * step_width narrow) 0)
 
 -- It has not refused.
-pub not-refused : (P : Program) (s : Stand) (answer : Ran) (fact-marks rule-marks steps : List ℕ) → RunEnded P s answer fact-marks rule-marks steps → (r : Refusal) → answer ≡ Refused r → ⊥
+pub not-refused : (P : Program) (s : Stand) (answer : Ran) (fact_marks rule_marks steps : List ℕ) → RunEnded P s answer fact_marks rule_marks steps → (r : Refusal) → answer ≡ Refused r → ⊥
 not-refused P s answer fm rm st w r e =
     let same : Done (stage_count s) (step_count s) ≡ Refused r = sym w.answered ∙ e in
     let z : ◌≡◌ {A = ℕ} 0 1 = cc in
@@ -76,14 +76,14 @@ front-places : (f : ℕ → ℕ) (n : ℕ) (room : List ℕ) → n ≤ length (o
 front-places f n room =
     omega (arith, length-append (map f (up_to n)) (drop (length (map f (up_to n))) room), mapped_length f n)
 
-module _ {s : List ℕ} {counts : FileCounts} (a : Accepted s counts) (few : (program_of s).facts < max_facts narrow) (order : List ℕ) (answer : Ran) (fact-marks rule-marks steps : List ℕ) (w : RunEnded (program_of s) (run (program_of s) (in_force (program_of s)) order) answer fact-marks rule-marks steps) where
+module _ {s : List ℕ} {counts : FileCounts} (a : Accepted s counts) (few : (program_of s).facts < max_facts narrow) (order : List ℕ) (answer : Ran) (fact_marks rule_marks steps : List ℕ) (w : RunEnded (program_of s) (run (program_of s) (in_force (program_of s)) order) answer fact_marks rule_marks steps) where
   abbrev P : Program
   P = program_of s
 
   abbrev e : Stand
   e = run P (in_force P) order
 
-  pub tables : Tables counts.facts counts.rules fact-marks rule-marks
+  pub tables : Tables counts.facts counts.rules fact_marks rule_marks
   tables =
       let t = accepted_file s a.accepted in
       record {
@@ -104,7 +104,7 @@ module _ {s : List ℕ} {counts : FileCounts} (a : Accepted s counts) (few : (pr
         let taken-are : taken ≡ step_count e = cc in
         omega (arith, ap length w.steps_written, over-length (step_bytes narrow e.trace) (replicate (max_facts narrow * step_width narrow) 0) (omega (arith, step-bytes_length e.trace, pace.room, few, length-replicate {A = ℕ} (max_facts narrow * step_width narrow) 0)), length-replicate {A = ℕ} (max_facts narrow * step_width narrow) 0, pace.room, few)
 
-    pub left-lines : left_text counts.facts counts.rules stages fact-marks rule-marks (take (taken * step_width narrow) steps) ≡ run_text P e
+    pub left-lines : left_text counts.facts counts.rules stages fact_marks rule_marks (take (taken * step_width narrow) steps) ≡ run_text P e
     unfolding left_text run_text
     left-lines =
         let stages_are : stages ≡ stage_count e = cc in
@@ -112,20 +112,20 @@ module _ {s : List ℕ} {counts : FileCounts} (a : Accepted s counts) (few : (pr
         rw (a.facts, a.rules, stages_are, taken-are, w.facts_marked, w.rules_marked, w.steps_written, front-steps e.trace (replicate (max_facts narrow * step_width narrow) 0), front-marked (fact_mark P e) P.facts 2 (replicate (max_facts narrow) 0), front-aside P (bounded (accepted_file s a.accepted)) order (replicate max_rules 0))
 
 -- The run in ascending order of an accepted file.
-pub ran-through : (s order : List ℕ) → (program_of s).facts < max_facts narrow → ◌≡◌ {A = Option Refusal} (file_no s) none → order ≡ naming (ascending (program_of s)) → (answer : Ran) (fact-marks rule-marks steps : List ℕ) → ◌≡◌ {A = RunOutcome} (record { answer = answer; fact-marks = fact-marks; rule-marks = rule-marks; steps = steps }) (run_outcome s order (replicate (max_facts narrow) 0) (replicate max_rules 0) (replicate (max_facts narrow * step_width narrow) 0)) → RunEnded (program_of s) (run (program_of s) (in_force (program_of s)) (ascending (program_of s))) answer fact-marks rule-marks steps
+pub ran-through : (s order : List ℕ) → (program_of s).facts < max_facts narrow → ◌≡◌ {A = Option Refusal} (file_no s) none → order ≡ naming (ascending (program_of s)) → (answer : Ran) (fact_marks rule_marks steps : List ℕ) → ◌≡◌ {A = RunOutcome} (record { answer = answer; fact_marks = fact_marks; rule_marks = rule_marks; steps = steps }) (run_outcome s order (replicate (max_facts narrow) 0) (replicate max_rules 0) (replicate (max_facts narrow * step_width narrow) 0)) → RunEnded (program_of s) (run (program_of s) (in_force (program_of s)) (ascending (program_of s))) answer fact_marks rule_marks steps
 unfolding run_written
 ran-through s order few a o answer fm rm st e =
     record {
       answered = ap (λ (x : RunOutcome). x.answer) all;
-      facts_marked = ap (λ (x : RunOutcome). x.fact-marks) all;
-      rules_marked = ap (λ (x : RunOutcome). x.rule-marks) all;
+      facts_marked = ap (λ (x : RunOutcome). x.fact_marks) all;
+      rules_marked = ap (λ (x : RunOutcome). x.rule_marks) all;
       steps_written = ap (λ (x : RunOutcome). x.steps) all;
     }
   where
     P : Program
     P = program_of s
 
-    all : ◌≡◌ {A = RunOutcome} (record { answer = answer; fact-marks = fm; rule-marks = rm; steps = st }) (run_written P (run P (in_force P) (ascending P)) (replicate (max_facts narrow) 0) (replicate max_rules 0) (replicate (max_facts narrow * step_width narrow) 0))
+    all : ◌≡◌ {A = RunOutcome} (record { answer = answer; fact_marks = fm; rule_marks = rm; steps = st }) (run_written P (run P (in_force P) (ascending P)) (replicate (max_facts narrow) 0) (replicate max_rules 0) (replicate (max_facts narrow * step_width narrow) 0))
     all =
         e ∙ ap (λ (l : List ℕ). run_outcome s l (replicate (max_facts narrow) 0) (replicate max_rules 0) (replicate (max_facts narrow * step_width narrow) 0)) o
         ∙ sym (outcome-written s (naming (ascending P)) (replicate (max_facts narrow) 0) (replicate max_rules 0) (replicate (max_facts narrow * step_width narrow) 0) (run-yes s few a))

@@ -146,10 +146,10 @@ module _ {P : Program} (b : Bounded P) {fired : List ℕ} {from to : ℕ} (s : S
   pub all-entered : to ≤ at → (R : Places) (S : FactSet) (p : ℕ → Bool) → Asked P R asks → Counted P R S missing₀ → Flags p awake₀ → Fresh P S (slice from to fired) → Counted P R (after (conclude P) S (slice from to fired)) missing × Flags (roused P R S (after (conclude P) S (slice from to fired)) p) awake
   all-entered h R S p a c g r = ended (w.any R S p a c g r)
     where
-      none_left_lem : slice at to fired ≡ []
-      none_left_lem = let is-end : at ≡ to = omega (arith, w.inside) in ap (λ (n : ℕ). slice n to fired) is-end ∙ slice_empty to fired
+      none_left : slice at to fired ≡ []
+      none_left = let is-end : at ≡ to = omega (arith, w.inside) in ap (λ (n : ℕ). slice n to fired) is-end ∙ slice_empty to fired
 
       ended : Standing P R S p (slice from to fired) (slice at to fired) missing awake → Counted P R (after (conclude P) S (slice from to fired)) missing × Flags (roused P R S (after (conclude P) S (slice from to fired)) p) awake
       ended t =
-          let last : t.set ≡ after (conclude P) S (slice from to fired) = sym (ap (after (conclude P) t.set) none_left_lem) ∙ t.same in
+          let last : t.set ≡ after (conclude P) S (slice from to fired) = sym (ap (after (conclude P) t.set) none_left) ∙ t.same in
           (subst (λ (T : FactSet). Counted P R T missing) last t.counted, subst (λ (T : FactSet). Flags (roused P R S T p) awake) last t.woken)

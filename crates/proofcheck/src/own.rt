@@ -62,8 +62,8 @@ fn ask_item(taken: Taken, set: &[u8], marks: &mut [u8; MAX_FACTS]) -> Told
     }
 }
 
-// The rule whose own items stand in the range: its view is kept, and asked for one item after another. A function that keeps a struct with a
-// slice is proved by hand, so the work is done in `ask_item`.
+// The rule whose own items stand in the range: its view is kept, and asked for one item after another; the
+// work is done in `ask_item`.
 fn view_fits(file: &[u8], at: usize, end: usize, set: &[u8], marks: &mut [u8; MAX_FACTS]) -> bool
     requires { MayView file.now at end marks.old }
     ensures { Fitted (has set.now) (rule_ahead file.now at) marks.old result marks.new }

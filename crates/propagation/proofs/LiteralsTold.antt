@@ -173,7 +173,7 @@ module _ {P : Program} {on : Mask} {left marks missing stack : List ℕ} {top : 
   pub all_told : r ≡ Nothing → Between P on marks missing stack top
   all_told e =
       subst (λ (rules : List ℕ). Spreading P on every_rule rules marks missing stack top)
-      (none_kept w.p (nothing_left w.flags ((takes w.p w.flags).none_left_lem e)) (up_to (count P))) w.spreading
+      (none_kept w.p (nothing_left w.flags ((takes w.p w.flags).none_left e)) (up_to (count P))) w.spreading
 
   module _ (few : count P ≤ max_rules) (i : ℕ) (e : r ≡ At i) where
     abbrev missing' : List ℕ

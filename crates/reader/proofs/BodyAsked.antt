@@ -24,7 +24,7 @@ use Rattle.cursors.specs.Cursor.{row_after, Token, item, bad, place_questions, n
 use Rattle.reader.specs.Questions.{lengthened, fact_question, owner_question, length_question, body_questions, Scan}
 use Rattle.reader.specs.BodyScanned.{body_no}
 use Rattle.reader.specs.Scanning.{seen, Along}
-use Rattle.cursors.proofs.Items.{ReadAt, NoItemAt, not_found, row-ended, none_left_lem, some_left}
+use Rattle.cursors.proofs.Items.{ReadAt, NoItemAt, not_found, row-ended, none_left, some_left}
 use Rattle.reader.proofs.Tags.{NotOfBody, not-of_body}
 
 pub not-begun : (s : List ℕ) (c : Cursor) (facts : ℕ) → c.row ≡ Body → Along s c facts c 0 0
@@ -119,4 +119,4 @@ module _ {s : List ℕ} {c₀ : Cursor} {facts : ℕ} {c : Cursor} {n own : ℕ}
       bytes_left h = on r ∙ rw (eq-eqb k n right, some_left s d h)
 
       pub all_yes : length s ≤ d.at → body_no facts s c₀ ≡ none
-      all_yes h = on r ∙ rw (eq-eqb k n right, none_left_lem s d h)
+      all_yes h = on r ∙ rw (eq-eqb k n right, none_left s d h)

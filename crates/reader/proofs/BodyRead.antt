@@ -19,7 +19,7 @@ use Rattle.cursors.specs.declared.cursor.Read.{Read}
 use Rattle.cursors.specs.declared.cursor.Read.TheVariants.{Found}
 use Rattle.items.specs.Item.{narrow, max_facts, max_rules, max_rule_items, max_bytes}
 use Rattle.cursors.specs.Cursor.{next_at, items_at}
-use Rattle.cursors.proofs.Items.{ReadAt, found, none_left_lem}
+use Rattle.cursors.proofs.Items.{ReadAt, found, none_left}
 use Rattle.theory.specs.Rule.{FactSet}
 use Rattle.tables.specs.Layout.{own_from, table_cells, last_cell, unread_in}
 use Rattle.reader.specs.declared.answer.Asked.TheVariants.{Yes}
@@ -33,7 +33,7 @@ use Rattle.stores.specs.Stores.{with_rule, with_counts, with_unread, withholding
 use Rattle.reader.proofs.FileAsked.{said_no}
 use Rattle.reader.proofs.Accepted.{good_body, body-bounded}
 use Rattle.reader.proofs.BodyAsked.{not-begun, Own, own-premise, own-constraint, unread_too_high, unread_late, unread_read, rule-opened, no-rule_opened, rule-too_long, own_read, all_yes}
-use Rattle.stores.proofs.CellsStored.{MarksKept, rule-stored, counts_stored, rule-marks, counts_marks, own-marks, UnreadStored, unread_stored, WithheldStored, withheld-stored}
+use Rattle.stores.proofs.CellsStored.{MarksKept, rule-stored, counts_stored, rule_marks, counts_marks, own-marks, UnreadStored, unread_stored, WithheldStored, withheld-stored}
 use Rattle.reader.proofs.UnreadMarked.{none_unread, none_held, kept-unread, held-unread, unread_more, holding_kept, rule-held, premise_held, constraint_held, unread_held, unread_told}
 use Rattle.reader.proofs.RulesStored.{none_stored, opened-rule, rule-kept, storing_kept, unread_kept, premise_kept, constraint_kept, all-stored, all_read}
 use Rattle.reader.proofs.ConstraintsCounted.{none_counted, rule-counted, unread_counted, premise_counted, constraint_counted, exceptions_counted, constrained-counted}
@@ -100,7 +100,7 @@ module _ {facts : ℕ} {s : List ℕ} {c₀ : Cursor} {T marks : List ℕ} {c : 
           }
         where
           stored : MarksKept T (with_rule T p.rules f.0 d.at p.filled p.barred)
-          stored = rule-marks (rule-stored T w.tables.size p.rules f.0 d.at p.filled p.barred few) few
+          stored = rule_marks (rule-stored T w.tables.size p.rules f.0 d.at p.filled p.barred few) few
 
   pub unread_scanned : facts < max_facts narrow → {f : FactId} {d : Cursor} → ReadAt s c (Unread f) d → f.0 < facts → p.rules ≡ 0 → (T' marks' : List ℕ) → T' ≡ with_unread T f.0 → marks' ≡ set marks f.0 unread_mark → Scanning facts s c₀ T' marks' d p
   unread_scanned small {f} r below none-opened T' marks' e m =
@@ -131,7 +131,7 @@ module _ {facts : ℕ} {s : List ℕ} {c₀ : Cursor} {T marks : List ℕ} {c : 
 
   -- an item of a rule's own, where none is allowed
   pub none_allowed_lem : {i : Item} {f : FactId} {d : Cursor} → Own i f → ReadAt s c i d → f.0 < facts → p.allowance ≡ 0 → body_no facts s c₀ ≡ some (none_allowed p.rules)
-  none_allowed_lem asked r below none_left_lem = go (eqb p.rules 0) refl
+  none_allowed_lem asked r below none_left = go (eqb p.rules 0) refl
     where
       go : (b : Bool) → eqb p.rules 0 ≡ b → body_no facts s c₀ ≡ some (none_allowed p.rules)
       go true e = rw e (no-rule_opened w.verdict asked r below (eqb-true p.rules 0 e))
@@ -195,7 +195,7 @@ module _ {facts : ℕ} {s : List ℕ} {c₀ : Cursor} {T marks : List ℕ} {c : 
         yes_all = all_yes w.verdict r right ended
 
         ends : items_at s d ≡ []
-        ends = none_left_lem s d ended
+        ends = none_left s d ended
 
         same_unread : unread_in T facts ≡ (program_from facts s c₀).unread
         same_unread =

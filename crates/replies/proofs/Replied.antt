@@ -16,15 +16,15 @@ use Rattle.replies.specs.declared.Count.{Count}
 use Rattle.replies.specs.declared.RunCounts.{RunCounts}
 use Rattle.replies.specs.Reply.{counts_of_ran, counts_of_searched, RunReply, run_reply, SearchReply, search_reply, count_of_grounds, GroundsReply, grounds_reply, count_of_layered, LayeredReply, layered_reply, count_of_loaded, LoadReply, load_reply}
 
-pub run-replied : (a : Ran) (r : RunCounts) (facts rules steps : List ℕ) (o : ran.RunOutcome) → r ≡ counts_of_ran a → ◌≡◌ {A = ran.RunOutcome} (record { answer = a; fact-marks = facts; rule-marks = rules; steps = steps }) o → ◌≡◌ {A = RunReply} (record { reply = r; fact-marks = facts; rule-marks = rules; steps = steps }) (run_reply o)
+pub run-replied : (a : Ran) (r : RunCounts) (facts rules steps : List ℕ) (o : ran.RunOutcome) → r ≡ counts_of_ran a → ◌≡◌ {A = ran.RunOutcome} (record { answer = a; fact_marks = facts; rule_marks = rules; steps = steps }) o → ◌≡◌ {A = RunReply} (record { reply = r; fact_marks = facts; rule_marks = rules; steps = steps }) (run_reply o)
 unfolding run_reply
 run-replied a r facts rules steps o said left = rw (said, ← left, run_reply)
 
-pub search-replied : (a : Searched) (r : RunCounts) (facts rules steps order : List ℕ) (o : searched.SearchOutcome) → r ≡ counts_of_searched a → ◌≡◌ {A = searched.SearchOutcome} (record { answer = a; fact-marks = facts; rule-marks = rules; steps = steps; order = order }) o → ◌≡◌ {A = SearchReply} (record { reply = r; fact-marks = facts; rule-marks = rules; steps = steps; order = order }) (search_reply o)
+pub search-replied : (a : Searched) (r : RunCounts) (facts rules steps order : List ℕ) (o : searched.SearchOutcome) → r ≡ counts_of_searched a → ◌≡◌ {A = searched.SearchOutcome} (record { answer = a; fact_marks = facts; rule_marks = rules; steps = steps; order = order }) o → ◌≡◌ {A = SearchReply} (record { reply = r; fact_marks = facts; rule_marks = rules; steps = steps; order = order }) (search_reply o)
 unfolding search_reply
 search-replied a r facts rules steps order o said left = rw (said, ← left, search_reply)
 
-pub grounds-replied : (a : Grounds) (r : Count) (facts rules steps : List ℕ) (o : grounds.GroundsOutcome) → r ≡ count_of_grounds a → ◌≡◌ {A = grounds.GroundsOutcome} (record { answer = a; fact-marks = facts; rule-marks = rules; steps = steps }) o → ◌≡◌ {A = GroundsReply} (record { reply = r; fact-marks = facts; rule-marks = rules; steps = steps }) (grounds_reply o)
+pub grounds-replied : (a : Grounds) (r : Count) (facts rules steps : List ℕ) (o : grounds.GroundsOutcome) → r ≡ count_of_grounds a → ◌≡◌ {A = grounds.GroundsOutcome} (record { answer = a; fact_marks = facts; rule_marks = rules; steps = steps }) o → ◌≡◌ {A = GroundsReply} (record { reply = r; fact_marks = facts; rule_marks = rules; steps = steps }) (grounds_reply o)
 unfolding grounds_reply
 grounds-replied a r facts rules steps o said left = rw (said, ← left, grounds_reply)
 

@@ -76,40 +76,40 @@ reply_of_choice a = record { refusal = choice_number a; which = better.which a }
 -- The reply of a run and the three buffers, from the run's outcome.
 pub record RunReply : Type 0 where
   pub reply : RunCounts
-  pub fact-marks : List ℕ
-  pub rule-marks : List ℕ
+  pub fact_marks : List ℕ
+  pub rule_marks : List ℕ
   pub steps : List ℕ
 
 unfoldable pub run_reply : ran.RunOutcome → RunReply
 run_reply o =
     record {
       reply = counts_of_ran o.answer;
-      fact-marks = o.fact-marks;
-      rule-marks = o.rule-marks;
+      fact_marks = o.fact_marks;
+      rule_marks = o.rule_marks;
       steps = o.steps;
     }
 
 -- The reply of the grounds for one fact and the three buffers, from their outcome.
 pub record GroundsReply : Type 0 where
   pub reply : Count
-  pub fact-marks : List ℕ
-  pub rule-marks : List ℕ
+  pub fact_marks : List ℕ
+  pub rule_marks : List ℕ
   pub steps : List ℕ
 
 unfoldable pub grounds_reply : grounds.GroundsOutcome → GroundsReply
 grounds_reply o =
     record {
       reply = count_of_grounds o.answer;
-      fact-marks = o.fact-marks;
-      rule-marks = o.rule-marks;
+      fact_marks = o.fact_marks;
+      rule_marks = o.rule_marks;
       steps = o.steps;
     }
 
 -- The reply of a search and the four buffers, from the search's outcome.
 pub record SearchReply : Type 0 where
   pub reply : RunCounts
-  pub fact-marks : List ℕ
-  pub rule-marks : List ℕ
+  pub fact_marks : List ℕ
+  pub rule_marks : List ℕ
   pub steps : List ℕ
   pub order : List ℕ
 
@@ -117,8 +117,8 @@ unfoldable pub search_reply : searched.SearchOutcome → SearchReply
 search_reply o =
     record {
       reply = counts_of_searched o.answer;
-      fact-marks = o.fact-marks;
-      rule-marks = o.rule-marks;
+      fact_marks = o.fact_marks;
+      rule_marks = o.rule_marks;
       steps = o.steps;
       order = o.order;
     }

@@ -51,9 +51,9 @@ module _ (f : ℕ → ℕ) (n : ℕ) (before now : List ℕ) (i : ℕ) (w : Mark
 abbrev pub fact_mark_by : FactSet → FactSet → ℕ → ℕ
 fact_mark_by D R f = cond (D f) 1 (cond (R f) 2 0)
 
-pub fact-marks : (P : Program) (s : Stand) (n : ℕ) (D R : FactSet) (out : List ℕ) → n ≡ P.facts → D ≡ s.derived → R ≡ rejected P s.applied → over (map (fact_mark_by D R) (up_to n)) out ≡ over (marks_of_facts P s) out
+pub fact_marks : (P : Program) (s : Stand) (n : ℕ) (D R : FactSet) (out : List ℕ) → n ≡ P.facts → D ≡ s.derived → R ≡ rejected P s.applied → over (map (fact_mark_by D R) (up_to n)) out ≡ over (marks_of_facts P s) out
 unfolding fact_mark
-fact-marks P s n D R out e d r = rw (e, d, r)
+fact_marks P s n D R out e d r = rw (e, d, r)
 
 -- The ways to the mark of one fact.
 module _ (marks : List ℕ) (f : ℕ) where

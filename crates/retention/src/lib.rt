@@ -33,7 +33,7 @@ pub fn retention_run(
     rule_marks: &mut [u8],
     steps: &mut [u8],
 ) -> RunCounts
-    ensures { ◌≡◌ {A = RunReply} (record { reply = result; fact-marks = fact_marks.new; rule-marks = rule_marks.new; steps = steps.new }) (run_reply (run_outcome file.now order.now fact_marks.old rule_marks.old steps.old)) }
+    ensures { ◌≡◌ {A = RunReply} (record { reply = result; fact_marks = fact_marks.new; rule_marks = rule_marks.new; steps = steps.new }) (run_reply (run_outcome file.now order.now fact_marks.old rule_marks.old steps.old)) }
 {
     replies::of_ran(run::run(file, order, fact_marks, rule_marks, steps))
 }
@@ -47,7 +47,7 @@ pub fn retention_grounds(
     rule_marks: &mut [u8],
     steps: &mut [u8],
 ) -> Count
-    ensures { ◌≡◌ {A = GroundsReply} (record { reply = result; fact-marks = fact_marks.new; rule-marks = rule_marks.new; steps = steps.new }) (grounds_reply (grounds_outcome file.now order.now fact fact_marks.old rule_marks.old steps.old)) }
+    ensures { ◌≡◌ {A = GroundsReply} (record { reply = result; fact_marks = fact_marks.new; rule_marks = rule_marks.new; steps = steps.new }) (grounds_reply (grounds_outcome file.now order.now fact fact_marks.old rule_marks.old steps.old)) }
 {
     replies::of_grounds(keeping::grounds(file, order, fact, fact_marks, rule_marks, steps))
 }
@@ -74,7 +74,7 @@ pub fn retention_search(
     steps: &mut [u8],
     order: &mut [u8],
 ) -> RunCounts
-    ensures { ◌≡◌ {A = SearchReply} (record { reply = result; fact-marks = fact_marks.new; rule-marks = rule_marks.new; steps = steps.new; order = order.new }) (search_reply (search_outcome file.now fact_marks.old rule_marks.old steps.old order.old)) }
+    ensures { ◌≡◌ {A = SearchReply} (record { reply = result; fact_marks = fact_marks.new; rule_marks = rule_marks.new; steps = steps.new; order = order.new }) (search_reply (search_outcome file.now fact_marks.old rule_marks.old steps.old order.old)) }
 {
     replies::of_searched(search::search(file, fact_marks, rule_marks, steps, order))
 }

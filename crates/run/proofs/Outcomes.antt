@@ -17,7 +17,7 @@ use Rattle.items.specs.Write.{over}
 use Rattle.items.specs.Item.{narrow}
 
 module _ (file order facts rules steps : List ℕ) where
-  pub outcome-refused : (r : Refusal) → run_no file order (length facts) (length rules) (length steps) ≡ some r → ◌≡◌ {A = RunOutcome} (record { answer = Refused r; fact-marks = facts; rule-marks = rules; steps = steps }) (run_outcome file order facts rules steps)
+  pub outcome-refused : (r : Refusal) → run_no file order (length facts) (length rules) (length steps) ≡ some r → ◌≡◌ {A = RunOutcome} (record { answer = Refused r; fact_marks = facts; rule_marks = rules; steps = steps }) (run_outcome file order facts rules steps)
   unfolding run_outcome
   outcome-refused r e = sym (rw (e, run_outcome))
 
@@ -43,6 +43,6 @@ module _ (file order facts rules steps : List ℕ) where
   run-answered o e = (e, rw e run-numbers)
 
 -- What was written where the run ended at s.
-pub written_there : (P : Program) (s : Stand) (facts rules row facts' rules' row' : List ℕ) (stages steps : ℕ) → stages ≡ stage_count s → steps ≡ step_count s → facts' ≡ over (marks_of_facts P s) facts → rules' ≡ over (marks_of_rules P (in_force P) s) rules → row' ≡ over (step_bytes narrow s.trace) row → ◌≡◌ {A = RunOutcome} (record { answer = Done stages steps; fact-marks = facts'; rule-marks = rules'; steps = row' }) (run_written P s facts rules row)
+pub written_there : (P : Program) (s : Stand) (facts rules row facts' rules' row' : List ℕ) (stages steps : ℕ) → stages ≡ stage_count s → steps ≡ step_count s → facts' ≡ over (marks_of_facts P s) facts → rules' ≡ over (marks_of_rules P (in_force P) s) rules → row' ≡ over (step_bytes narrow s.trace) row → ◌≡◌ {A = RunOutcome} (record { answer = Done stages steps; fact_marks = facts'; rule_marks = rules'; steps = row' }) (run_written P s facts rules row)
 unfolding run_written
 written_there P s facts rules row facts' rules' row' stages steps a b c d e = rw (a, b, c, d, e)

@@ -131,7 +131,7 @@ module _ {P : Program} {row order asks marks missing fired applied lacks awake :
   -- without an eligible rule the run has ended
   module _ {marks' fired' : List ℕ} (ended : Ended P order w.at n marks' fired') where
     ended_at : w.at ≡ run P (in_force P) order
-    ended_at = sym (finish-none P (in_force P) order w.at ended.none_left_lem) ∙ w.onward
+    ended_at = sym (finish-none P (in_force P) order w.at ended.none_left) ∙ w.onward
 
     pub ended_held : Held P (run P (in_force P) order) marks' fired' applied n
     ended_held = rw (← ended_at) (record { holds = ended.holds; applied_shown = w.applied_shown; applied_places = w.applied_places })

@@ -17,8 +17,8 @@ use Rattle.run.specs.declared.answer.Ran.TheVariants.{Done, Refused}
 -- The answer, and the three buffers.
 pub record RunOutcome : Type 0 where
   pub answer : Ran
-  pub fact-marks : List ℕ
-  pub rule-marks : List ℕ
+  pub fact_marks : List ℕ
+  pub rule_marks : List ℕ
   pub steps : List ℕ
 
 -- What a run that ends at s answers, and writes over the front of each buffer.
@@ -26,8 +26,8 @@ unfoldable pub run_written : Program → Stand → List ℕ → List ℕ → Lis
 run_written P s facts rules steps =
     record {
       answer = Done (stage_count s) (step_count s);
-      fact-marks = over (marks_of_facts P s) facts;
-      rule-marks = over (marks_of_rules P (in_force P) s) rules;
+      fact_marks = over (marks_of_facts P s) facts;
+      rule_marks = over (marks_of_rules P (in_force P) s) rules;
       steps = over (step_bytes narrow s.trace) steps;
     }
 
@@ -36,7 +36,7 @@ unfoldable pub run_outcome : List ℕ → List ℕ → List ℕ → List ℕ →
 run_outcome file order facts rules steps =
     elim (run_no file order (length facts) (length rules) (length steps)) [
       | none ↦ run_written (program_of file) (run_of file order) facts rules steps
-      | some r ↦ record { answer = Refused r; fact-marks = facts; rule-marks = rules; steps = steps }
+      | some r ↦ record { answer = Refused r; fact_marks = facts; rule_marks = rules; steps = steps }
     ]
 
 -- The answer's number, 0 where there is a result, and its counts, 0 on a refusal.

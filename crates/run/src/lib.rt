@@ -23,7 +23,7 @@ pub fn run(
     rule_marks: &mut [u8],
     steps: &mut [u8],
 ) -> Ran
-    ensures fact { ◌≡◌ {A = RunOutcome} (record { answer = result; fact-marks = fact_marks.new; rule-marks = rule_marks.new; steps = steps.new }) (run_outcome file.now order.now fact_marks.old rule_marks.old steps.old) }
+    ensures fact { ◌≡◌ {A = RunOutcome} (record { answer = result; fact_marks = fact_marks.new; rule_marks = rule_marks.new; steps = steps.new }) (run_outcome file.now order.now fact_marks.old rule_marks.old steps.old) }
     ensures run_numbers { RunNumbers file.now order.now (run_no file.now order.now (length fact_marks.old) (length rule_marks.old) (length steps.old)) result }
 {
     let mut tables = [0u16; TABLE_CELLS];

@@ -61,8 +61,8 @@ module _ (file facts rules steps order : List ℕ) (y : AllYesses file (length f
         (ap answer_of (sym tabled_yes)
         ∙ ap₂ (λ (bytes : List ℕ) (P : Program). answer_of (tabled_no P bytes (length facts) (length rules) (length steps))) (sym front) (sym t.program))
 
-    module _ (answer : Ran) (facts' rules' steps' : List ℕ) (e : ◌≡◌ {A = RunOutcome} (record { answer = answer; fact-marks = facts'; rule-marks = rules'; steps = steps' }) (run_written (program_of file) (run_of file (take n order')) facts rules steps)) where
-      ended : ◌≡◌ {A = RunOutcome} (record { answer = answer; fact-marks = facts'; rule-marks = rules'; steps = steps' }) (run_written (program_of file) (run (program_of file) (in_force (program_of file)) (order_for (program_of file) (in_force (program_of file)) M)) facts rules steps)
+    module _ (answer : Ran) (facts' rules' steps' : List ℕ) (e : ◌≡◌ {A = RunOutcome} (record { answer = answer; fact_marks = facts'; rule_marks = rules'; steps = steps' }) (run_written (program_of file) (run_of file (take n order')) facts rules steps)) where
+      ended : ◌≡◌ {A = RunOutcome} (record { answer = answer; fact_marks = facts'; rule_marks = rules'; steps = steps' }) (run_written (program_of file) (run (program_of file) (in_force (program_of file)) (order_for (program_of file) (in_force (program_of file)) M)) facts rules steps)
       ended =
           let row = order_for (program_of file) (in_force (program_of file)) M in
           e
@@ -76,7 +76,7 @@ module _ (file facts rules steps order : List ℕ) (y : AllYesses file (length f
           let z : ◌≡◌ {A = ℕ} 0 1 = cc in
           omega arith
 
-      pub found_there : (stages taken : ℕ) → answer ≡ Done stages taken → ◌≡◌ {A = SearchOutcome} (record { answer = Found stages taken; fact-marks = facts'; rule-marks = rules'; steps = steps'; order = order' }) (found_at (program_of file) M facts rules steps order)
+      pub found_there : (stages taken : ℕ) → answer ≡ Done stages taken → ◌≡◌ {A = SearchOutcome} (record { answer = Found stages taken; fact_marks = facts'; rule_marks = rules'; steps = steps'; order = order' }) (found_at (program_of file) M facts rules steps order)
       unfolding run_written search_written
       found_there stages taken q =
           let end : Stand = run (program_of file) (in_force (program_of file)) (order_for (program_of file) (in_force (program_of file)) M) in
@@ -86,8 +86,8 @@ module _ (file facts rules steps order : List ℕ) (y : AllYesses file (length f
           λ j.
           record {
             answer = Found (s j) (t j);
-            fact-marks = (ended j).fact-marks;
-            rule-marks = (ended j).rule-marks;
+            fact_marks = (ended j).fact_marks;
+            rule_marks = (ended j).rule_marks;
             steps = (ended j).steps;
             order = o.0 j;
           }

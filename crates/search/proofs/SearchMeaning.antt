@@ -43,7 +43,7 @@ stable_asked file a = (λ t. into (search (program_of file) (in_force (program_o
     back none e s = absurd (search-none (program_of file) (in_force (program_of file)) bounds e s.0 s.1)
 
 -- the set that is read off the marks is the one that was taken
-pub found-set : (file facts rules steps order : List ℕ) → Bounded (program_of file) → (M : FactSet) → Stable (program_of file) (in_force (program_of file)) M → marked (program_of file).facts 1 (found_at (program_of file) M facts rules steps order).fact-marks ≡ M
+pub found-set : (file facts rules steps order : List ℕ) → Bounded (program_of file) → (M : FactSet) → Stable (program_of file) (in_force (program_of file)) M → marked (program_of file).facts 1 (found_at (program_of file) M facts rules steps order).fact_marks ≡ M
 unfolding search_written
 found-set file facts rules steps order b M s =
     read_derived (program_of file) b (order_for (program_of file) (in_force (program_of file)) M) facts ∙ fun_ext (order-reaches (program_of file) (in_force (program_of file)) M s)

@@ -19,8 +19,8 @@ use Rattle.search.specs.declared.answer.Searched.TheVariants.{Found, Refused}
 -- The answer, and the four buffers.
 pub record SearchOutcome : Type 0 where
   pub answer : Searched
-  pub fact-marks : List ℕ
-  pub rule-marks : List ℕ
+  pub fact_marks : List ℕ
+  pub rule_marks : List ℕ
   pub steps : List ℕ
   pub order : List ℕ
 
@@ -29,8 +29,8 @@ unfoldable pub search_written : Program → List ℕ → Stand → List ℕ → 
 search_written P row s facts rules steps order =
     record {
       answer = Found (stage_count s) (step_count s);
-      fact-marks = over (marks_of_facts P s) facts;
-      rule-marks = over (marks_of_rules P (in_force P) s) rules;
+      fact_marks = over (marks_of_facts P s) facts;
+      rule_marks = over (marks_of_rules P (in_force P) s) rules;
       steps = over (step_bytes narrow s.trace) steps;
       order = over (naming row) order;
     }
@@ -42,7 +42,7 @@ found_at P M = search_written P (order_for P (in_force P) M) (run P (in_force P)
 -- A refusal alters no byte.
 abbrev pub refused_with : Refusal → List ℕ → List ℕ → List ℕ → List ℕ → SearchOutcome
 refused_with r facts rules steps order =
-    record { answer = Refused r; fact-marks = facts; rule-marks = rules; steps = steps; order = order }
+    record { answer = Refused r; fact_marks = facts; rule_marks = rules; steps = steps; order = order }
 
 -- The set that the search takes. Where there is none, question 41 gets no, and nothing is taken.
 unfoldable pub taken_set : Program → FactSet
@@ -73,5 +73,5 @@ search_steps (Refused r) = 0
 -- the fact marks 1, and 41 says that no set is stable.
 pub record SearchMeans (file : List ℕ) (no : Option Refusal) (o : SearchOutcome) : Type 0 where
   pub numbered : search_number o.answer ≡ no_number no
-  pub earliest : search_number o.answer ≡ 0 → Earliest (program_of file) (in_force (program_of file)) any_set (marked (program_of file).facts 1 o.fact-marks)
+  pub earliest : search_number o.answer ≡ 0 → Earliest (program_of file) (in_force (program_of file)) any_set (marked (program_of file).facts 1 o.fact_marks)
   pub none_stable : search_number o.answer ≡ 41 → (M : FactSet) → Stable (program_of file) (in_force (program_of file)) M → ⊥

@@ -31,7 +31,7 @@ fn run_to(
 ) -> Searched
     requires order_value { early_no file.now (length fact_marks.old) (length rule_marks.old) (length steps.old) (length order.old) ≡ none }
     requires tabled { Tabled file.now tables.now }
-    ensures { ◌≡◌ {A = SearchOutcome} (record { answer = result; fact-marks = fact_marks.new; rule-marks = rule_marks.new; steps = steps.new; order = order.new }) (found_at (program_of file.now) (has set.now) fact_marks.old rule_marks.old steps.old order.old) }
+    ensures { ◌≡◌ {A = SearchOutcome} (record { answer = result; fact_marks = fact_marks.new; rule_marks = rule_marks.new; steps = steps.new; order = order.new }) (found_at (program_of file.now) (has set.now) fact_marks.old rule_marks.old steps.old order.old) }
 {
     let length = orders::written::write_order(tables, set, order);
     match run::stages::run_tabled(tables, &order[..length], fact_marks, rule_marks, steps) {
@@ -72,7 +72,7 @@ pub fn search_accepted(
 ) -> Searched
     requires order_value { early_no file.now (length fact_marks.old) (length rule_marks.old) (length steps.old) (length order.old) ≡ none }
     requires tabled { Tabled file.now tables.now }
-    ensures { ◌≡◌ {A = SearchOutcome} (record { answer = result; fact-marks = fact_marks.new; rule-marks = rule_marks.new; steps = steps.new; order = order.new }) (search_outcome file.now fact_marks.old rule_marks.old steps.old order.old) }
+    ensures { ◌≡◌ {A = SearchOutcome} (record { answer = result; fact_marks = fact_marks.new; rule_marks = rule_marks.new; steps = steps.new; order = order.new }) (search_outcome file.now fact_marks.old rule_marks.old steps.old order.old) }
 {
     let mut set = [0u8; MAX_FACTS];
     if !find_set(tables, &mut set) {

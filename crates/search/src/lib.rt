@@ -26,8 +26,8 @@ pub fn search(
     steps: &mut [u8],
     order: &mut [u8],
 ) -> Searched
-    ensures fact { ◌≡◌ {A = SearchOutcome} (record { answer = result; fact-marks = fact_marks.new; rule-marks = rule_marks.new; steps = steps.new; order = order.new }) (search_outcome file.now fact_marks.old rule_marks.old steps.old order.old) }
-    ensures search_means { SearchMeans file.now (search_no file.now (length fact_marks.old) (length rule_marks.old) (length steps.old) (length order.old)) (record { answer = result; fact-marks = fact_marks.new; rule-marks = rule_marks.new; steps = steps.new; order = order.new }) }
+    ensures fact { ◌≡◌ {A = SearchOutcome} (record { answer = result; fact_marks = fact_marks.new; rule_marks = rule_marks.new; steps = steps.new; order = order.new }) (search_outcome file.now fact_marks.old rule_marks.old steps.old order.old) }
+    ensures search_means { SearchMeans file.now (search_no file.now (length fact_marks.old) (length rule_marks.old) (length steps.old) (length order.old)) (record { answer = result; fact_marks = fact_marks.new; rule_marks = rule_marks.new; steps = steps.new; order = order.new }) }
 {
     let mut tables = [0u16; TABLE_CELLS];
     match reader::scan::scan(file, &mut tables) {
@@ -49,7 +49,7 @@ fn search_scanned(
     order: &mut [u8],
 ) -> Searched
     requires { Accepted file.now counts × Tabled file.now tables.now }
-    ensures { ◌≡◌ {A = SearchOutcome} (record { answer = result; fact-marks = fact_marks.new; rule-marks = rule_marks.new; steps = steps.new; order = order.new }) (search_outcome file.now fact_marks.old rule_marks.old steps.old order.old) }
+    ensures { ◌≡◌ {A = SearchOutcome} (record { answer = result; fact_marks = fact_marks.new; rule_marks = rule_marks.new; steps = steps.new; order = order.new }) (search_outcome file.now fact_marks.old rule_marks.old steps.old order.old) }
 {
     let answer = asked::ask_search(
         tables,

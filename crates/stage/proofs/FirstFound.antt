@@ -52,7 +52,7 @@ module _ {P : Program} {row order marks missing fired : List ℕ} {n : ℕ} {awa
   pub none_found : {r : Lowest} (after : List ℕ) → LowestTaken p r after → r ≡ Nothing → Ended P order s n marks fired
   none_found after t e =
       record {
-        none_left_lem = none_passes (eligible P (in_force P) s) order (λ k h. w.waits.asleep k h (nothing_left w.flags (t.none_left_lem e) k));
+        none_left = none_passes (eligible P (in_force P) s) order (λ k h. w.waits.asleep k h (nothing_left w.flags (t.none_left e) k));
         holds = w.holds;
       }
 

@@ -61,7 +61,7 @@ pub record Taken (P : Program) (order : List ℕ) (s : Stand) (n i : ℕ) (marks
 
 -- It found none.
 pub record Ended (P : Program) (order : List ℕ) (s : Stand) (n : ℕ) (marks fired : List ℕ) : Type 0 where
-  pub none_left_lem : ◌≡◌ {A = Option ℕ} (first_eligible P (in_force P) order s) none
+  pub none_left : ◌≡◌ {A = Option ℕ} (first_eligible P (in_force P) order s) none
   pub holds : Holds P s marks fired n
 
 -- What a look leaves of n steps before.

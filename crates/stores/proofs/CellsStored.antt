@@ -102,8 +102,8 @@ pub record MarksKept (T T' : List ℕ) : Type 0 where
   pub marks : (k : ℕ) → unread_from ≤ k → k < own_from → get_or T' k 0 ≡ get_or T k 0
 
 -- So they are where a rule is stored, or the counts.
-pub rule-marks : {T T' : List ℕ} {i f p a b : ℕ} → RuleStored T T' i f p a b → i < max_rules → MarksKept T T'
-rule-marks t h =
+pub rule_marks : {T T' : List ℕ} {i f p a b : ℕ} → RuleStored T T' i f p a b → i < max_rules → MarksKept T T'
+rule_marks t h =
     record {
       marks = λ k l u. t.kept k (λ e. omega arith) (λ e. omega arith) (λ e. omega arith) (λ e. omega arith);
     }

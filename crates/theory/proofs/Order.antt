@@ -145,8 +145,8 @@ module _ (P : Program) (on : Mask) (M : FactSet) (m : Stable P on M) where
       ∙ and_right (exception P i) _ (and_right (mem i (up_to (count P))) _ (rw (mem-keep (λ j. exception P j && eqb (group_for P on M j) 0) (up_to (count P)) i) at e))
 
   -- where no rule of the first group is eligible, none is
-  none_left_lem : (s : Stand) → Inside s → ((i : ℕ) → mem i first ≡ true → eligible P on s i ≡ false) → (i : ℕ) → eligible P on s i ≡ true → ⊥
-  none_left_lem s v n i e =
+  none_left : (s : Stand) → Inside s → ((i : ℕ) → mem i first ≡ true → eligible P on s i ≡ false) → (i : ℕ) → eligible P on s i ≡ true → ⊥
+  none_left s v n i e =
       ⊎_elim
       (λ u. never e (n i (first_member i t.excepted u)))
       (λ u. never (and_both t.in-force (and_both (all-mono s.derived M (rule P i).premises v.inside t.premises-in) (clear-anti M (trial P on s.derived i) (rule P i).constraints grown t.spares_own))) u)
@@ -164,7 +164,7 @@ module _ (P : Program) (on : Mask) (M : FactSet) (m : Stable P on M) where
   taken-upheld s i v e = go (seek (eligible P on s) first) refl
     where
       go : (o : Option ℕ) → seek (eligible P on s) first ≡ o → upheld P on M i ≡ true
-      go none q = absurd (none_left_lem s v (seek-none (eligible P on s) first q) i (seek-some (eligible P on s) (first ++ later) i e).passes)
+      go none q = absurd (none_left s v (seek-none (eligible P on s) first q) i (seek-some (eligible P on s) (first ++ later) i e).passes)
       go (some j) q =
           let r : some j ≡ some i = sym (seek-append (eligible P on s) first later j q) ∙ e in
           let w : j ≡ i = cc in

@@ -9,9 +9,8 @@ mod report;
 
 use replay::read::NEXT;
 use report::COUNTS;
-use std::fs;
-use std::io;
 use std::io::Read;
+use std::{fs, io};
 
 // More than the file of cases has. What is past its end is 0, and ends it.
 const ROOM: usize = 1441792;

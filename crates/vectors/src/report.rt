@@ -28,7 +28,12 @@ fn line(rt: &HostRuntime, name: &[u8], agreed: u32, differed: u32) -> io::Result
 }
 
 // Past the empty row stand the names of the operations.
-pub fn counts(rt: &HostRuntime, bytes: &[u8], end: usize, counts: &[u32; COUNTS]) -> io::Result<()> {
+pub fn counts(
+    rt: &HostRuntime,
+    bytes: &[u8],
+    end: usize,
+    counts: &[u32; COUNTS],
+) -> io::Result<()> {
     let mut at = past(bytes, end);
     let mut k: usize = 1;
     while k < OPERATIONS {

@@ -1,5 +1,5 @@
-// The view of a rule: the file as handed in, and the range of the rule's premises and constraints that are still to come. The borrow checker
-// covers no function over a struct that holds a slice, so each here is thin and proved by hand; the work is done in `range`.
+// The view of a rule: the file as handed in, and the range of the rule's premises and constraints that are still to come. Each function over
+// it is thin; the work is done in `range`.
 
 #![tactic(auto)]
 

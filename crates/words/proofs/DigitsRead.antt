@@ -82,11 +82,11 @@ module _ (word : List ℕ) (i n : ℕ) (w : Reading word i n) where
         }
 
   module _ (h : length word ≤ i) where
-    none_left_lem : drop i word ≡ []
-    none_left_lem = drop_of_length-le word h
+    none_left : drop i word ≡ []
+    none_left = drop_of_length-le word h
 
     whole : value word ≡ n
-    whole = w.value_left ∙ ap (value_behind n) none_left_lem
+    whole = w.value_left ∙ ap (value_behind n) none_left
 
     pub too_high : most_value < n → NotANumber ≡ word_of word
     unfolding word_of is_number
@@ -96,4 +96,4 @@ module _ (word : List ℕ) (i n : ℕ) (w : Reading word i n) where
     pub all_read : n ≤ most_value → Number n ≡ word_of word
     unfolding word_of is_number
     all_read l =
-        rw (whole, le-leb n most_value l, w.digits_left, none_left_lem, le-leb (length word) longest_number w.few_digits, le-leb 1 (length word) w.some_digits)
+        rw (whole, le-leb n most_value l, w.digits_left, none_left, le-leb (length word) longest_number w.few_digits, le-leb 1 (length word) w.some_digits)

@@ -20,7 +20,7 @@ waiting : (c : In-At) → c.loop-place.invariant.waits c.in-At.place ≡ true
 waiting c = (c.take_next.ensures.by_index _ c.loop-place.invariant.flags).one_of _ c.in-At.is
 
 pub returns-in-Nothing : goal.returns-in-Nothing
-returns-in-Nothing c = all_settled c.requires.well_formed.1 c.loop-place.invariant ((c.take_next.ensures.by_index _ c.loop-place.invariant.flags).none_left_lem c.in-Nothing.is)
+returns-in-Nothing c = all_settled c.requires.well_formed.1 c.loop-place.invariant ((c.take_next.ensures.by_index _ c.loop-place.invariant.flags).none_left c.in-Nothing.is)
 
 pub overflow_add-from : goal.overflow_add-from
 overflow_add-from c = record { fits = omega (arith, inside c) }

@@ -12,7 +12,7 @@ rooted c = let p = c.requires in root_base _ p.well_formed.1 _ p.well_formed.2 (
 pub first_guess-requires : goal.first_guess-requires
 first_guess-requires c = record {
   ready = record { well_formed = c.requires.well_formed.0; indexed = c.index_rules.ensures.indexed };
-  base = record { in-force = all_in _ c.index_rules.new.index c.index_rules.ensures.left_out_lem; settled = c.hold_none.ensures.settled; row_base = (rooted (goal.at.first_guess-requires c).After-hold_none).row_base };
+  base = record { in-force = all_in _ c.index_rules.new.index c.index_rules.ensures.left_out; settled = c.hold_none.ensures.settled; row_base = (rooted (goal.at.first_guess-requires c).After-hold_none).row_base };
 }
 
 pub returns : goal.returns

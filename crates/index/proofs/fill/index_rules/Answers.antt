@@ -89,6 +89,6 @@ returns c = let off = c.args.off.now in
     let passed = all-passed c in
     record {
       indexed = all-indexed off w passed (rules-below c.requires.0);
-      left_out_lem = all-left_out off w passed;
+      left_out = all-left_out off w passed;
       sized = all-sized off w passed;
     }

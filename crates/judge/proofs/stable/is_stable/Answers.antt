@@ -12,4 +12,4 @@ overflow_cast-facts c = omega (arith, c.facts_of-facts.ensures, facts_below c.re
 pub returns : goal.returns
 returns c = let w = c.requires.0 in
     c.same_facts.ensures
-    ∙ tested (program_in c.args.tables.now) w.in_bounds (omega (arith, facts_below w)) c.index_rules.new.index c.args.set.now c.hold_none.new.marks c.hold_absent.new.marks c.hold_absent.new.missing c.hold_absent.ensures.settled_2 c.hold_none.ensures.held_too c.hold_absent.ensures.held_too _ c.index_rules.ensures.left_out_lem _ c.facts_of-facts.ensures
+    ∙ tested (program_in c.args.tables.now) w.in_bounds (omega (arith, facts_below w)) c.index_rules.new.index c.args.set.now c.hold_none.new.marks c.hold_absent.new.marks c.hold_absent.new.missing c.hold_absent.ensures.settled_2 c.hold_none.ensures.held_too c.hold_absent.ensures.held_too _ c.index_rules.ensures.left_out _ c.facts_of-facts.ensures

@@ -5,7 +5,6 @@ use mathlib.Core.Bool.{true}
 use native.Mathlib.Omega.{arith}
 use lib.ListN.{length, take}
 use Rattle.items.specs.Item.{narrow, max_facts, has}
-use Rattle.tables.specs.Layout.{program_in}
 use Rattle.tables.proofs.ProgramHeld.{facts_below}
 use Rattle.questions.specs.Questions.{named_in}
 use Rattle.run.proofs.MemoryShown.{outset-held}

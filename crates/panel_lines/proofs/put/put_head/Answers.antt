@@ -1,7 +1,6 @@
 -- `put_head`: the three counts behind their letters.
 use mathlib.Core.Path.{refl}
 use mathlib.Core.List.{◌∷◌, ◌++◌}
-use borrow.Author.Rules.{rules}
 use Rattle.panel_lines.specs.Text.{space, newline, field, line, head_line}
 use Rattle.questions.proofs.BytesPut.{Putting, begun, next_fits, one_put}
 use Rattle.panel_lines.proofs.put.put_head.Goals as goal

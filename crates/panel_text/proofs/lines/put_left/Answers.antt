@@ -3,7 +3,6 @@ use mathlib.Core.Path.{refl, sym, ap}
 use Prim.Native.Nat.{ℕ}
 use mathlib.Core.List.{List, ◌++◌}
 use lib.Dec.{eqb}
-use borrow.Author.Rules.{rules}
 use Rattle.theory.specs.Rule.{null}
 use Rattle.questions.specs.Questions.{each, row_of}
 use Rattle.theory.specs.Places.{places_marked}

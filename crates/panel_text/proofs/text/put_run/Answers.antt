@@ -1,5 +1,5 @@
 -- `put_run`: the order gets yes, so the run ends, and what it leaves gives the lines.
-use Prim.Native.Nat.{◌*◌, ◌<◌}
+use Prim.Native.Nat.{◌*◌}
 use mathlib.Core.Path.{sym}
 use native.Mathlib.Omega.{arith}
 use lib.ListN.{replicate}
@@ -7,7 +7,7 @@ use lib.Seq.{length-take-le}
 use Rattle.theory.specs.Rule.{in_force}
 use Rattle.theory.specs.Run.{run}
 use Rattle.reader.specs.Questions.{program_of}
-use Rattle.items.specs.Item.{narrow, max_facts, name_width, max_rules}
+use Rattle.items.specs.Item.{name_width, max_rules}
 use Rattle.questions.specs.Questions.{naming}
 use Rattle.questions.specs.Put.{Put}
 use Rattle.panel_lines.specs.Text.{ascending}

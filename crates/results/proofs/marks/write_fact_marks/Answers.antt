@@ -1,6 +1,6 @@
 -- `write_fact_marks`: the marks of the facts passed are written.
 use mathlib.Core.Path.{◌∙◌}
-use Rattle.results.proofs.MarksWritten.{none_written, one_written, all-written, a_derived, a_rejected, an_open, fact-marks}
+use Rattle.results.proofs.MarksWritten.{none_written, one_written, all-written, a_derived, a_rejected, an_open, fact_marks}
 use Rattle.results.proofs.marks.write_fact_marks.Goals as goal
 use Rattle.results.proofs.marks.write_fact_marks.Goals.{then-marks-f-eq-IN, else-marks-f-eq-IN+then-marks-f-eq-BARRED, else-marks-f-eq-IN+else-marks-f-eq-BARRED}
 
@@ -19,4 +19,4 @@ pub shape_of-out : goal.shape_of-out
 shape_of-out c = c.loop-f.invariant.length_kept
 
 pub returns : goal.returns
-returns c = λ P s e d r. all-written _ _ _ _ _ c.loop-f.invariant c.loop-f-test.false ∙ fact-marks P s _ _ _ _ e d r
+returns c = λ P s e d r. all-written _ _ _ _ _ c.loop-f.invariant c.loop-f-test.false ∙ fact_marks P s _ _ _ _ e d r
