@@ -83,7 +83,8 @@ fn step(
     requires { WellFormed tables.now × (rule.0 < count (program_in tables.now)) × (length derived.old ≡ lane_cells) }
     ensures { (R : Places) (p : ℕ → Bool) → Asked (program_in tables.now) R asks.now → Flags p pending.old → Stepped (program_in tables.now) R p rule.0 outs.now derived.old pending.old derived.new pending.new }
 {
-    if fire(tables, rule, outs, derived) {
+    let fired = fire(tables, rule, outs, derived);
+    if fired {
         let fact = conclusion(tables, rule);
         join_row(asks, fact.0 as usize, pending);
     }

@@ -40,7 +40,8 @@ fn lowest_ready(
             Lowest::At(number) => {
                 let rule = RuleId(number as u16);
                 if marked_in(index, MAX_FACTS, number) {
-                    if !conclusion_in(tables, rule, set) {
+                    let held = conclusion_in(tables, rule, set);
+                    if !held {
                         return Found::At(rule);
                     }
                 }

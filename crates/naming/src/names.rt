@@ -100,7 +100,8 @@ pub fn all_named(tables: &[u16; TABLE_CELLS], named: &[u8; MAX_RULES]) -> bool
     let mut i: usize = 0;
     while i < rules {
         if is_exception(tables, RuleId(i as u16)) {
-            if named[i] != 1 {
+            let missed = named[i] != 1;
+            if missed {
                 return false;
             }
         }

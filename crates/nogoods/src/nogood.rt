@@ -52,7 +52,8 @@ pub fn next_open(
         let mask = masks[i];
         let value = values[i];
         i += 1;
-        if guess & mask == value {
+        let refuted = guess & mask == value;
+        if refuted {
             guess = after(guess, mask);
             i = 0;
         }

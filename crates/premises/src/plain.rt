@@ -67,7 +67,8 @@ fn fill_plain(
     let mut i: usize = 0;
     while i < rules {
         let rule = RuleId(i as u16);
-        if is_exception(tables, rule) {
+        let exception = is_exception(tables, rule);
+        if exception {
             i += 1;
             continue;
         }

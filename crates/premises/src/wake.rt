@@ -40,7 +40,8 @@ fn lower(word: u64, at: usize, missing: &mut [u16; MAX_RULES], awake: &mut [u64;
         left = without_lowest(left);
         let lacked = one_less(missing[place]);
         missing[place] = lacked;
-        if lacked == 0 {
+        let ripe = lacked == 0;
+        if ripe {
             mark(awake, place);
         }
     }
@@ -101,7 +102,8 @@ pub fn enter_set(
     let facts = facts_of(tables);
     let mut f: usize = 0;
     while f < facts {
-        if set[f] == IN {
+        let inside = set[f] == IN;
+        if inside {
             enter(asks, f, missing, awake);
         }
         f += 1;

@@ -41,7 +41,8 @@ fn ask_item(taken: Taken, set: &[u8], marks: &mut [u8; MAX_FACTS]) -> Told
                 fits: false,
                 rest,
             };
-            if marks[number] == 1 {
+            let before = marks[number] == 1;
+            if before {
                 return refused;
             }
             if in_set(set, f) {

@@ -115,7 +115,8 @@ pub fn scan(file: &[u8], tables: &mut [u16; TABLE_CELLS]) -> Asked
     ensures value { result ≡ file_asked file.now }
     ensures scanned { Scanned file.now tables.new }
 {
-    if MAX_BYTES < file.len() {
+    let too_long = MAX_BYTES < file.len();
+    if too_long {
         return Asked::No(Refusal::FileTooLong);
     }
     let mut marks = [0u8; MAX_FACTS];

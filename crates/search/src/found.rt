@@ -75,7 +75,8 @@ pub fn search_accepted(
     ensures { ◌≡◌ {A = SearchOutcome} (record { answer = result; fact_marks = fact_marks.new; rule_marks = rule_marks.new; steps = steps.new; order = order.new }) (search_outcome file.now fact_marks.old rule_marks.old steps.old order.old) }
 {
     let mut set = [0u8; MAX_FACTS];
-    if !find_set(tables, &mut set) {
+    let found = find_set(tables, &mut set);
+    if !found {
         return Searched::Refused(Refusal::NoStableSet);
     }
     run_to(file, tables, &set, fact_marks, rule_marks, steps, order)

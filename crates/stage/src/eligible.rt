@@ -40,7 +40,8 @@ pub fn first_eligible(
         };
         let rule = RuleId(row[place]);
         // A withheld rule of the order: "the run passes over them".
-        if is_withheld(tables, rule) {
+        let withheld = is_withheld(tables, rule);
+        if withheld {
             continue 'rules;
         }
         let fact = conclusion(tables, rule);
@@ -56,7 +57,8 @@ pub fn first_eligible(
         let mut at = own.from;
         while at < end {
             let constraint = constraint_at(tables, at);
-            if marks[constraint] == IN {
+            let met = marks[constraint] == IN;
+            if met {
                 continue 'rules;
             }
             at += 1;

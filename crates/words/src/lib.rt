@@ -36,7 +36,8 @@ pub fn number_of(word: &[u8]) -> Word
         if byte < b'0' {
             return Word::NotANumber;
         }
-        if b'9' < byte {
+        let above = b'9' < byte;
+        if above {
             return Word::NotANumber;
         }
         value = value * 10 + (byte - b'0') as u64;

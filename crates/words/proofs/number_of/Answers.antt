@@ -15,8 +15,8 @@ loop-i-init c = none_read c.if-word-eq0.false c.if-word-gt-LONGEST_NUMBER.false
 pub returns-then-byte-lt48 : goal.returns-then-byte-lt48
 returns-then-byte-lt48 c = low_byte _ _ _ c.loop-i.invariant c.loop-i-test.true c.if-byte-lt48.true
 
-pub returns-then-byte-gt57 : goal.returns-then-byte-gt57
-returns-then-byte-gt57 c = high_byte _ _ _ c.loop-i.invariant c.loop-i-test.true c.if-byte-gt57.true
+pub returns-then-above : goal.returns-then-above
+returns-then-above c = high_byte _ _ _ c.loop-i.invariant c.loop-i-test.true c.if-above.true
 
 pub overflow_mul-value : goal.overflow_mul-value
 overflow_mul-value c = omega (arith, fits _ _ _ c.loop-i.invariant c.loop-i-test.true)
@@ -25,7 +25,7 @@ pub overflow_add-value : goal.overflow_add-value
 overflow_add-value c = omega (arith, fits _ _ _ c.loop-i.invariant c.loop-i-test.true)
 
 pub loop-i-preserved : goal.loop-i-preserved
-loop-i-preserved c = one_read _ _ _ c.loop-i.invariant c.loop-i-test.true c.if-byte-lt48.false c.if-byte-gt57.false
+loop-i-preserved c = one_read _ _ _ c.loop-i.invariant c.loop-i-test.true c.if-byte-lt48.false c.if-above.false
 
 pub returns-then-value-gt-MOST_VALUE : goal.returns-then-value-gt-MOST_VALUE
 returns-then-value-gt-MOST_VALUE c = too_high _ _ _ c.loop-i.invariant c.loop-i-test.false c.if-value-gt-MOST_VALUE.true

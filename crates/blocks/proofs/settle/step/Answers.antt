@@ -15,12 +15,12 @@ use Rattle.blocks.proofs.settle.step.Goals as goal
 pub join_row-requires : goal.join_row-requires
 join_row-requires c = let p = c.requires in let is : c.conclusion-fact.result.0 ≡ _ = ap (λ f. f.0) c.conclusion-fact.ensures in omega (arith, is, conclusion_below p.0 p.1, facts_below p.0)
 
-pub returns-then-fire : goal.returns-then-fire
-returns-then-fire c R p a f = let q = c.requires in
+pub returns-then-fired : goal.returns-then-fired
+returns-then-fired c R p a f = let q = c.requires in
     let fact : c.conclusion-fact.result.0 ≡ (rule (program_in c.args.tables.now) c.args.rule.0).conclusion = ap (λ x. x.0) c.conclusion-fact.ensures in
     let small : c.conclusion-fact.result.0 < max_facts narrow = omega (arith, fact, conclusion_below q.0 q.1, facts_below q.0) in
     let joined : Flags (λ k. p k || asks_at (program_in c.args.tables.now) R c.conclusion-fact.result.0 k) c.join_row.new.row = c.join_row.ensures (max_facts narrow) p (asks_at (program_in c.args.tables.now) R) small a.matrix f in
-    stepped_new c.fire.ensures c.if-fire.true (rw fact at joined)
+    stepped_new c.fire-fired.ensures c.if-fired.true (rw fact at joined)
 
-pub returns-else-fire : goal.returns-else-fire
-returns-else-fire c R p a f = stepped_same c.fire.ensures c.if-fire.false f
+pub returns-else-fired : goal.returns-else-fired
+returns-else-fired c R p a f = stepped_same c.fire-fired.ensures c.if-fired.false f

@@ -34,25 +34,25 @@ overflow_cast-rule c = omega (arith, inside c)
 pub marked_in-requires : goal.marked_in-requires
 marked_in-requires c = (omega arith, inside (goal.at.marked_in-requires c).In-At)
 
-pub conclusion_in-requires : goal.conclusion_in-requires
-conclusion_in-requires c = let p = c.requires in
+pub conclusion_in-held-requires : goal.conclusion_in-held-requires
+conclusion_in-held-requires c = let p = c.requires in
     record {
-      well_formed = (p.well_formed.0, rule_known c.loop-number.invariant (took (goal.at.conclusion_in-requires c).In-At) _ c.in-At.is);
+      well_formed = (p.well_formed.0, rule_known c.loop-number.invariant (took (goal.at.conclusion_in-held-requires c).In-At) _ c.in-At.is);
       tables_in_bounds = omega (arith, p.well_formed.2, facts_below p.well_formed.0);
     }
 
-pub returns-then-not-conclusion_in : goal.returns-then-not-conclusion_in
-returns-then-not-conclusion_in c = let on = sym c.marked_in.ensures ∙ c.if-marked_in.true in let out = sym c.conclusion_in.ensures ∙ c.if-not-conclusion_in.true in
+pub returns-then-not-held : goal.returns-then-not-held
+returns-then-not-held c = let on = sym c.marked_in.ensures ∙ c.if-marked_in.true in let out = sym c.conclusion_in-held.ensures ∙ c.if-not-held.true in
     record {
-      value = one_found c.loop-number.invariant (took (goal.at.returns-then-not-conclusion_in c).In-At) _ c.in-At.is on out;
-      left = one_left c.loop-number.invariant (took (goal.at.returns-then-not-conclusion_in c).In-At) _ c.in-At.is on out;
+      value = one_found c.loop-number.invariant (took (goal.at.returns-then-not-held c).In-At) _ c.in-At.is on out;
+      left = one_left c.loop-number.invariant (took (goal.at.returns-then-not-held c).In-At) _ c.in-At.is on out;
     }
 
-pub loop-number-smaller-else-not-conclusion_in : goal.loop-number-smaller-else-not-conclusion_in
-loop-number-smaller-else-not-conclusion_in c = falls (goal.at.loop-number-smaller-else-not-conclusion_in c).In-At
+pub loop-number-smaller-else-not-held : goal.loop-number-smaller-else-not-held
+loop-number-smaller-else-not-held c = falls (goal.at.loop-number-smaller-else-not-held c).In-At
 
-pub loop-number-preserved-else-not-conclusion_in : goal.loop-number-preserved-else-not-conclusion_in
-loop-number-preserved-else-not-conclusion_in c = concluded-passed c.loop-number.invariant (took (goal.at.loop-number-preserved-else-not-conclusion_in c).In-At) _ c.in-At.is (sym c.conclusion_in.ensures ∙ c.if-not-conclusion_in.false)
+pub loop-number-preserved-else-not-held : goal.loop-number-preserved-else-not-held
+loop-number-preserved-else-not-held c = concluded-passed c.loop-number.invariant (took (goal.at.loop-number-preserved-else-not-held c).In-At) _ c.in-At.is (sym c.conclusion_in-held.ensures ∙ c.if-not-held.false)
 
 pub loop-number-smaller : goal.loop-number-smaller
 loop-number-smaller c = falls (goal.at.loop-number-smaller c).In-At

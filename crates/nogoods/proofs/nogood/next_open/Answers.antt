@@ -7,13 +7,13 @@ use Rattle.nogoods.proofs.nogood.next_open.Goals as goal
 pub loop-i-init : goal.loop-i-init
 loop-i-init c = (omega arith, c.requires.1, omega arith, λ pass stored. none_passed pass c.args.from)
 
-pub loop-i-preserved-then-guess-mask : goal.loop-i-preserved-then-guess-mask
-loop-i-preserved-then-guess-mask c = (
+pub loop-i-preserved-then-refuted : goal.loop-i-preserved-then-refuted
+loop-i-preserved-then-refuted c = (
   omega arith,
   c.after-guess.ensures.lower_bound.1,
   omega arith,
   λ pass stored.
-      more-passed c.loop-i.guess c.after-guess.result _ _ c.after-guess.ensures.lower_bound.1 c.if-guess-mask.true c.after-guess.ensures.by_index
+      more-passed c.loop-i.guess c.after-guess.result _ _ c.after-guess.ensures.lower_bound.1 c.if-refuted.true c.after-guess.ensures.by_index
       (stored c.loop-i.i c.loop-i-test.true)
       (c.loop-i.invariant.3 pass stored),
 )

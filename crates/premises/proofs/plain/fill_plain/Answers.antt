@@ -15,14 +15,14 @@ loop-i-init c = (omega arith, same_behind _ _, none_indexed _ _ c.requires.1)
 pub overflow_cast-rule : goal.overflow_cast-rule
 overflow_cast-rule c = omega (arith, c.rules_of-rules.ensures, rules-below c.requires.0)
 
-pub is_exception-requires : goal.is_exception-requires
-is_exception-requires c = (c.requires.0, omega (arith, c.rules_of-rules.ensures))
+pub is_exception-exception-requires : goal.is_exception-exception-requires
+is_exception-exception-requires c = (c.requires.0, omega (arith, c.rules_of-rules.ensures))
 
 pub overflow_add-i : goal.overflow_add-i
 overflow_add-i c = omega (arith, c.rules_of-rules.ensures, rules-below c.requires.0)
 
-pub loop-i-preserved-then-is_exception : goal.loop-i-preserved-then-is_exception
-loop-i-preserved-then-is_exception c = (omega arith, c.loop-i.invariant.1, place_passed c.loop-i.invariant.2 (none_plain _ _ (sym c.is_exception.ensures ∙ c.if-is_exception.true)))
+pub loop-i-preserved-then-exception : goal.loop-i-preserved-then-exception
+loop-i-preserved-then-exception c = (omega arith, c.loop-i.invariant.1, place_passed c.loop-i.invariant.2 (none_plain _ _ (sym c.is_exception-exception.ensures ∙ c.if-exception.true)))
 
 pub index_next-requires : goal.index_next-requires
 index_next-requires c = (c.requires.0, omega (arith, c.rules_of-rules.ensures, c.loop-i-test.true), omega (arith, c.rules_of-rules.ensures, rules-below c.requires.0, c.loop-i-test.true), omega arith)
@@ -34,7 +34,7 @@ pub loop-i-smaller : goal.loop-i-smaller
 loop-i-smaller c = omega (arith, c.loop-i-test.true)
 
 pub loop-i-preserved : goal.loop-i-preserved
-loop-i-preserved c = (omega (arith, c.loop-i-test.true), behind_then c.loop-i.invariant.1 c.index_next.ensures.same_from, c.index_next.ensures.indexing _ (plain-there _ _ (omega (arith, c.rules_of-rules.ensures, c.loop-i-test.true)) (sym c.is_exception.ensures ∙ c.if-is_exception.false)) refl c.loop-i.invariant.2)
+loop-i-preserved c = (omega (arith, c.loop-i-test.true), behind_then c.loop-i.invariant.1 c.index_next.ensures.same_from, c.index_next.ensures.indexing _ (plain-there _ _ (omega (arith, c.rules_of-rules.ensures, c.loop-i-test.true)) (sym c.is_exception-exception.ensures ∙ c.if-exception.false)) refl c.loop-i.invariant.2)
 
 pub returns : goal.returns
 returns c = let e : c.loop-i.i ≡ count (program_in c.args.tables.now) = omega (arith, c.rules_of-rules.ensures, c.loop-i.invariant.0) in let few = rules-below c.requires.0 in let w = c.loop-i.invariant.2 in

@@ -26,17 +26,17 @@ bounds-missing-place-in-loop-left c = omega (arith, c.lowest_bit.ensures.1, c.re
 pub mark-requires : goal.mark-requires
 mark-requires c = omega (arith, c.lowest_bit.ensures.1, c.requires)
 
-pub loop-left-smaller-then-lacked-eq0 : goal.loop-left-smaller-then-lacked-eq0
-loop-left-smaller-then-lacked-eq0 c = omega (arith, c.without_lowest-left.ensures, and_le_r c.loop-left.left (c.loop-left.left - 1), c.loop-left-test.true)
+pub loop-left-smaller-then-ripe : goal.loop-left-smaller-then-ripe
+loop-left-smaller-then-ripe c = omega (arith, c.without_lowest-left.ensures, and_le_r c.loop-left.left (c.loop-left.left - 1), c.loop-left-test.true)
 
-pub loop-left-preserved-then-lacked-eq0 : goal.loop-left-preserved-then-lacked-eq0
-loop-left-preserved-then-lacked-eq0 c = place_lowered c.loop-left.invariant (omega (arith, c.loop-left-test.true)) _ _ (omega (arith, c.lowest_bit.ensures.0)) c.without_lowest-left.ensures (λ w f l. one_wakes _ f l _ _ (omega (arith, c.lowest_bit.ensures.1, c.requires)) c.one_less-lacked.ensures c.mark.ensures c.if-lacked-eq0.true)
+pub loop-left-preserved-then-ripe : goal.loop-left-preserved-then-ripe
+loop-left-preserved-then-ripe c = place_lowered c.loop-left.invariant (omega (arith, c.loop-left-test.true)) _ _ (omega (arith, c.lowest_bit.ensures.0)) c.without_lowest-left.ensures (λ w f l. one_wakes _ f l _ _ (omega (arith, c.lowest_bit.ensures.1, c.requires)) c.one_less-lacked.ensures c.mark.ensures c.if-ripe.true)
 
 pub loop-left-smaller : goal.loop-left-smaller
 loop-left-smaller c = omega (arith, c.without_lowest-left.ensures, and_le_r c.loop-left.left (c.loop-left.left - 1), c.loop-left-test.true)
 
 pub loop-left-preserved : goal.loop-left-preserved
-loop-left-preserved c = place_lowered c.loop-left.invariant (omega (arith, c.loop-left-test.true)) _ _ (omega (arith, c.lowest_bit.ensures.0)) c.without_lowest-left.ensures (λ w f l. one_sleeps _ f l _ _ (omega (arith, c.lowest_bit.ensures.1, c.requires)) c.one_less-lacked.ensures c.if-lacked-eq0.false)
+loop-left-preserved c = place_lowered c.loop-left.invariant (omega (arith, c.loop-left-test.true)) _ _ (omega (arith, c.lowest_bit.ensures.0)) c.without_lowest-left.ensures (λ w f l. one_sleeps _ f l _ _ (omega (arith, c.lowest_bit.ensures.1, c.requires)) c.one_less-lacked.ensures c.if-ripe.false)
 
 pub returns : goal.returns
 returns c = word-lowered c.loop-left.invariant c.loop-left-test.false

@@ -6,8 +6,8 @@ use Rattle.proofcheck.proofs.own.ask_item.Goals as goal
 pub bounds-marks-number : goal.bounds-marks-number
 bounds-marks-number c = c.requires.below _ c.in-Constraint.is
 
-pub returns-then-marks-number-eq1 : goal.returns-then-marks-number-eq1
-returns-then-marks-number-eq1 c = constraint_among _ _ _ _ c.in-Constraint.is c.if-marks-number-eq1.true
+pub returns-then-before : goal.returns-then-before
+returns-then-before c = constraint_among _ _ _ _ c.in-Constraint.is c.if-before.true
 
 pub returns-then-in_set : goal.returns-then-in_set
 returns-then-in_set c = constraint_in_set _ _ _ _ c.in-Constraint.is (sym c.in_set.ensures ∙ c.if-in_set.true)
@@ -19,7 +19,7 @@ pub returns-in-Premise : goal.returns-in-Premise
 returns-in-Premise c = premise_asked _ _ _ _ _ _ c.in-Premise.is c.in_set-fits.ensures refl
 
 pub returns-else-in_set : goal.returns-else-in_set
-returns-else-in_set c = constraint_barred _ _ _ _ c.in-Constraint.is c.if-marks-number-eq1.false (sym c.in_set.ensures ∙ c.if-in_set.false)
+returns-else-in_set c = constraint_barred _ _ _ _ c.in-Constraint.is c.if-before.false (sym c.in_set.ensures ∙ c.if-in_set.false)
 
 pub returns-in-Ended : goal.returns-in-Ended
 returns-in-Ended c = none_asked _ _ _ c.in-Ended.is

@@ -18,7 +18,7 @@ use Rattle.bits.specs.Flags.{total}
 use Rattle.stage.specs.Look.{Looking}
 use Rattle.stage.proofs.FirstFound.{Turn, turn, none_found, held-room, resting, mark_in, mark_out, mark_barred, passed_over, concluded, rejected-already, constraint_met}
 use Rattle.stage.proofs.eligible.first_eligible.Goals as goal
-use Rattle.stage.proofs.eligible.first_eligible.Goals.{After-conclusion-fact, Else-is_withheld, In-At, Then-marks-constraint-eq-IN}
+use Rattle.stage.proofs.eligible.first_eligible.Goals.{After-conclusion-fact, Else-withheld, In-At, Then-met}
 
 -- once a place is taken
 fell : (c : In-At) → (c.in-At.place < max_rules) × (total c.take-lowest.new.row < total c.rules.awake)
@@ -34,19 +34,19 @@ here : (c : In-At) → Turn (program_in c.args.tables.now) c.args.row.now c.requ
 here c = on-turn c _ _ _ c.requires.stands.looking
 
 -- once its rule is known not to be withheld
-read : (c : Else-is_withheld) → in_force (program_in c.args.tables.now) (get_or c.args.row.now c.in-At.place 0) ≡ true
-read c = read_on _ _ (sym c.is_withheld.ensures ∙ c.if-is_withheld.false)
+read : (c : Else-withheld) → in_force (program_in c.args.tables.now) (get_or c.args.row.now c.in-At.place 0) ≡ true
+read c = read_on _ _ (sym c.is_withheld-withheld.ensures ∙ c.if-withheld.false)
 
 -- once its rule's conclusion is read
 few_facts : (c : After-conclusion-fact) → get_or c.args.row.now c.in-At.place 0 < count (program_in c.args.tables.now) → c.conclusion-fact.result.0 < max_facts narrow
 few_facts c known = omega (arith, ap (λ (f : FactId). f.0) c.conclusion-fact.ensures, conclusion_below c.requires.well_formed known, facts_below c.requires.well_formed)
 
 -- once a constraint was met
-met : (c : Then-marks-constraint-eq-IN) → clear (has c.rules.marks) (rule (program_in c.args.tables.now) (get_or c.args.row.now c.in-At.place 0)).constraints ≡ false
+met : (c : Then-met) → clear (has c.rules.marks) (rule (program_in c.args.tables.now) (get_or c.args.row.now c.in-At.place 0)).constraints ≡ false
 unfolding has
 met c =
     ap (all _) c.constraint_span-own.ensures.is
-    ∙ sym (test_fails c.loop-at.invariant c.loop-at-test.true (rw (← c.constraint_at-constraint.ensures) (ap not (eq-eqb _ _ c.if-marks-constraint-eq-IN.true))))
+    ∙ sym (test_fails c.loop-at.invariant c.loop-at-test.true (rw (← c.constraint_at-constraint.ensures) (ap not (eq-eqb _ _ c.if-met.true))))
 
 pub rules-init : goal.rules-init
 rules-init c = λ order s p w. (p, w)
@@ -57,14 +57,14 @@ offset_bounds-row-place c = omega (arith, (fell c).0)
 pub bounds-row-place : goal.bounds-row-place
 bounds-row-place c = (fell (goal.at.bounds-row-place c).In-At).0
 
-pub is_withheld-requires : goal.is_withheld-requires
-is_withheld-requires c = (c.requires.well_formed, (here (goal.at.is_withheld-requires c).In-At).known)
+pub is_withheld-withheld-requires : goal.is_withheld-withheld-requires
+is_withheld-withheld-requires c = (c.requires.well_formed, (here (goal.at.is_withheld-withheld-requires c).In-At).known)
 
-pub rules-smaller-then-is_withheld : goal.rules-smaller-then-is_withheld
-rules-smaller-then-is_withheld c = (fell (goal.at.rules-smaller-then-is_withheld c).In-At).1
+pub rules-smaller-then-withheld : goal.rules-smaller-then-withheld
+rules-smaller-then-withheld c = (fell (goal.at.rules-smaller-then-withheld c).In-At).1
 
-pub rules-preserved-then-is_withheld : goal.rules-preserved-then-is_withheld
-rules-preserved-then-is_withheld c = λ order s p w. let t = on-turn (goal.at.rules-preserved-then-is_withheld c).In-At order s p w in t.refused (passed_over _ s _ (sym c.is_withheld.ensures ∙ c.if-is_withheld.true)) _ _ _ t.holds t.rests
+pub rules-preserved-then-withheld : goal.rules-preserved-then-withheld
+rules-preserved-then-withheld c = λ order s p w. let t = on-turn (goal.at.rules-preserved-then-withheld c).In-At order s p w in t.refused (passed_over _ s _ (sym c.is_withheld-withheld.ensures ∙ c.if-withheld.true)) _ _ _ t.holds t.rests
 
 pub conclusion-fact-requires : goal.conclusion-fact-requires
 conclusion-fact-requires c = (c.requires.well_formed, (here (goal.at.conclusion-fact-requires c).In-At).known)
@@ -100,18 +100,18 @@ constraint_at-constraint-requires c = omega (arith, c.constraint_span-own.ensure
 pub bounds-marks-constraint : goal.bounds-marks-constraint
 bounds-marks-constraint c = omega (arith, c.constraint_at-constraint.ensures, c.constraint_span-own.ensures.facts_below _ c.loop-at.invariant.reached c.loop-at-test.true, facts_below c.requires.well_formed)
 
-pub rules-smaller-then-marks-constraint-eq-IN : goal.rules-smaller-then-marks-constraint-eq-IN
-rules-smaller-then-marks-constraint-eq-IN c = (fell (goal.at.rules-smaller-then-marks-constraint-eq-IN c).In-At).1
+pub rules-smaller-then-met : goal.rules-smaller-then-met
+rules-smaller-then-met c = (fell (goal.at.rules-smaller-then-met c).In-At).1
 
-pub rules-preserved-then-marks-constraint-eq-IN : goal.rules-preserved-then-marks-constraint-eq-IN
-rules-preserved-then-marks-constraint-eq-IN c = λ order s p w. let t = on-turn (goal.at.rules-preserved-then-marks-constraint-eq-IN c).In-At order s p w in t.refused (constraint_met t.holds _ (met c)) _ _ _ t.holds t.rests
+pub rules-preserved-then-met : goal.rules-preserved-then-met
+rules-preserved-then-met c = λ order s p w. let t = on-turn (goal.at.rules-preserved-then-met c).In-At order s p w in t.refused (constraint_met t.holds _ (met c)) _ _ _ t.holds t.rests
 
 pub overflow_add-at : goal.overflow_add-at
 overflow_add-at c = omega (arith, c.constraint_span-own.ensures.high)
 
 pub loop-at-preserved : goal.loop-at-preserved
 unfolding has
-loop-at-preserved c = test_passes c.loop-at.invariant c.loop-at-test.true (rw (← c.constraint_at-constraint.ensures) (ap not (ne_eqb _ _ c.if-marks-constraint-eq-IN.false)))
+loop-at-preserved c = test_passes c.loop-at.invariant c.loop-at-test.true (rw (← c.constraint_at-constraint.ensures) (ap not (ne_eqb _ _ c.if-met.false)))
 
 pub trial-requires : goal.trial-requires
 trial-requires c = let p = c.requires in
@@ -133,7 +133,7 @@ rules-smaller c = (fell (goal.at.rules-smaller c).In-At).1
 pub rules-preserved : goal.rules-preserved
 rules-preserved c = λ order s p w.
     let t = on-turn (goal.at.rules-preserved c).In-At order s p w in
-    let f = rw c.in-Barred.is at (c.trial.ensures s t.holds t.premises-in t.excepted (read (goal.at.rules-preserved c).Else-is_withheld)) in
+    let f = rw c.in-Barred.is at (c.trial.ensures s t.holds t.premises-in t.excepted (read (goal.at.rules-preserved c).Else-withheld)) in
     t.refused f.not_eligible _ _ _ f.holds f.rests
 
 pub returns-in_default : goal.returns-in_default
@@ -142,4 +142,4 @@ returns-in_default c = λ order s p w. let v = c.rules.invariant order s p w in 
 pub returns-in-Closed : goal.returns-in-Closed
 returns-in-Closed c = λ order s p w.
     let t = on-turn (goal.at.returns-in-Closed c).In-At order s p w in
-    t.passes _ _ _ _ (rw c.in-Closed.is at (c.trial.ensures s t.holds t.premises-in t.excepted (read (goal.at.returns-in-Closed c).Else-is_withheld)))
+    t.passes _ _ _ _ (rw c.in-Closed.is at (c.trial.ensures s t.holds t.premises-in t.excepted (read (goal.at.returns-in-Closed c).Else-withheld)))
