@@ -1,17 +1,20 @@
 #!/usr/bin/env python3
-"""Respells this repository's own definitions, fields and lemmas as the toolchain spells its own. Run once, at the top, right after the toolchain's port.py.
+"""Respells this repository's own definitions, fields and lemmas as the toolchain spells its own.
 
-  factMark, leastOf-least  ->  fact_mark, least_of-least      words are in snake case, types keep their capitals
-  below-first (a field)    ->  below_first                    a field is one word
-  key-member (a lemma)     ->  key_member                     a dash joins two names: it stays where what stands before it is a definition
+Run it once, at the top, right after the toolchain's port.py.
+
+  factMark, leastOf-least  ->  fact_mark, least_of-least    words are in snake case, types are not
+  below-first (a field)    ->  below_first                  a field is one word
+  key-member (a lemma)     ->  key_member                   a dash stands behind a definition's name
   A .. F (the examples)    ->  example_a .. example_f
 
-It goes by the names that files of specs/ and proofs/ declare, and leaves the functions of src/, strings, inputs and outputs alone. In comments and pages
-a name with a dash is respelled between backticks alone. It prints each pair that falls together with another name, and then writes nothing.
+It goes by the names that files of specs/ and proofs/ declare, and leaves the functions of src/,
+strings, inputs and outputs alone. In comments and pages a name with a dash is respelled between
+backticks alone. It prints each pair that falls together with another name, and then writes nothing.
+With --list it prints each pair and writes nothing.
 """
 import os
 import re
-import subprocess
 import sys
 
 WORD = re.compile(r"[A-Za-z](?:[A-Za-z0-9_'₀-₉-]*[A-Za-z0-9_'₀-₉])?")
