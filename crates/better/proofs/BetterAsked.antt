@@ -8,12 +8,10 @@ use Rattle.items.specs.declared.refusal.Refusal.{Refusal}
 use Rattle.items.proofs.FirstNo.{both_yes, all_yes}
 use Rattle.tables.specs.Layout.{program_in}
 use Rattle.tables.proofs.ProgramHeld.{rules-below}
-use Rattle.reader.specs.declared.answer.Asked.TheVariants as asked
 use Rattle.reader.specs.Questions.{program_of, file_questions, file_no}
 use Rattle.reader.specs.Asked.{file_asked}
 use Rattle.reader.specs.Scanned.{Tabled}
-use Rattle.questions.specs.declared.answer.Answer.{Answer}
-use Rattle.questions.specs.declared.answer.Answer.TheVariants.{Yes, No}
+use Rattle.std.specs.Prelude.{Result, Ok, Err, ⊤}
 use Rattle.questions.specs.Answer.{answer_of}
 use Rattle.questions.specs.Questions.{named_in, order_questions, order_no, both_questions, better_questions, better_no}
 use Rattle.questions.specs.Parts.{both_no}
@@ -23,7 +21,7 @@ use Rattle.run.proofs.RunAsked.{may_order}
 
 module _ (file first second : List ℕ) where
   -- The answer to all, by those to the file and to each order.
-  pub refused-by_file : (r : Refusal) → file_asked file ≡ asked.No r → No r ≡ answer_of (better_no file first second)
+  pub refused-by_file : (r : Refusal) → file_asked file ≡ Err r → Err r ≡ answer_of (better_no file first second)
   unfolding better_questions
   refused-by_file r e = sym (ap answer_of (file_refused file _ r e))
 
@@ -32,11 +30,11 @@ module _ (file first second : List ℕ) where
     unfolding better_questions
     both_left = sym (rw p.tabled.program (file_accepted file _ p.accepted))
 
-    pub refused-by_first : (r : Refusal) → No r ≡ answer_of (order_no (exception (program_in T)) (count (program_in T)) first) → No r ≡ answer_of (better_no file first second)
+    pub refused-by_first : (r : Refusal) → Err r ≡ answer_of (order_no (exception (program_in T)) (count (program_in T)) first) → Err r ≡ answer_of (better_no file first second)
     unfolding both_questions
     refused-by_first r e = order-no (program_in T) first _ r e ∙ ap answer_of both_left
 
-    pub told-by_second : Yes ≡ answer_of (order_no (exception (program_in T)) (count (program_in T)) first) → (answer : Answer) → answer ≡ answer_of (order_no (exception (program_in T)) (count (program_in T)) second) → answer ≡ answer_of (better_no file first second)
+    pub told-by_second : Ok tt ≡ answer_of (order_no (exception (program_in T)) (count (program_in T)) first) → (answer : Result ⊤ Refusal) → answer ≡ answer_of (order_no (exception (program_in T)) (count (program_in T)) second) → answer ≡ answer_of (better_no file first second)
     unfolding both_questions
     told-by_second e answer q = order-yes (program_in T) first _ e answer q ∙ ap answer_of both_left
 

@@ -1,9 +1,6 @@
-use items::refusal::Refusal;
-
-// Which of two orders is the better, or the first no.
+// Which of two orders is the better.
 #[derive(Clone, Copy)]
 pub enum Choice {
     First,
     Second,
-    Refused(Refusal),
 }

@@ -12,19 +12,17 @@ mod aside;
 mod asked;
 
 use answer::Choice;
-use questions::answer::Answer;
-use tables::layout::TABLE_CELLS;
+use items::refusal::Refusal;
+use tables::layout::Tables;
 
 // Which of two orders sets aside fewer rules in the run of a file, the first where they are equal, or the first no.
-pub fn choose(file: &[u8], first: &[u8], second: &[u8]) -> Choice
+pub fn choose(file: &[u8], first: &[u8], second: &[u8]) -> Result<Choice, Refusal>
     ensures value { result ≡ choice_of file.now first.now second.now }
     ensures choice_means { ChoiceMeans file.now first.now second.now result }
 {
-    let mut tables = [0u16; TABLE_CELLS];
-    match asked::ask_both(file, first, second, &mut tables) {
-        Answer::No(r) => Choice::Refused(r),
-        Answer::Yes => aside::choose_tabled(&tables, first, second),
-    }
+    let mut tables = Tables::empty();
+    asked::ask_both(file, first, second, &mut tables)?;
+    Ok(aside::choose_tabled(&tables, first, second))
 }
 
 // Hands back that order, as it was lent; an empty part of the first where a question gets no.
@@ -33,19 +31,20 @@ pub fn better<'a>(file: &[u8], first: &'a [u8], second: &'a [u8]) -> &'a [u8]
     ensures handed_back { HandedBack (choice_of file.now first.now second.now) first.entry second.entry result }
 {
     match choose(file, first, second) {
-        Choice::First => first,
-        Choice::Second => second,
-        Choice::Refused(_) => &first[..0],
+        Ok(Choice::First) => first,
+        Ok(Choice::Second) => second,
+        Err(_) => &first[..0],
     }
 }
 
-// The number of the first no, 0 where there is none. The orders are questioned and not run.
+// The number of the first no, 0 where there is none. The orders are questioned and not run. A number and no Result: it is what `no_number` says of the questions, and callers
+// compare it with the numbers of the request.
 pub fn better_number(file: &[u8], first: &[u8], second: &[u8]) -> u32
     ensures { result ≡ no_number (better_no file.now first.now second.now) }
 {
-    let mut tables = [0u16; TABLE_CELLS];
+    let mut tables = Tables::empty();
     match asked::ask_both(file, first, second, &mut tables) {
-        Answer::No(r) => r.number() as u32,
-        Answer::Yes => 0,
+        Err(r) => u32::from(r.number()),
+        Ok(()) => 0,
     }
 }

@@ -8,14 +8,14 @@ use native.Mathlib.Omega.{arith}
 use borrow.Author.Tests.{eqb-true, eqb-false, eq-eqb}
 use lib.Bits.{bit_or}
 use lib.Dec.{eqb}
-use lib.ListN.{length, get_or, set, length-set}
+use lib.ListN.{get_or, set, length-set}
 use lib.Seq.{get_or-set_same, get_or-set_other}
 use Rattle.theory.specs.Rule.{adjoin, keep, range, up_to}
 use Rattle.theory.proofs.Bools.{either, and_right, or_cases, both_ways, false_of}
 use Rattle.theory.proofs.Lists.{eqb-self, keep_same, mem-up_to}
 use Rattle.items.specs.Item.{max_rules}
-use Rattle.bits.specs.Flags.{word_bits, row_words, word, Flags}
-use Rattle.bits.specs.Matrix.{bit_in, numbers_in, Matrix, adjoin_in, RowCopied, SameFrom}
+use Rattle.bits.specs.Flags.{word_bits, row_words, word}
+use Rattle.bits.specs.Matrix.{bit_in, numbers_in, Matrix, adjoin_in, SameFrom}
 use Rattle.bits.proofs.WordBits.{word-ext, word_same}
 use Rattle.bits.proofs.RowMarked.{bit-inside, place_is, own-word, other_word}
 use Rattle.bits.proofs.RowTaken.{range-append}
@@ -114,42 +114,8 @@ module _ {matrix : List ℕ} {keys : ℕ} {q : ℕ → ℕ → Bool} (w : Matrix
       ∙ keep-below (q key) max_rules n l below
 
 -- What stands behind the row stays.
-pub mark_behind : (matrix : List ℕ) (key place v : ℕ) → place < max_rules → SameFrom (key * row_words + row_words) matrix (set matrix (key * row_words + place / word_bits) v)
-mark_behind matrix key place v small =
-    record {
-      places = length-set matrix (key * row_words + place / word_bits) v;
-      words = λ k h. get_or-set_other matrix (key * row_words + place / word_bits) k v 0 (λ e. omega arith);
-    }
-
 pub same_behind : (from : ℕ) (matrix : List ℕ) → SameFrom from matrix matrix
 same_behind from matrix = record { places = refl; words = λ k h. refl }
 
 pub behind_then : {from : ℕ} {a b c : List ℕ} → SameFrom from a b → SameFrom from b c → SameFrom from a c
 behind_then s t = record { places = t.places ∙ s.places; words = λ k h. t.words k h ∙ s.words k h }
-
--- The first words of the row are copied.
-pub record Copying (matrix : List ℕ) (key : ℕ) (row₀ row : List ℕ) (k : ℕ) : Type 0 where
-  pub places : length row ≡ length row₀
-  pub words : length row₀ ≡ row_words → (j : ℕ) → j < k → get_or row j 0 ≡ get_or matrix (key * row_words + j) 0
-
-pub none_copied : (matrix : List ℕ) (key : ℕ) (row : List ℕ) → Copying matrix key row row 0
-none_copied matrix key row = record { places = refl; words = λ e j h. absurd (omega arith) }
-
-module _ {matrix : List ℕ} {key : ℕ} {row₀ row : List ℕ} {k : ℕ} (w : Copying matrix key row₀ row k) where
-  pub one_copied : k < row_words → Copying matrix key row₀ (set row k (get_or matrix (key * row_words + k) 0)) (k + 1)
-  one_copied h =
-      record {
-        places = length-set row k (get_or matrix (key * row_words + k) 0) ∙ w.places;
-        words = λ e j l.
-            ⊎_elim
-            (λ q. let is : j ≡ k = eqb-true j k q in rw is (get_or-set_same row k (get_or matrix (key * row_words + k) 0) 0 (omega (arith, w.places))))
-            (λ q. let ne : j ≡ k → ⊥ = eqb-false j k q in get_or-set_other row k j (get_or matrix (key * row_words + k) 0) 0 ne ∙ w.words e j (omega arith))
-            (either (eqb j k));
-      }
-
-  pub all-copied : row_words ≤ k → RowCopied matrix key row₀ row
-  all-copied h = record { places = w.places; words = λ e j l. w.words e j (omega arith) }
-
-pub copy_flags : {matrix : List ℕ} {key : ℕ} {row₀ row : List ℕ} → RowCopied matrix key row₀ row → length row₀ ≡ row_words → (keys : ℕ) (q : ℕ → ℕ → Bool) → key < keys → Matrix keys q matrix → Flags (q key) row
-copy_flags {key = key} c e keys q h w =
-    record { places = c.places ∙ e; words = λ k l. c.words e k l ∙ w.words key k h l; inside = λ i t. w.inside key i t }

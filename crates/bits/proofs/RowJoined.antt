@@ -1,16 +1,13 @@
 -- The numbers of one row join those of another.
 use Prim.Native.Nat.{ℕ, zero, suc, ◌+◌, ◌*◌, ◌<◌, ◌≤◌, max}
 use native.Mathlib.Omega.{arith}
-use mathlib.Core.Path.{◌≡◌, refl, ap, ap₂, ◌∙◌}
+use mathlib.Core.Path.{◌≡◌, refl, ap₂, ◌∙◌}
 use mathlib.Core.Bool.{Bool, true, false, ◌||◌}
 use mathlib.Core.List.{List}
 use mathlib.Core.Logic.{⊎_elim}
-use borrow.Author.Tests.{eqb-true, eqb-false}
 use lib.Bits.{bit_or, or_step}
-use lib.Dec.{eqb}
-use lib.ListN.{length, get_or, set, length-set}
-use lib.Seq.{get_or-set_same, get_or-set_other}
-use Rattle.theory.proofs.Bools.{either, or_cases}
+use lib.ListN.{length, get_or}
+use Rattle.theory.proofs.Bools.{or_cases}
 use Rattle.bits.specs.Flags.{word_bits, row_words, digit, word, Flags}
 use Rattle.bits.specs.Matrix.{Matrix}
 use Rattle.bits.proofs.WordBits.{half, odd}
@@ -37,22 +34,7 @@ pub record Joining (matrix : List ℕ) (key : ℕ) (row₀ row : List ℕ) (k : 
   pub joined : length row₀ ≡ row_words → (j : ℕ) → j < k → get_or row j 0 ≡ bit_or (get_or row₀ j 0) (get_or matrix (key * row_words + j) 0)
   pub others : (j : ℕ) → k ≤ j → get_or row j 0 ≡ get_or row₀ j 0
 
-pub none_joined : (matrix : List ℕ) (key : ℕ) (row : List ℕ) → Joining matrix key row row 0
-none_joined matrix key row = record { places = refl; joined = λ e j h. absurd (omega arith); others = λ j h. refl }
-
 module _ {matrix : List ℕ} {key : ℕ} {row₀ row : List ℕ} {k : ℕ} (w : Joining matrix key row₀ row k) where
-  pub one_joined : k < row_words → (v : ℕ) → v ≡ bit_or (get_or row k 0) (get_or matrix (key * row_words + k) 0) → Joining matrix key row₀ (set row k v) (k + 1)
-  one_joined h v is =
-      record {
-        places = length-set row k v ∙ w.places;
-        joined = λ e j l.
-            ⊎_elim
-            (λ q. let same : j ≡ k = eqb-true j k q in rw same (get_or-set_same row k v 0 (omega (arith, w.places)) ∙ is ∙ ap (λ (x : ℕ). bit_or x (get_or matrix (key * row_words + k) 0)) (w.others k (omega arith))))
-            (λ q. let ne : j ≡ k → ⊥ = eqb-false j k q in get_or-set_other row k j v 0 ne ∙ w.joined e j (omega arith))
-            (either (eqb j k));
-        others = λ j l. get_or-set_other row k j v 0 (λ q. omega arith) ∙ w.others j (omega arith);
-      }
-
   pub all-joined : row_words ≤ k → (keys : ℕ) (p : ℕ → Bool) (q : ℕ → ℕ → Bool) → key < keys → Matrix keys q matrix → Flags p row₀ → Flags (λ i. p i || q key i) row
   all-joined h keys p q l m f =
       record {

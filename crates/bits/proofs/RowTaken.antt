@@ -1,16 +1,17 @@
 -- The lowest number is taken out of a row.
-use Prim.Native.Nat.{ℕ, zero, suc, ◌+◌, ◌-◌, ◌*◌, ◌/◌, ◌≤◌, ◌<◌}
+use Prim.Native.Nat.{ℕ, zero, suc, ◌+◌, ◌-◌, ◌*◌, ◌≤◌, ◌<◌}
 use mathlib.Core.Path.{◌≡◌, refl, sym, ap, ap₂, subst, ◌∙◌}
 use mathlib.Core.Bool.{Bool, true, false, cond, not, ◌&&◌}
 use mathlib.Core.List.{List, [], ◌∷◌, ◌++◌}
 use mathlib.Core.Logic.{⊎_elim}
-use mathlib.Core.Option.{Option, none, some}
+use mathlib.Core.Option.{Option as Maybe, none, some}
+use Rattle.std.specs.Prelude.{Option, Some, None}
 use native.Mathlib.Nat.{add-zero, zero-add}
 use native.Mathlib.Omega.{arith}
-use borrow.Author.Tests.{eqb-true, eqb-false, eq-eqb, ne_eqb}
+use borrow.Author.Tests.{eqb-true, eqb-false, eq-eqb, ne_eqb, ltb-true, ltb-false}
 use lib.Bits.{bit_and, and_le_r}
 use lib.Count.{count_trailing_zeros}
-use lib.Dec.{eqb}
+use lib.Dec.{eqb, ltb}
 use lib.ListN.{get_or, set, length-set}
 use lib.Seq.{get_or-set_same, get_or-set_other}
 use Rattle.theory.specs.Rule.{keep, range, up_to}
@@ -18,8 +19,7 @@ use Rattle.theory.specs.Lists.{seek}
 use Rattle.theory.proofs.Bools.{either, never, and_right, and-false, false_of}
 use Rattle.theory.proofs.Lists.{Found, seek-some, seek-none, seek-append, up_to-mem, mem-range, length-range, get_or-up_to, keep_same}
 use Rattle.items.specs.Item.{max_rules}
-use Rattle.bits.specs.Flags.{word_bits, row_words, word, Flags, without, lowest_of, Taken, total, Falls, NoneBefore}
-use Rattle.bits.specs.declared.row.Lowest.TheVariants.{At, Nothing}
+use Rattle.bits.specs.Flags.{word_bits, row_words, word, Flags, without, lowest_of, Taken, total, Falls, NoneBefore, LowestCleared, TakenBehind}
 use Rattle.bits.proofs.WordBits.{word-ext, word_none, LowestTaken, word-lowest}
 
 -- What the lowest number of a set is.
@@ -40,11 +40,11 @@ none_lower p k e j h =
     ap p (sym (get_or-up_to max_rules j (omega arith))) ∙ w.none_before j lower
 
 -- A set of which there is no lowest number has none.
-pub nothing_left : {p : ℕ → Bool} {row : List ℕ} → Flags p row → ◌≡◌ {A = Option ℕ} (lowest_of p) none → (i : ℕ) → p i ≡ false
+pub nothing_left : {p : ℕ → Bool} {row : List ℕ} → Flags p row → ◌≡◌ {A = Maybe ℕ} (lowest_of p) none → (i : ℕ) → p i ≡ false
 unfolding lowest_of
 nothing_left {p} w e i = false_of (p i) (λ t. never t (go max_rules e (w.inside i t)))
   where
-    go : (n : ℕ) → ◌≡◌ {A = Option ℕ} (seek p (up_to n)) none → i < n → p i ≡ false
+    go : (n : ℕ) → ◌≡◌ {A = Maybe ℕ} (seek p (up_to n)) none → i < n → p i ≡ false
     go n q h = seek-none p (up_to n) q i (up_to-mem n i h)
 
 -- Where a set has no number, none is kept.
@@ -83,22 +83,22 @@ range-append a (suc m) n =
     rw (more, next) (ap (λ (l : List ℕ). a ∷ l) (range-append (suc a) m n))
 
 -- where nothing is found in the front, what is found stands behind it
-seek-behind : (p : ℕ → Bool) (xs ys : List ℕ) → ◌≡◌ {A = Option ℕ} (seek p xs) none → ◌≡◌ {A = Option ℕ} (seek p (xs ++ ys)) (seek p ys)
+seek-behind : (p : ℕ → Bool) (xs ys : List ℕ) → ◌≡◌ {A = Maybe ℕ} (seek p xs) none → ◌≡◌ {A = Maybe ℕ} (seek p (xs ++ ys)) (seek p ys)
 seek-behind p [] ys e = refl
 seek-behind p (x ∷ xs) ys e = go (p x) refl (seek-behind p xs ys)
   where
-    go : (b : Bool) → p x ≡ b → (◌≡◌ {A = Option ℕ} (seek p xs) none → ◌≡◌ {A = Option ℕ} (seek p (xs ++ ys)) (seek p ys)) → ◌≡◌ {A = Option ℕ} (seek p (x ∷ (xs ++ ys))) (seek p ys)
-    go true q r = let s : ◌≡◌ {A = Option ℕ} (some x) none = rw (q, seek) at e in let z : ◌≡◌ {A = ℕ} 0 1 = cc in absurd (omega arith)
+    go : (b : Bool) → p x ≡ b → (◌≡◌ {A = Maybe ℕ} (seek p xs) none → ◌≡◌ {A = Maybe ℕ} (seek p (xs ++ ys)) (seek p ys)) → ◌≡◌ {A = Maybe ℕ} (seek p (x ∷ (xs ++ ys))) (seek p ys)
+    go true q r = let s : ◌≡◌ {A = Maybe ℕ} (some x) none = rw (q, seek) at e in let z : ◌≡◌ {A = ℕ} 0 1 = cc in absurd (omega arith)
     go false q r = rw (q, seek) (r (rw (q, seek) at e))
 
 -- found among n numbers, none of the m before them passing
-found_behind : (p : ℕ → Bool) (m n rest all i : ℕ) → all ≡ m + (n + rest) → ◌≡◌ {A = Option ℕ} (seek p (range 0 m)) none → seek p (range m n) ≡ some i → seek p (up_to all) ≡ some i
+found_behind : (p : ℕ → Bool) (m n rest all i : ℕ) → all ≡ m + (n + rest) → ◌≡◌ {A = Maybe ℕ} (seek p (range 0 m)) none → seek p (range m n) ≡ some i → seek p (up_to all) ≡ some i
 found_behind p m n rest all i e f s =
     rw (e, range-append 0 m (n + rest), zero-add m, range-append m n rest)
     (seek-behind p (range 0 m) (range m n ++ range (m + n) rest) f ∙ seek-append p (range m n) (range (m + n) rest) i s)
 
 -- no number before a word is in the set where the words before it are 0
-zeros_before : {p : ℕ → Bool} {row : List ℕ} → Flags p row → (n : ℕ) → ((k : ℕ) → k < n → get_or row k 0 ≡ 0) → n ≤ row_words → ◌≡◌ {A = Option ℕ} (seek p (range 0 (n * word_bits))) none
+zeros_before : {p : ℕ → Bool} {row : List ℕ} → Flags p row → (n : ℕ) → ((k : ℕ) → k < n → get_or row k 0 ≡ 0) → n ≤ row_words → ◌≡◌ {A = Maybe ℕ} (seek p (range 0 (n * word_bits))) none
 zeros_before f zero z h = refl
 zeros_before {p} f (suc n) z h =
     let more : suc n * word_bits ≡ n * word_bits + word_bits = omega arith in
@@ -129,7 +129,7 @@ module _ {row : List ℕ} (at : ℕ) (h : at < row_words) (bit v : ℕ) (b : bit
           get_or-set_other row at k v 0 ne ∙ f.words k u
           ∙ word-ext p (without p (at * word_bits + bit)) (k * word_bits) word_bits (λ i low high. sym (ap (λ (t : Bool). not t && p i) (ne_eqb i (at * word_bits + bit) (λ e. omega arith))))
 
-  pub less-falls : v < get_or row at 0 → Falls (At (at * word_bits + bit)) row (set row at v)
+  pub less-falls : v < get_or row at 0 → Falls (Some (at * word_bits + bit)) row (set row at v)
   less-falls l =
       record {
         inside = λ i e. let is : at * word_bits + bit ≡ i = cc in omega arith;
@@ -138,7 +138,7 @@ module _ {row : List ℕ} (at : ℕ) (h : at < row_words) (bit v : ℕ) (b : bit
 
 -- The lowest number of one word is taken out of a row.
 module _ {row : List ℕ} (at : ℕ) (h : at < row_words) (l : 0 < get_or row at 0) (bit v : ℕ) (b : bit < word_bits) (v-is : v ≡ bit_and (get_or row at 0) (get_or row at 0 - 1)) where
-  pub lowest-falls : Falls (At (at * word_bits + bit)) row (set row at v)
+  pub lowest-falls : Falls (Some (at * word_bits + bit)) row (set row at v)
   lowest-falls = less-falls at h bit v b (omega (arith, and_le_r (get_or row at 0) (get_or row at 0 - 1)))
 
   module _ {p : ℕ → Bool} (f : Flags p row) (bit_is : bit ≡ count_trailing_zeros word_bits (get_or row at 0)) where
@@ -160,65 +160,40 @@ module _ {row : List ℕ} (at : ℕ) (h : at < row_words) (l : 0 < get_or row at
         (v-is ∙ ap (λ (x : ℕ). bit_and x (x - 1)) held ∙ lowest.rest
         ∙ ap (λ (b : ℕ). word (without p (at * word_bits + b)) (at * word_bits) word_bits) bit-held)
 
--- an answer is not both
-pub not_at : {A : Type 0} (i : ℕ) → Nothing ≡ At i → A
-not_at i e = let z : ◌≡◌ {A = ℕ} 0 1 = cc in absurd (omega arith)
+-- The lowest number behind the words before one is taken out of a row, or there is none.
+module _ {from i : ℕ} {row after : List ℕ} (w : LowestCleared from i row after) where
+  pub cleared-falls : Falls (Some i) row after
+  cleared-falls = rw (w.number_is, w.rest) (lowest-falls w.at w.inside w.positive w.bit _ w.bit_inside refl)
 
--- answers that are the same have one place
-pub same_place : {i j : ℕ} → At i ≡ At j → i ≡ j
-same_place e = cc
+  module _ (z : NoneBefore from row) where
+    zeros_all : NoneBefore w.at row
+    zeros_all k h = ⊎_elim (λ e. z k (ltb-true k from e)) (λ e. w.zeros k (ltb-false k from e) h) (either (ltb k from))
 
--- The first words are 0.
-pub record Passed (row₀ row : List ℕ) (at : ℕ) : Type 0 where
-  pub same : row ≡ row₀
-  pub zeros : (k : ℕ) → k < at → get_or row k 0 ≡ 0
-
-pub passed_before : (row : List ℕ) (from : ℕ) → NoneBefore from row → Passed row row from
-passed_before row from z = record { same = refl; zeros = z }
-
-module _ {row₀ row : List ℕ} {at : ℕ} (w : Passed row₀ row at) where
-  pub one_passed : get_or row at 0 ≡ 0 → Passed row₀ row (at + 1)
-  one_passed e =
-      record {
-        same = w.same;
-        zeros = λ k h. ⊎_elim (λ q. let is : k ≡ at = eqb-true k at q in rw is e) (λ q. let ne : k ≡ at → ⊥ = eqb-false k at q in w.zeros k (omega arith)) (either (eqb k at));
-      }
-
-  pub none_taken : row_words ≤ at → (p : ℕ → Bool) → Flags p row₀ → Taken p Nothing row
-  unfolding lowest_of
-  none_taken h p g =
-      let f : Flags p row = rw w.same g in
-      record {
-        lowest = λ i e. not_at i e;
-        rest = λ i e. not_at i e;
-        none_left = λ e. zeros_before f row_words (λ k l. w.zeros k (omega arith)) (omega arith);
-        kept = λ e. f;
-      }
-
-  pub none_falls : Falls Nothing row₀ row
-  none_falls = record { inside = λ i e. not_at i e; less = λ i e. not_at i e }
-
-  module _ (h : at < row_words) (l : 0 < get_or row at 0) (bit v : ℕ) (b : bit < word_bits) (v-is : v ≡ bit_and (get_or row at 0) (get_or row at 0 - 1)) where
-    pub one_falls : Falls (At (at * word_bits + bit)) row₀ (set row at v)
-    one_falls = subst (λ (x : List ℕ). Falls (At (at * word_bits + bit)) x (set row at v)) w.same (lowest-falls at h l bit v b v-is)
-
-    pub before_taken : (i : ℕ) → At (at * word_bits + bit) ≡ At i → NoneBefore (i / word_bits) (set row at v)
-    before_taken i e k u =
-        let is : at * word_bits + bit ≡ i = cc in
-        get_or-set_other row at k v 0 (λ q. omega arith) ∙ w.zeros k (omega arith)
-
-    pub one_taken : bit ≡ count_trailing_zeros word_bits (get_or row at 0) → (p : ℕ → Bool) → Flags p row₀ → Taken p (At (at * word_bits + bit)) (set row at v)
+    pub cleared-taken : (p : ℕ → Bool) → Flags p row → Taken p (Some i) after
     unfolding lowest_of
-    one_taken bit_is p g = taken (rw w.same g)
+    cleared-taken p f =
+        record {
+          lowest = λ j e. let is : i ≡ j = cc in rw (← is) whole;
+          rest = λ j e. let is : i ≡ j = cc in rw (← is, w.number_is, w.rest) (lowest-rest w.at w.inside w.positive w.bit _ w.bit_inside refl f w.bit_is);
+          none_left = λ e. cc;
+          kept = λ e. cc;
+        }
       where
-        taken : Flags p row → Taken p (At (at * word_bits + bit)) (set row at v)
-        taken f =
-            record {
-              lowest = λ i e. whole ∙ ap (λ (m : ℕ). some m) (same_place e);
-              rest = λ i e. subst (λ (m : ℕ). Flags (without p m) (set row at v)) (same_place e) (lowest-rest at h l bit v b v-is f bit_is);
-              none_left = λ e. not_at (at * word_bits + bit) (sym e);
-              kept = λ e. not_at (at * word_bits + bit) (sym e);
-            }
-          where
-            whole : seek p (up_to max_rules) ≡ some (at * word_bits + bit)
-            whole = found_behind p (at * word_bits) word_bits (max_rules - (at * word_bits + word_bits)) max_rules (at * word_bits + bit) (omega arith) (zeros_before f at w.zeros (omega arith)) (lowest_first at h l bit v b v-is f bit_is)
+        whole : seek p (up_to max_rules) ≡ some i
+        whole = rw w.number_is (found_behind p (w.at * word_bits) word_bits (max_rules - (w.at * word_bits + word_bits)) max_rules (w.at * word_bits + w.bit) (omega (arith, w.inside)) (zeros_before f w.at zeros_all (omega (arith, w.inside))) (lowest_first w.at w.inside w.positive w.bit _ w.bit_inside refl f w.bit_is))
+
+-- Whether one was found or not.
+pub behind-falls : (from : ℕ) (answer : Option ℕ) (row after : List ℕ) → TakenBehind from answer row after → Falls answer row after
+behind-falls from None row after t = record { inside = λ i e. cc; less = λ i e. cc }
+behind-falls from (Some i) row after t = cleared-falls t
+
+pub behind-taken : (from : ℕ) (answer : Option ℕ) (row after : List ℕ) → TakenBehind from answer row after → NoneBefore from row → (p : ℕ → Bool) → Flags p row → Taken p answer after
+unfolding lowest_of
+behind-taken from None row after t z p f =
+    record {
+      lowest = λ i e. cc;
+      rest = λ i e. cc;
+      none_left = λ e. zeros_before f row_words (λ k l. ⊎_elim (λ e. z k (ltb-true k from e)) (λ e. t.1 k (ltb-false k from e) l) (either (ltb k from))) (omega arith);
+      kept = λ e. rw t.0 f;
+    }
+behind-taken from (Some i) row after t z p f = cleared-taken t z p f

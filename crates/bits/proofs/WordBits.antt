@@ -3,13 +3,13 @@ use Prim.Native.Nat.{ℕ, zero, suc, ◌+◌, ◌-◌, ◌*◌, ◌/◌, ◌%◌
 use mathlib.Core.Path.{◌≡◌, refl, sym, ap, ap₂, subst, ◌∙◌}
 use mathlib.Core.Bool.{Bool, true, false, not, ◌&&◌, ◌||◌}
 use mathlib.Core.Option.{Option, none, some}
-use native.Mathlib.Nat.{max-zero, zero-lt-suc, lt_of_le_of_lt, mod-lt, div-lt_iff_lt-mul, div-mul-le_self, div-add-mod', mod-eq_of_lt, pow-suc}
+use native.Mathlib.Nat.{max-zero, zero-lt-suc, mod-lt, div-add-mod', pow-suc}
 use native.Mathlib.Omega.{arith}
 use borrow.Author.Tests.{eqb-true, ne_eqb, eq-eqb}
 use lib.Arith.{digits_div, digits_mod}
 use lib.Bits.{bit_and, bit_or, bit_xor, differ, or_step, or_zero_r, and_step, and_self, xor_step, xor_zero_r, shifted_half, shifted_even}
 use lib.Count.{count_trailing_zeros, under}
-use lib.Pow.{pow-lt, shr-shr}
+use lib.Pow.{shr-shr}
 use lib.Dec.{eqb}
 use Rattle.theory.specs.Guesses.{bit}
 use Rattle.theory.specs.Rule.{range, adjoin}
@@ -188,23 +188,6 @@ word-lowest p a (suc n) h = go (p a) refl (word-lowest p (suc a) n)
                 ∙ ap₂ (λ (y z : ℕ). bit_and (word p (suc a) n) (word p (suc a) n - 1) * 2 + min y z) (odd (word p (suc a) n) false) (odd (word p (suc a) n - 1) true)
                 ∙ ap (λ (m : ℕ). m * 2 + 0) t.rest
 
--- A word that is not 0 has a lowest bit among its bits.
-pub zeros_inside : (n w : ℕ) → 0 < w → w < 2 ^ n → count_trailing_zeros n w < n
-unfolding count_trailing_zeros
-zeros_inside zero w l h = absurd (omega arith)
-zeros_inside (suc n) w l h = go (w % 2) refl (zeros_inside n (w / 2))
-  where
-    halved : w / 2 < 2 ^ n
-    halved = let two : 0 < 2 = omega arith in (div-lt_iff_lt-mul two).1 (subst (λ (m : ℕ). w < m) (pow-suc 2 n) h)
-
-    go : (d : ℕ) → w % 2 ≡ d → (0 < w / 2 → w / 2 < 2 ^ n → count_trailing_zeros n (w / 2) < n) → under d (count_trailing_zeros n (w / 2)) < suc n
-    go zero e r = let low : count_trailing_zeros n (w / 2) < n = r (omega (arith, div-add-mod' w 2)) halved in omega arith
-    go (suc d) e r = omega arith
-
--- A bit of a word as a number.
-pub bit-fits : (n b : ℕ) → b < n → 1 * 2 ^ b % 2 ^ n ≡ 2 ^ b
-bit-fits n b h = mod-eq_of_lt (subst (λ (m : ℕ). m < 2 ^ n) (sym (once (2 ^ b))) (pow-lt h)) ∙ once (2 ^ b)
-
 -- a word of n numbers has n bits
 pub word_fits : (p : ℕ → Bool) (a n : ℕ) → word p a n < 2 ^ n
 unfolding word
@@ -251,10 +234,7 @@ lower_clear (suc n) x t h = go (x % 2) refl (lower_clear n (x / 2)) t h
     go zero e r (suc t) l = r t (omega arith)
     go (suc d) e r t l = absurd (omega arith)
 
--- The bits of a word from one on: no more than the word, and each is a bit of it.
-pub upper_fits : (n from w : ℕ) → w < 2 ^ n → w / 2 ^ from * 2 ^ from % 2 ^ n ≡ w / 2 ^ from * 2 ^ from
-upper_fits n from w h = mod-eq_of_lt (lt_of_le_of_lt (div-mul-le_self w (2 ^ from)) h)
-
+-- A bit of the bits of a word from one on is a bit of it.
 pub upper_set : (from w j : ℕ) → bit (w / 2 ^ from * 2 ^ from) j ≡ true → bit w j ≡ true
 upper_set zero w j e = subst (λ (x : ℕ). bit x j ≡ true) (whole w) e
   where

@@ -12,6 +12,7 @@ use items::item::MAX_FACTS;
 pub const MATRIX_WORDS: usize = MAX_FACTS * ROW_WORDS;
 
 // Marks a place in the row of a key. Was it new? What stands behind the row stays.
+// The bool answers that question itself: nothing else is handed out with it.
 pub fn mark_in(matrix: &mut [u64], key: usize, place: usize) -> bool
     requires { (key * row_words + row_words ≤ length matrix.old) × (place < max_rules) }
     ensures by_index { (keys : ℕ) (q : ℕ → ℕ → Bool) → key < keys → Matrix keys q matrix.old → (result ≡ not (q key place)) × Matrix keys (adjoin_in q key place) matrix.new }
@@ -39,11 +40,7 @@ fn copy_row(matrix: &[u64], key: usize, row: &mut [u64; ROW_WORDS])
     ensures { RowCopied matrix.now key row.old row.new }
 {
     let from = key * ROW_WORDS;
-    let mut k: usize = 0;
-    while k < ROW_WORDS {
-        row[k] = matrix[from + k];
-        k += 1;
-    }
+    row.copy_from_slice(&matrix[from..from + ROW_WORDS]);
 }
 
 // The row of a key.
@@ -62,9 +59,7 @@ pub fn join_row(matrix: &[u64], key: usize, row: &mut [u64; ROW_WORDS])
     ensures { (keys : ℕ) (p : ℕ → Bool) (q : ℕ → ℕ → Bool) → key < keys → Matrix keys q matrix.now → Flags p row.old → Flags (λ i. p i || q key i) row.new }
 {
     let from = key * ROW_WORDS;
-    let mut k: usize = 0;
-    while k < ROW_WORDS {
-        row[k] |= matrix[from + k];
-        k += 1;
+    for (k, word) in row.iter_mut().enumerate() {
+        *word |= matrix[from + k];
     }
 }

@@ -17,7 +17,7 @@ pub fn lowest_bit(word: u64) -> usize
     requires { zero < word }
     ensures { (result ≡ count_trailing_zeros word_bits word) × (result < word_bits) }
 {
-    u64::trailing_zeros(word) as usize
+    word.trailing_zeros() as usize
 }
 
 // The word with its lowest bit cleared.

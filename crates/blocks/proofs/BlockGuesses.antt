@@ -8,6 +8,8 @@ use mathlib.Core.Bool.{Bool, true, false, not, ◌&&◌}
 use mathlib.Core.List.{List}
 use mathlib.Core.Logic.{by_cases}
 use mathlib.Core.Option.{some}
+use Rattle.std.specs.Prelude.{Some, None}
+use Rattle.std.specs.Prelude as std
 use lib.ListN.{length}
 use lib.Pow.{pow_mono}
 use Rattle.theory.specs.Rule.{mem, Program, FactSet, in_force}
@@ -51,18 +53,17 @@ pub block_start : (P : Program) (row base : List ℕ) (from : ℕ) → Passed (f
 block_start P row base from p x l h = p x l (omega arith)
 
 -- no guess of the blocks before one fits
-pub none_before : (P : Program) (row base found : List ℕ) (c end : ℕ) → length found ≡ max_facts narrow → end ≤ c → PassedTo P row base c → FoundBefore P row base end false found
-none_before P row base found c end size l p = record { places = size; one_fits = λ e. never e refl; none_fits = λ e x a h. p x a (omega arith) }
+pub none_before : (P : Program) (row base : List ℕ) (c end : ℕ) → end ≤ c → PassedTo P row base c → FoundBefore P row base end None
+none_before P row base c end l p = record { one_fits = λ found e. let z : ◌≡◌ {A = ℕ} 0 1 = cc in absurd (omega arith); none_fits = λ e x a h. p x a (omega arith) }
 
 -- What is found in the first part is what is found, ..
-pub found_first : {P : Program} {row base found : List ℕ} {end : ℕ} → FoundBefore P row base end true found → Found P row base true found
-found_first f = record { places = f.places; one_fits = f.one_fits; none_fits = λ e. never refl e }
+pub found_first : {P : Program} {row base found : List ℕ} {end : ℕ} → FoundBefore P row base end (Some found) → Found P row base (Some found)
+found_first f = record { one_fits = f.one_fits; none_fits = λ e. let z : ◌≡◌ {A = ℕ} 0 1 = cc in absurd (omega arith) }
 
 -- .. and so is what is found where the blocks have all guesses.
-pub found_in : {P : Program} {row base found : List ℕ} {end : ℕ} (t : Bool) → 2 ^ length row ≤ end * lane_count → FoundBefore P row base end t found → Found P row base t found
-found_in {P} {row} {base} {found} {end} t m f =
+pub found_in : {P : Program} {row base : List ℕ} {end : ℕ} (answer : std.Option (List ℕ)) → 2 ^ length row ≤ end * lane_count → FoundBefore P row base end answer → Found P row base answer
+found_in {P} {row} {base} {end} answer m f =
     record {
-      places = f.places;
       one_fits = f.one_fits;
       none_fits = λ e. hunt-none (fits P (in_force P)) row (sure_in P row base) (λ x h. f.none_fits e x (omega arith) (omega arith));
     }
@@ -144,17 +145,21 @@ module _ {P : Program} (bounded : Bounded P) (few : P.facts ≤ max_facts narrow
 
   module _ (p : PassedTo P row base c) where
     -- Where no lane fits, the block is passed.
-    pub block_passed : {found : List ℕ} → Tried P row outs false found → PassedTo P row base (c + 1)
+    pub block_passed : Tried P row outs None → PassedTo P row base (c + 1)
     block_passed t x l u =
         by_cases (dec_lt x (c * lane_count)) (p x l)
         (λ n. in_block (λ y. fits_at P row base y ≡ false) (λ w s a d. lane-fits w s a d ∙ t.none_fits refl w s a d) x (omega arith) u)
 
     -- The first lane that fits has the first guess that fits.
-    pub block_found : {found : List ℕ} (end : ℕ) → Tried P row outs true found → FoundBefore P row base end true found
-    block_found {found} end t = record { places = t.places; one_fits = λ e. (lane_guess c f.word f.lane, first, derived); none_fits = λ e. never refl e }
+    pub block_found : {marks : List ℕ} (end : ℕ) → Tried P row outs (Some marks) → FoundBefore P row base end (Some marks)
+    block_found {marks} end t =
+        record {
+          one_fits = λ found e. let is : marks ≡ found = cc in subst (λ (x : List ℕ). (length x ≡ max_facts narrow) × (g : ℕ) × (first_fit P row base ≡ some (guess_at row (sure_in P row base) g)) × Derived P row base g x) is ((t.one_fits marks refl).0, lane_guess c f.word f.lane, first, derived);
+          none_fits = λ e. let z : ◌≡◌ {A = ℕ} 0 1 = cc in absurd (omega arith);
+        }
       where
-        f : LaneFound P row outs found
-        f = t.one_fits refl
+        f : LaneFound P row outs marks
+        f = (t.one_fits marks refl).1
 
         earlier : (x : ℕ) → x < lane_guess c f.word f.lane → fits_at P row base x ≡ false
         earlier x l =
@@ -167,5 +172,5 @@ module _ {P : Program} (bounded : Bounded P) (few : P.facts ≤ max_facts narrow
             hunt-first (fits P (in_force P)) row (sure_in P row base) (lane_guess c f.word f.lane)
             (lane-fits f.word f.lane f.word_inside f.lane_inside ∙ f.fits) earlier
 
-        derived : Derived P row base (lane_guess c f.word f.lane) found
+        derived : Derived P row base (lane_guess c f.word f.lane) marks
         derived g l = f.derives g l ∙ ap (λ (S : FactSet). S g) (lane-derives f.word f.lane f.word_inside f.lane_inside)

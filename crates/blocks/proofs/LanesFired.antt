@@ -8,34 +8,26 @@ use mathlib.Core.Logic.{inl, inr, ⊎_elim}
 use borrow.Author.Tests.{eqb-true, eqb-false, ltb-true, ltb-false}
 use lib.Bits.{bit_and, and_le_l}
 use lib.Dec.{eqb, ltb}
-use lib.ListN.{length, get_or, replicate, get_or-replicate, get_or-eq_default}
+use lib.ListN.{length, get_or, take, replicate, get_or-replicate, get_or-eq_default}
 use lib.Seq.{ext_get_or}
 use Rattle.theory.specs.Rule.{all, mem, Program, rule}
 use Rattle.theory.specs.Guesses.{bit}
 use Rattle.theory.proofs.Bools.{either, never, and-true, or-none, or_left, and_left, and_both, or-false_right, false_of}
 use Rattle.theory.proofs.Lists.{all-ext, all_append}
 use Rattle.theory.proofs.NumberBits.{bit-and, bit-or}
-use Rattle.tables.specs.Layout.{span}
-use Rattle.tables.proofs.PartsSpanned.{span_more, span-end}
+use Rattle.std.proofs.lemmas.List.{take_more, take_all}
 use Rattle.bits.specs.Flags.{word_bits, Flags}
 use Rattle.premises.specs.Premises.{Places, premises_at, asks_at}
 use Rattle.lanes.specs.Lanes.{every_lane, lane_words, lane_cells, word_of, lane_in, Fit, Met, Joined}
 use Rattle.lanes.proofs.LanePatterns.{every-lane}
 use Rattle.blocks.specs.Settling.{MetAll, fires_in, Fired, Stepped}
 
--- The facts of a row from one place up to another are met.
-pub record Meeting (row : ℕ → ℕ) (words : List ℕ) (from end : ℕ) (before after : List ℕ) (at : ℕ) : Type 0 where
-  pub reached : from ≤ at
-  pub inside : at ≤ end
-  pub met : MetAll (span row from at) words before after
+-- The facts of a list before a place are met.
+pub record Meeting (own words before after : List ℕ) (k : ℕ) : Type 0 where
+  pub met : MetAll (take k own) words before after
 
-pub none_met : {row : ℕ → ℕ} (words : List ℕ) {from end : ℕ} (before : List ℕ) → from ≤ end → Meeting row words from end before before from
-none_met {row} words {from} before l =
-    record {
-      reached = omega arith;
-      inside = l;
-      met = record { places = refl; kept = λ e w t h u. sym (ap (λ (xs : List ℕ). bit (get_or before w 0) t && all (lane_in words w t) xs) (span-end row from from (omega arith)) ∙ and-true (bit (get_or before w 0) t)); fitting = λ e f. f };
-    }
+pub none_met : (own words before : List ℕ) → Meeting own words before before 0
+none_met own words before = record { met = record { places = refl; kept = λ e w t h u. sym (and-true (bit (get_or before w 0) t)); fitting = λ e f. f } }
 
 -- one fact more
 one_more_met : {fact : ℕ} {facts words before middle after : List ℕ} → MetAll facts words before middle → Met fact words middle after → MetAll (facts ++ (fact ∷ [])) words before after
@@ -68,19 +60,18 @@ one_more_met {fact} {facts} {words} {before} {middle} {after} a m =
         let z : get_or after i 0 ≡ 0 = get_or-eq_default after 0 (omega (arith, m.places, a.places)) in
         omega arith
 
-module _ {row : ℕ → ℕ} {words : List ℕ} {from end : ℕ} {before middle : List ℕ} {at : ℕ} (w : Meeting row words from end before middle at) where
-  pub one_met : at < end → {fact : ℕ} {after : List ℕ} → fact ≡ row at → Met fact words middle after → Meeting row words from end before after (at + 1)
-  one_met l {fact} {after} is m =
-      record {
-        reached = omega (arith, w.reached);
-        inside = omega arith;
-        met = subst (λ (xs : List ℕ). MetAll xs words before after) (sym (span_more row from at w.reached)) (one_more_met w.met (subst (λ (f : ℕ). Met f words middle after) is m));
-      }
+module _ {own words before middle : List ℕ} {k : ℕ} (w : Meeting own words before middle k) where
+  pub one_met : k < length own → {fact : ℕ} {after : List ℕ} → fact ≡ get_or own k 0 → Met fact words middle after → Meeting own words before after (k + 1)
+  one_met h {fact} {after} is m =
+      record { met = subst (λ (xs : List ℕ). MetAll xs words before after) (sym (take_more own k 0 h)) (one_more_met w.met (subst (λ (f : ℕ). Met f words middle after) is m)) }
 
-  pub all-met : end ≤ at → {facts : List ℕ} → facts ≡ span row from end → MetAll facts words before middle
-  all-met l {facts} is =
-      let e : at ≡ end = omega (arith, w.inside) in
-      subst (λ (xs : List ℕ). MetAll xs words before middle) (ap (span row from) e ∙ sym is) w.met
+  pub all-met : length own ≤ k → MetAll own words before middle
+  all-met h = subst (λ (xs : List ℕ). MetAll xs words before middle) (take_all k own h) w.met
+
+-- Facts met in another order are met.
+pub met_in : {own facts words before after : List ℕ} → ((p : ℕ → Bool) → all p own ≡ all p facts) → MetAll own words before after → MetAll facts words before after
+met_in {own} {facts} {words} {before} same m =
+    record { places = m.places; kept = λ e w t h l. m.kept e w t h l ∙ ap (λ (b : Bool). bit (get_or before w 0) t && b) (same (lane_in words w t)); fitting = m.fitting }
 
 -- a body with all lanes
 abbrev start : List ℕ

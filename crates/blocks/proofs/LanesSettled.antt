@@ -1,5 +1,5 @@
 -- All lanes are settled: rule by rule, until no place waits.
-use Prim.Native.Nat.{ℕ, ◌+◌, ◌*◌, ◌<◌, ◌≤◌}
+use Prim.Native.Nat.{ℕ, ◌+◌, ◌*◌, ◌<◌}
 use native.Mathlib.Omega.{arith}
 use mathlib.Core.Path.{◌≡◌, refl, sym, ap, subst, fun_ext, ◌∙◌}
 use mathlib.Core.Bool.{Bool, true, false, not, ◌&&◌}
@@ -7,9 +7,8 @@ use mathlib.Core.List.{List}
 use mathlib.Core.Logic.{◌⊎◌, inl, inr, ⊎_elim}
 use borrow.Author.Tests.{eqb-true, ltb-true, lt-ltb}
 use lib.Dec.{eqb, ltb}
-use lib.ListN.{length, get_or, take, replicate, length-take, length-replicate}
-use lib.Seq.{get_or-take}
-use Rattle.theory.specs.Rule.{all, clear, mem, Program, FactSet, Sub, nothing, in_force, count, rule, Closed}
+use lib.ListN.{length, get_or, replicate, length-replicate}
+use Rattle.theory.specs.Rule.{all, clear, Program, FactSet, Sub, nothing, in_force, count, rule, Closed}
 use Rattle.theory.specs.Check.{least_of}
 use Rattle.theory.specs.Stable.{reduct}
 use Rattle.theory.proofs.Bools.{either, never, and_left, and_right, and_both, or_left, or_right, or_cases, false_of, both_ways}
@@ -28,36 +27,28 @@ abbrev pub least_in : Program → List ℕ → ℕ → ℕ → FactSet
 least_in P outs w t = least_of P (in_force P) (λ k. not (lane_in outs w t k))
 
 -- On the way: some places wait. The rules of the others derive nothing new, and nothing is derived without grounds.
-pub record Settling (P : Program) (order : List ℕ) (names : ℕ) (outs derived pending : List ℕ) : Type 0 where
+pub record Settling (P : Program) (order : List ℕ) (outs derived pending : List ℕ) : Type 0 where
   pub waits : ℕ → Bool
   pub flags : Flags waits pending
-  pub below : (k : ℕ) → waits k ≡ true → k < names
-  pub closed : (k : ℕ) → k < names → waits k ≡ false → (w t : ℕ) → w < lane_words → t < word_bits → fires_in P outs derived (get_or order k 0) w t ≡ true → lane_in derived w t (rule P (get_or order k 0)).conclusion ≡ true
+  pub below : (k : ℕ) → waits k ≡ true → k < length order
+  pub closed : (k : ℕ) → k < length order → waits k ≡ false → (w t : ℕ) → w < lane_words → t < word_bits → fires_in P outs derived (get_or order k 0) w t ≡ true → lane_in derived w t (rule P (get_or order k 0)).conclusion ≡ true
   pub sound : (w t : ℕ) → w < lane_words → t < word_bits → Sub (lane_in derived w t) (least_in P outs w t)
   pub places : length derived ≡ lane_cells
   pub fitting : Fit derived
 
-module _ {P : Program} {order : List ℕ} {names : ℕ} (o : InOrder P order names) where
-  row-length : length (take names order) ≡ names
-  row-length = let few : names ≤ length order = omega (arith, o.listed.places, o.listed.few) in simp length-take (omega arith)
-
-  at_place : (k : ℕ) → k < names → get_or (take names order) k 0 ≡ get_or order k 0
-  at_place k h = rw get_or-take
-
+module _ {P : Program} {order : List ℕ} (o : InOrder P order) where
   -- the rule at a place is one of the program
-  pub known_at : (k : ℕ) → k < names → get_or order k 0 < count P
+  pub known_at : (k : ℕ) → k < length order → get_or order k 0 < count P
   known_at k h =
-      let m : mem (get_or (take names order) k 0) (take names order) ≡ true = get_or-mem (take names order) k (omega (arith, row-length)) in
-      let t : ltb (get_or (take names order) k 0) (count P) ≡ true = all-elem (λ i. ltb i (count P)) (take names order) o.listed.known (get_or (take names order) k 0) m in
-      ltb-true (get_or order k 0) (count P) (subst (λ (n : ℕ). ltb n (count P) ≡ true) (at_place k h) t)
+      ltb-true (get_or order k 0) (count P) (all-elem (λ i. ltb i (count P)) order o.listed.known (get_or order k 0) (get_or-mem order k h))
 
   -- At first nothing is derived, and the places whose rules have no premise wait.
-  pub none_settled : (outs derived pending : List ℕ) → derived ≡ replicate lane_cells 0 → Flags (ripe P (in_row (take names order)) nothing) pending → Settling P order names outs derived pending
+  pub none_settled : (outs derived pending : List ℕ) → derived ≡ replicate lane_cells 0 → Flags (ripe P (in_row order) nothing) pending → Settling P order outs derived pending
   none_settled outs derived pending e f =
       record {
-        waits = ripe P (in_row (take names order)) nothing;
+        waits = ripe P (in_row order) nothing;
         flags = f;
-        below = λ k t. let l : k < length (take names order) = ltb-true k _ (and_left (ltb k (length (take names order))) _ t) in omega (arith, row-length);
+        below = λ k t. ltb-true k _ (and_left (ltb k (length order)) _ t);
         closed = λ k h q w t u v g. never (asks_nothing k h (sym (all-ext (lane_in derived w t) nothing (rule P (get_or order k 0)).premises (λ x m. out w t x)) ∙ and_left _ _ g)) q;
         sound = λ w t h l g q. never q (out w t g);
         places = ap length e ∙ length-replicate {A = ℕ} lane_cells 0;
@@ -70,12 +61,12 @@ module _ {P : Program} {order : List ℕ} {names : ℕ} (o : InOrder P order nam
       out : (w t g : ℕ) → lane_in derived w t g ≡ false
       out w t g = ap (λ (n : ℕ). bit n t) (nothing-there (g * lane_words + w)) ∙ bit-zero t
 
-      asks_nothing : (k : ℕ) → k < names → all nothing (rule P (get_or order k 0)).premises ≡ true → ripe P (in_row (take names order)) nothing k ≡ true
-      asks_nothing k h q = and_both (lt-ltb k _ (omega (arith, row-length))) (subst (λ (n : ℕ). all nothing (rule P n).premises ≡ true) (sym (at_place k h)) q)
+      asks_nothing : (k : ℕ) → k < length order → all nothing (rule P (get_or order k 0)).premises ≡ true → ripe P (in_row order) nothing k ≡ true
+      asks_nothing k h q = and_both (lt-ltb k _ h) q
 
-  module _ {outs derived pending : List ℕ} (s : Settling P order names outs derived pending) where
+  module _ {outs derived pending : List ℕ} (s : Settling P order outs derived pending) where
     -- A place is taken, and its rule looked at.
-    pub one_settled : (place : ℕ) → s.waits place ≡ true → {pending₁ derived' pending' : List ℕ} → Stepped P (in_row (take names order)) (without s.waits place) (get_or order place 0) outs derived pending₁ derived' pending' → Settling P order names outs derived' pending'
+    pub one_settled : (place : ℕ) → s.waits place ≡ true → {pending₁ derived' pending' : List ℕ} → Stepped P (in_row order) (without s.waits place) (get_or order place 0) outs derived pending₁ derived' pending' → Settling P order outs derived' pending'
     one_settled place t {pending₁} {derived'} {pending'} d =
         record {
           waits = d.waits;
@@ -87,11 +78,11 @@ module _ {P : Program} {order : List ℕ} {names : ℕ} (o : InOrder P order nam
           fitting = d.fitting s.fitting;
         }
       where
-        within : (k : ℕ) → ltb k (length (take names order)) ≡ true → k < names
-        within k q = let l : k < length (take names order) = ltb-true k _ q in omega (arith, row-length)
+        within : (k : ℕ) → ltb k (length order) ≡ true → k < length order
+        within k q = ltb-true k _ q
 
-        taken_at : (k : ℕ) → k < names → ltb k (length (take names order)) ≡ true
-        taken_at k h = lt-ltb k _ (omega (arith, row-length))
+        taken_at : (k : ℕ) → k < length order → ltb k (length order) ≡ true
+        taken_at k h = lt-ltb k _ h
 
         -- a place that does not wait now is the one taken, or did not wait before
         left : (k : ℕ) → d.waits k ≡ false → (eqb k place ≡ true) ⊎ (s.waits k ≡ false)
@@ -102,13 +93,13 @@ module _ {P : Program} {order : List ℕ} {names : ℕ} (o : InOrder P order nam
             sorted false b e = inr e
 
         -- its rule fired before where it fires now
-        before_too : (k : ℕ) → k < names → d.waits k ≡ false → (w l : ℕ) → w < lane_words → l < word_bits → fires_in P outs derived' (get_or order k 0) w l ≡ true → fires_in P outs derived (get_or order k 0) w l ≡ true
+        before_too : (k : ℕ) → k < length order → d.waits k ≡ false → (w l : ℕ) → w < lane_words → l < word_bits → fires_in P outs derived' (get_or order k 0) w l ≡ true → fires_in P outs derived (get_or order k 0) w l ≡ true
         before_too k h q w l u v f =
             let same : all (lane_in derived' w l) (rule P (get_or order k 0)).premises ≡ all (lane_in derived w l) (rule P (get_or order k 0)).premises =
-            subst (λ (n : ℕ). all (lane_in derived' w l) (rule P n).premises ≡ all (lane_in derived w l) (rule P n).premises) (at_place k h) (d.known k (taken_at k h) q w l u v) in
+            d.known k (taken_at k h) q w l u v in
             and_both (sym same ∙ and_left _ _ f) (and_right (all (lane_in derived' w l) (rule P (get_or order k 0)).premises) _ f)
 
-        go : (k : ℕ) → k < names → (w l : ℕ) → w < lane_words → l < word_bits → fires_in P outs derived (get_or order k 0) w l ≡ true → (eqb k place ≡ true) ⊎ (s.waits k ≡ false) → lane_in derived' w l (rule P (get_or order k 0)).conclusion ≡ true
+        go : (k : ℕ) → k < length order → (w l : ℕ) → w < lane_words → l < word_bits → fires_in P outs derived (get_or order k 0) w l ≡ true → (eqb k place ≡ true) ⊎ (s.waits k ≡ false) → lane_in derived' w l (rule P (get_or order k 0)).conclusion ≡ true
         go k h w l u v f (inl e) =
             let is : k ≡ place = eqb-true k place e in
             let fires : fires_in P outs derived (get_or order place 0) w l ≡ true = subst (λ (n : ℕ). fires_in P outs derived (get_or order n 0) w l ≡ true) is f in
@@ -120,7 +111,7 @@ module _ {P : Program} {order : List ℕ} {names : ℕ} (o : InOrder P order nam
         -- what is new has grounds
         grounded : (w l : ℕ) → w < lane_words → l < word_bits → (g : ℕ) → eqb g (rule P (get_or order place 0)).conclusion && fires_in P outs derived (get_or order place 0) w l ≡ true → least_in P outs w l g ≡ true
         grounded w l h u g e =
-            let at : place < names = s.below place t in
+            let at : place < length order = s.below place t in
             let is : g ≡ (rule P (get_or order place 0)).conclusion = eqb-true g _ (and_left _ _ e) in
             let f : fires_in P outs derived (get_or order place 0) w l ≡ true = and_right (eqb g (rule P (get_or order place 0)).conclusion) _ e in
             subst (λ (n : ℕ). least_in P outs w l n ≡ true) (sym is)
@@ -152,7 +143,7 @@ module _ {P : Program} {order : List ℕ} {names : ℕ} (o : InOrder P order nam
 
             kept : Closed P (reduct P (in_force P) (λ k. not (lane_in outs w t k))) (lane_in derived w t)
             kept i k r p =
-                let e : (m : ℕ) × (m < names) × (get_or order m 0 ≡ i) = o.every i k (reduct-on P (in_force P) (λ j. not (lane_in outs w t j)) i r) in
+                let e : (m : ℕ) × (m < length order) × (get_or order m 0 ≡ i) = o.every i k (reduct-on P (in_force P) (λ j. not (lane_in outs w t j)) i r) in
                 subst (λ (n : ℕ). lane_in derived w t (rule P n).conclusion ≡ true) e.2
                 (s.closed e.0 e.1 (q e.0) w t h l
                 (subst (λ (n : ℕ). fires_in P outs derived n w t ≡ true) (sym e.2) (and_both p (clear-held (rule P i).constraints (reduct-clear P (in_force P) (λ j. not (lane_in outs w t j)) i r)))))

@@ -8,18 +8,25 @@ use mathlib.Core.Logic.{⊎_elim}
 use borrow.Author.Tests.{eqb-true, eqb-false, lt-ltb, ltb-true}
 use lib.Dec.{eqb, ltb}
 use lib.ListN.{length, get_or, take, set, replicate, length-set, length-replicate, get_or-replicate}
-use lib.Seq.{get_or-set_same, get_or-set_other}
+use lib.Seq.{get_or-take, length-take-le, get_or-set_same, get_or-set_other}
 use Rattle.theory.specs.Rule.{all, how_many, up_to, Program, Sub, adjoin, withheld, in_force, count, rule}
 use Rattle.theory.specs.Conditions.{Bounded}
 use Rattle.theory.proofs.Bools.{either, never, and_both, or_right, or_cases, not_of_false, false_of_not, or-false_right}
 use Rattle.theory.proofs.Lists.{eqb-self, all-mono, how_many-le, how_many-less, length-range, up_to-mem}
-use Rattle.items.specs.Item.{narrow, max_facts, max_rules, has}
+use Rattle.items.specs.Item.{narrow, max_facts, max_rules, fact_id, has}
+use Rattle.items.specs.declared.item.FactId.{FactId}
+use Rattle.tables.specs.Layout.{program_in, WellFormed}
+use Rattle.tables.proofs.ProgramHeld.{facts_below, conclusion_below}
 use Rattle.marking.proofs.MarksPainted.{marked-at, unmarked_at, has-set, unmarked}
 use Rattle.blocks.specs.Order.{InOrder, Placing, PlacedReady}
 
+-- The conclusion of a rule, as read from the tables, is a fact, and each fact has a place.
+pub fact_below : {T : List ℕ} → WellFormed T → {i : ℕ} → i < count (program_in T) → {f : FactId} → f ≡ fact_id (rule (program_in T) i).conclusion → f.0 < max_facts narrow
+fact_below w h is = omega (arith, ap (λ (f : FactId). f.0) is, conclusion_below w h, facts_below w)
+
 -- No more rules are listed than there are, so where more are listed fewer places are left.
 module _ {P : Program} {marks order : List ℕ} {n : ℕ} (w : Placing P marks order n) (few : count P ≤ max_rules) where
-  few_listed : n ≤ max_rules
+  pub few_listed : n ≤ max_rules
   few_listed = omega (arith, w.room)
 
   pub more-listed : {m : ℕ} → m ≤ n → (n ≡ m → ⊥) → max_rules - n < max_rules - m
@@ -161,14 +168,17 @@ all_first p (suc n) [] r = refl
 all_first p (suc n) (x ∷ xs) r = and_both (r 0 (omega arith)) (all_first p n xs (λ k h. r (suc k) (omega arith)))
 
 -- After a pass with every fact in the set the rules in force are all listed.
-pub all_placed : {P : Program} {marks order : List ℕ} {n : ℕ} → Bounded P → P.facts < max_facts narrow → count P ≤ max_rules → Placing P marks order n → PlacedReady P (replicate (max_facts narrow) 1) marks → InOrder P order n
+pub all_placed : {P : Program} {marks order : List ℕ} {n : ℕ} → Bounded P → P.facts < max_facts narrow → count P ≤ max_rules → Placing P marks order n → PlacedReady P (replicate (max_facts narrow) 1) marks → InOrder P (take n order)
 all_placed {P} {marks} {order} {n} b low few w ready =
     record {
-      listed = record { places = w.order_places; few = few_listed w few; known = all_first (λ i. ltb i (count P)) n order (λ k h. lt-ltb (get_or order k 0) (count P) (w.known k h)) };
-      only = w.only;
-      every = λ i h on. w.every i h (ready i h on (held i h));
+      listed = record { few = omega (arith, size, few_listed w few); known = all_first (λ i. ltb i (count P)) n order (λ k h. lt-ltb (get_or order k 0) (count P) (w.known k h)) };
+      only = λ k l. let low : k < n = omega (arith, size) in subst (λ (i : ℕ). in_force P i ≡ true) (sym (get_or-take n order k 0 low)) (w.only k low);
+      every = λ i h on. let (k, low, is) = w.every i h (ready i h on (held i h)) in (k, omega (arith, size), get_or-take n order k 0 low ∙ is);
     }
   where
+    size : length (take n order) ≡ n
+    size = length-take-le n order (omega (arith, w.order_places, few_listed w few))
+
     ones : (m f : ℕ) → f < m → has (replicate m 1) f ≡ true
     ones m f h = marked-at (replicate m 1) f (get_or-replicate m f 1 0 h)
 

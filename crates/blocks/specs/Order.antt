@@ -4,11 +4,11 @@ use Rattle.theory.specs.Rule.{all, how_many, up_to, Program, in_force, count, ru
 use Rattle.items.specs.Item.{max_rules, has}
 use Rattle.premises.specs.Filling.{Listed}
 
--- The first numbers of a row are rules in force, and every rule in force is one of them.
-pub record InOrder (P : Program) (order : List ℕ) (names : ℕ) : Type 0 where
-  pub listed : Listed P order names
-  pub only : (k : ℕ) → k < names → in_force P (get_or order k 0) ≡ true
-  pub every : (i : ℕ) → i < count P → in_force P i ≡ true → (k : ℕ) × (k < names) × (get_or order k 0 ≡ i)
+-- The numbers of a row are rules in force, and every rule in force is one of them.
+pub record InOrder (P : Program) (order : List ℕ) : Type 0 where
+  pub listed : Listed P order
+  pub only : (k : ℕ) → k < length order → in_force P (get_or order k 0) ≡ true
+  pub every : (i : ℕ) → i < count P → in_force P i ≡ true → (k : ℕ) × (k < length order) × (get_or order k 0 ≡ i)
 
 -- Some rules in force are listed, and marked.
 pub record Placing (P : Program) (marks order : List ℕ) (names : ℕ) : Type 0 where

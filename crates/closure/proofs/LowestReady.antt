@@ -3,8 +3,8 @@ use Prim.Native.Nat.{ℕ, ◌<◌}
 use mathlib.Core.Path.{◌≡◌, refl, sym, ap, ◌∙◌}
 use mathlib.Core.Bool.{true, false, not, ◌&&◌}
 use mathlib.Core.List.{List}
-use mathlib.Core.Option.{Option, none, some}
-use native.Mathlib.Omega.{arith}
+use mathlib.Core.Option.{Option as Maybe, none, some}
+use Rattle.std.specs.Prelude.{Option, Some, None}
 use borrow.Author.Tests.{eqb-true}
 use lib.Dec.{eqb}
 use Rattle.theory.specs.Rule.{all, Program, Mask, FactSet, Sub, count, rule}
@@ -15,22 +15,19 @@ use Rattle.theory.proofs.Derive.{adjoin-above, adjoin-has}
 use Rattle.items.specs.declared.item.RuleId.{RuleId}
 use Rattle.items.specs.Item.{rule_id}
 use Rattle.bits.specs.Flags.{without, Taken}
-use Rattle.bits.specs.declared.row.Lowest.{Lowest}
-use Rattle.bits.specs.declared.row.Lowest.TheVariants as taken
 use Rattle.bits.proofs.RowTaken.{lowest-is, none_lower, nothing_left}
 use Rattle.premises.proofs.PlainRows.{plain_known}
-use Rattle.closure.specs.declared.found.Found.TheVariants.{At, Nothing}
 use Rattle.closure.specs.Steps.{found_of}
 use Rattle.closure.specs.Deriving.{Waits}
 
 -- What a search for a rule says.
-pub found_at : (o : Option ℕ) (r : RuleId) → At r ≡ found_of o → o ≡ some r.0
-found_at none r e = absurd (let z : ◌≡◌ {A = ℕ} 0 1 = cc in omega arith)
+pub found_at : (o : Maybe ℕ) (r : RuleId) → Some r ≡ found_of o → o ≡ some r.0
+found_at none r e = cc
 found_at (some i) r e = let same : r ≡ rule_id i = cc in ap (λ (q : RuleId). some q.0) (sym same)
 
-pub found_nothing : (o : Option ℕ) → Nothing ≡ found_of o → ◌≡◌ {A = Option ℕ} o none
+pub found_nothing : (o : Maybe ℕ) → None ≡ found_of o → ◌≡◌ {A = Maybe ℕ} o none
 found_nothing none e = refl
-found_nothing (some i) e = absurd (let z : ◌≡◌ {A = ℕ} 0 1 = cc in omega arith)
+found_nothing (some i) e = cc
 
 module _ {P : Program} {on : Mask} {S : FactSet} {row : List ℕ} (w : Waits P on S S row) where
   -- each rule that is ready waits
@@ -39,11 +36,11 @@ module _ {P : Program} {on : Mask} {S : FactSet} {row : List ℕ} (w : Waits P o
       let both : all S (rule P i).premises && not (S (rule P i).conclusion) ≡ true = and_right (on i) _ t in
       w.waits i (and_left (on i) _ t) (and_left (all S (rule P i).premises) _ both) (false_of_not (S (rule P i).conclusion) (and_right (all S (rule P i).premises) _ both))
 
-  pub none_ready : {r : Lowest} {row' : List ℕ} → Taken w.p r row' → r ≡ taken.Nothing → Nothing ≡ found_of (lowest P on S)
+  pub none_ready : {r : Option ℕ} {row' : List ℕ} → Taken w.p r row' → r ≡ None → None ≡ found_of (lowest P on S)
   none_ready t e = sym (ap found_of (no_number_lem (ready P on S) (count P) (λ j h. false_of (ready P on S j) (λ u. never (ready-waits j u) (nothing_left w.flags (t.none_left e) j)))))
 
   -- Rule i was taken, the lowest that waits.
-  module _ {r : Lowest} {row' : List ℕ} (t : Taken w.p r row') (i : ℕ) (e : r ≡ taken.At i) where
+  module _ {r : Option ℕ} {row' : List ℕ} (t : Taken w.p r row') (i : ℕ) (e : r ≡ Some i) where
     there : w.p i ≡ true
     there = (lowest-is w.p i (t.lowest i e)).passes
 
@@ -70,7 +67,7 @@ module _ {P : Program} {on : Mask} {S : FactSet} {row : List ℕ} (w : Waits P o
     concluded-passed c = others_wait S (λ g u. u) (λ o. c)
 
     module _ (o : on i ≡ true) (out : S (rule P i).conclusion ≡ false) where
-      pub one_found : At (rule_id i) ≡ found_of (lowest P on S)
+      pub one_found : Some (rule_id i) ≡ found_of (lowest P on S)
       one_found =
           sym (ap found_of (seek-number (ready P on S) (count P) i rule_known
           (λ j h. false_of (ready P on S j) (λ u. never (ready-waits j u) (none_lower w.p i (t.lowest i e) j h)))

@@ -3,7 +3,8 @@ use Prim.Native.Nat.{ℕ, ◌+◌, ◌≤◌, ◌<◌}
 use mathlib.Core.Path.{◌≡◌, refl, sym, ap, subst, ◌∙◌}
 use mathlib.Core.Bool.{true, false, ◌||◌}
 use mathlib.Core.List.{List, [], ◌∷◌}
-use mathlib.Core.Option.{Option, none, some}
+use mathlib.Core.Option.{Option as Maybe, none, some}
+use Rattle.std.specs.Prelude.{Some, None}
 use native.Mathlib.Omega.{arith}
 use borrow.Author.Tests.{eq-eqb, ne_eqb}
 use lib.ListN.{length, get_or, set, length-set}
@@ -15,9 +16,8 @@ use Rattle.theory.specs.Derive.{lowest, conclude, fired, meets, derive}
 use Rattle.theory.proofs.Bools.{or_left, or-false, never}
 use Rattle.theory.proofs.Derive.{fires, fired-some, fired-none, adjoin-has, missing, missing-less, derive-above, derive-keeps}
 use Rattle.theory.proofs.Barred.{meets-some, meets-none}
-use Rattle.items.specs.declared.item.FactId.{FactId}
 use Rattle.items.specs.declared.item.RuleId.{RuleId}
-use Rattle.items.specs.Item.{narrow, max_facts, fact_id, has}
+use Rattle.items.specs.Item.{narrow, max_facts, has}
 use Rattle.items.specs.Write.{placed}
 use Rattle.items.proofs.PlacedBytes.{placed-none, placed_one, placed-more}
 use Rattle.marking.specs.Marks.{barred, barred_in, paint}
@@ -25,8 +25,6 @@ use Rattle.premises.specs.Premises.{plain_ones, Counted}
 use Rattle.premises.specs.Plain.{mask_in, PlainIndexed}
 use Rattle.premises.proofs.FactsEntered.{Enters}
 use Rattle.marking.proofs.MarksPainted.{past_end, has-set, paint-self, paint-marked, has-painted, bars-kept}
-use Rattle.closure.specs.declared.derivation.Derivation.TheVariants.{Closed, Barred}
-use Rattle.closure.specs.declared.found.Found.TheVariants.{At}
 use Rattle.closure.specs.Steps.{found_of}
 use Rattle.closure.specs.Room.{Room}
 use Rattle.closure.specs.Deriving.{Waits, Poised, Deriving, Derived, Advanced}
@@ -39,7 +37,7 @@ module _ (P : Program) (on : Mask) (S : FactSet) where
   unfolding derive
   derive-some i e = ap (after (conclude P) S) (fired-some P on S i e)
 
-  pub derive-none : ◌≡◌ {A = Option ℕ} (lowest P on S) none → derive P on S ≡ S
+  pub derive-none : ◌≡◌ {A = Maybe ℕ} (lowest P on S) none → derive P on S ≡ S
   unfolding derive
   derive-none e = ap (after (conclude P) S) (fired-none P on S e)
 
@@ -73,12 +71,12 @@ none_derived on fired r l =
       room = r.cells_left;
     }
 
-module _ {P : Program} {on : Mask} {marks₀ fired₀ : List ℕ} {at : ℕ} {marks fired-now : List ℕ} {to : ℕ} (w : Deriving P on marks₀ fired₀ at marks fired-now to) (e : ◌≡◌ {A = Option ℕ} (lowest P on (has marks)) none) where
+module _ {P : Program} {on : Mask} {marks₀ fired₀ : List ℕ} {at : ℕ} {marks fired-now : List ℕ} {to : ℕ} (w : Deriving P on marks₀ fired₀ at marks fired-now to) (e : ◌≡◌ {A = Maybe ℕ} (lowest P on (has marks)) none) where
   -- None is left that may fire.
-  pub derivation_ends : {missing : List ℕ} → Counted P (plain_ones P) (has marks) missing → Derived P on marks₀ fired₀ at (Closed to) marks missing fired-now
+  pub derivation_ends : {missing : List ℕ} → Counted P (plain_ones P) (has marks) missing → Derived P on marks₀ fired₀ at (Some to) marks missing fired-now
   derivation_ends {missing} c =
       record {
-        answer = rw (w.met, meets-none P on (barred_in marks₀) (has marks) e) (ap Closed (sym (w.number ∙ rw (fired-none P on (has marks) e) (omega arith))));
+        answer = rw (w.met, meets-none P on (barred_in marks₀) (has marks) e) (ap (λ (n : ℕ). Some n) (sym (w.number ∙ rw (fired-none P on (has marks) e) (omega arith))));
         facts = λ _. sym (w.facts ∙ ap (λ (T : FactSet). paint T marks) (derive-none P on (has marks) e) ∙ paint-self marks);
         rules = λ _. sym (w.row ∙ ap (λ (l : List ℕ). placed l to fired-now) (fired-none P on (has marks) e) ∙ placed-none to fired-now);
         counted = λ _. subst (λ (S : FactSet). Counted P (plain_ones P) S missing) (sym (w.set ∙ derive-none P on (has marks) e)) c;
@@ -121,7 +119,7 @@ module _ {P : Program} (b : Bounded P) (few : P.facts < max_facts narrow) (on : 
     meets-here = w.met ∙ meets-some P on (barred_in marks₀) (has marks) i e ∙ ap (λ (B : FactSet). B fact || meets P on (barred_in marks₀) next) (sym w.bars)
 
     -- its conclusion is barred
-    pub derivation_stops : barred_in marks fact ≡ true → (missing : List ℕ) → Derived P on marks₀ fired₀ at Barred marks missing fired-now
+    pub derivation_stops : barred_in marks fact ≡ true → (missing : List ℕ) → Derived P on marks₀ fired₀ at None marks missing fired-now
     derivation_stops t missing =
         let m : meets P on (barred_in marks₀) (has marks₀) ≡ true = meets-here ∙ or_left _ _ t in
         record { answer = rw m refl; facts = λ n. never m n; rules = λ n. never m n; counted = λ n. never m n; kept = w.kept; cells = w.cells }
@@ -150,19 +148,19 @@ module _ {P : Program} (b : Bounded P) (few : P.facts < max_facts narrow) (on : 
           less = rw marks_next closer;
         }
 
-pub found_known : (P : Program) (on : Mask) (S : FactSet) {r : RuleId} → At r ≡ found_of (lowest P on S) → r.0 < count P
+pub found_known : (P : Program) (on : Mask) (S : FactSet) {r : RuleId} → Some r ≡ found_of (lowest P on S) → r.0 < count P
 found_known P on S {r} found = (fires P on S r.0 (found_at _ r found)).known
 
--- Rule r was found, and f is its conclusion as it is read: what each way out of the turn leaves.
-pub record Firing (P : Program) (index marks missing ready : List ℕ) (to : ℕ) (r : RuleId) (f : FactId) : Type 0 where
-  pub small : f.0 < max_facts narrow
+-- Rule r was found, and f is its conclusion: what each way out of the turn leaves.
+pub record Firing (P : Program) (index marks missing ready : List ℕ) (to : ℕ) (r : RuleId) (f : ℕ) : Type 0 where
+  pub small : f < max_facts narrow
   pub room : to < max_facts narrow
-  pub stops : get_or marks f.0 0 ≡ barred → (marks₀ fired₀ : List ℕ) (at : ℕ) (fired-now : List ℕ) → Deriving P (mask_in index) marks₀ fired₀ at marks fired-now to → Derived P (mask_in index) marks₀ fired₀ at Barred marks missing fired-now
-  pub goes : (get_or marks f.0 0 ≡ barred → ⊥) → (missing' ready' : List ℕ) → Enters f.0 index missing ready missing' ready' → (marks₀ fired₀ : List ℕ) (at : ℕ) (fired-now : List ℕ) → Deriving P (mask_in index) marks₀ fired₀ at marks fired-now to → Advanced P (mask_in index) marks₀ fired₀ at marks (set marks f.0 1) missing' ready' (set fired-now to r.0) (to + 1)
+  pub stops : get_or marks f 0 ≡ barred → (marks₀ fired₀ : List ℕ) (at : ℕ) (fired-now : List ℕ) → Deriving P (mask_in index) marks₀ fired₀ at marks fired-now to → Derived P (mask_in index) marks₀ fired₀ at None marks missing fired-now
+  pub goes : (get_or marks f 0 ≡ barred → ⊥) → (missing' ready' : List ℕ) → Enters f index missing ready missing' ready' → (marks₀ fired₀ : List ℕ) (at : ℕ) (fired-now : List ℕ) → Deriving P (mask_in index) marks₀ fired₀ at marks fired-now to → Advanced P (mask_in index) marks₀ fired₀ at marks (set marks f 1) missing' ready' (set fired-now to r.0) (to + 1)
 
-pub firing : {P : Program} → Bounded P → P.facts < max_facts narrow → {index : List ℕ} → PlainIndexed P index → {marks : List ℕ} {to : ℕ} → Room P marks to → {missing ready : List ℕ} → Counted P (plain_ones P) (has marks) missing → (r : RuleId) → At r ≡ found_of (lowest P (mask_in index) (has marks)) → Waits P (mask_in index) (has marks) (conclude P (has marks) r.0) ready → (f : FactId) → f ≡ fact_id (rule P r.0).conclusion → Firing P index marks missing ready to r f
+pub firing : {P : Program} → Bounded P → P.facts < max_facts narrow → {index : List ℕ} → PlainIndexed P index → {marks : List ℕ} {to : ℕ} → Room P marks to → {missing ready : List ℕ} → Counted P (plain_ones P) (has marks) missing → (r : RuleId) → Some r ≡ found_of (lowest P (mask_in index) (has marks)) → Waits P (mask_in index) (has marks) (conclude P (has marks) r.0) ready → (f : ℕ) → f ≡ (rule P r.0).conclusion → Firing P index marks missing ready to r f
 unfolding barred_in
-firing {P} b few {index} ix {marks} {to} room {missing} {ready} c r found left f e =
+firing {P} b few {index} ix {marks} {to} room {missing} {ready} c r found left f concludes =
     record {
       small = omega (arith, concludes, small b few (mask_in index) room r.0 picked);
       room = fits b few (mask_in index) room r.0 picked;
@@ -173,8 +171,5 @@ firing {P} b few {index} ix {marks} {to} room {missing} {ready} c r found left f
           (fact-poised b ix (small b few (mask_in index) room r.0 picked) (out b few (mask_in index) room r.0 picked) c left (subst (λ (g : ℕ). Enters g index missing ready missing' ready') concludes enters)));
     }
   where
-    concludes : f.0 ≡ (rule P r.0).conclusion
-    concludes = ap (λ (g : FactId). g.0) e
-
     picked : lowest P (mask_in index) (has marks) ≡ some r.0
     picked = found_at _ r found

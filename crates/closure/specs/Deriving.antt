@@ -1,16 +1,13 @@
 -- Internal: a derivation on its way. The rules that may fire wait in a row of bits, and each plain rule has the count of premises that it lacks.
-use Rattle.std.specs.Prelude.{ℕ, ◌+◌, ◌<◌, ◌≤◌, ◌≡◌, Bool, true, false, not, List, length, take}
+use Rattle.std.specs.Prelude.{ℕ, ◌+◌, ◌<◌, ◌≤◌, ◌≡◌, Bool, true, false, not, List, length, take, Option, Some, None}
 use Rattle.theory.specs.Rule.{all, how_many, up_to, Program, Mask, FactSet, rule, plain, Closed as ClosedUnder}
 use Rattle.theory.specs.Derive.{conclude, fired, meets, derive}
+use Rattle.items.specs.declared.item.RuleId.{RuleId}
 use Rattle.items.specs.Item.{narrow, max_facts, has}
 use Rattle.items.specs.Write.{placed}
 use Rattle.bits.specs.Flags.{Flags}
 use Rattle.marking.specs.Marks.{barred_in, paint}
 use Rattle.premises.specs.Premises.{plain_ones, Counted}
-use Rattle.closure.specs.declared.derivation.Derivation.{Derivation}
-use Rattle.closure.specs.declared.derivation.Derivation.TheVariants.{Closed, Barred}
-use Rattle.closure.specs.declared.found.Found.{Found}
-use Rattle.closure.specs.declared.found.Found.TheVariants.{At, Nothing}
 use Rattle.closure.specs.declared.turn.Turn.{Turn}
 use Rattle.closure.specs.declared.turn.Turn.TheVariants.{Fired, Done, Stopped}
 use Rattle.closure.specs.Steps.{derivation_of}
@@ -24,9 +21,9 @@ pub record Waits (P : Program) (on : Mask) (S T : FactSet) (ready : List ℕ) : 
   pub waits : (i : ℕ) → on i ≡ true → all S (rule P i).premises ≡ true → T (rule P i).conclusion ≡ false → p i ≡ true
 
 -- What is left where a rule was taken: those wait still whose conclusion is not that of the rule.
-abbrev pub Left : Program → Mask → FactSet → Found → List ℕ → Type 0
-Left P on S Nothing ready = Unit {0}
-Left P on S (At r) ready = Waits P on S (conclude P S r.0) ready
+abbrev pub Left : Program → Mask → FactSet → Option RuleId → List ℕ → Type 0
+Left P on S None ready = Unit {0}
+Left P on S (Some r) ready = Waits P on S (conclude P S r.0) ready
 
 -- Before the next rule is chosen: the count of each plain rule is the number of its distinct premises that are not in the set, and those that may fire
 -- wait.
@@ -55,7 +52,7 @@ pub record Deriving (P : Program) (on : Mask) (marks₀ fired₀ : List ℕ) (at
 
 -- What a derivation promises: it meets a barred fact, or not, as `derive` does; where it does not, the set derived is marked, the rules fired are entered
 -- in their order, and the counts are those of the set.
-pub record Derived (P : Program) (on : Mask) (marks₀ fired₀ : List ℕ) (at : ℕ) (r : Derivation) (marks missing fired-now : List ℕ) : Type 0 where
+pub record Derived (P : Program) (on : Mask) (marks₀ fired₀ : List ℕ) (at : ℕ) (r : Option ℕ) (marks missing fired-now : List ℕ) : Type 0 where
   pub answer : r ≡ derivation_of (meets P on (barred_in marks₀) (has marks₀)) (at + length (fired P on (has marks₀)))
   pub facts : meets P on (barred_in marks₀) (has marks₀) ≡ false → marks ≡ paint (derive P on (has marks₀)) marks₀
   pub rules : meets P on (barred_in marks₀) (has marks₀) ≡ false → fired-now ≡ placed (fired P on (has marks₀)) at fired₀
@@ -72,5 +69,5 @@ pub record Advanced (P : Program) (on : Mask) (marks₀ fired₀ : List ℕ) (at
 -- What one turn leaves, from wherever the marks were derived.
 abbrev pub Turned : Program → Mask → List ℕ → List ℕ → ℕ → List ℕ → ℕ → Turn → List ℕ → List ℕ → List ℕ → List ℕ → Type 0
 Turned P on marks₀ fired₀ at before to Fired marks missing ready fired-now = Advanced P on marks₀ fired₀ at before marks missing ready fired-now (to + 1)
-Turned P on marks₀ fired₀ at before to Done marks missing ready fired-now = Derived P on marks₀ fired₀ at (Closed to) marks missing fired-now
-Turned P on marks₀ fired₀ at before to Stopped marks missing ready fired-now = Derived P on marks₀ fired₀ at Barred marks missing fired-now
+Turned P on marks₀ fired₀ at before to Done marks missing ready fired-now = Derived P on marks₀ fired₀ at (Some to) marks missing fired-now
+Turned P on marks₀ fired₀ at before to Stopped marks missing ready fired-now = Derived P on marks₀ fired₀ at None marks missing fired-now

@@ -4,8 +4,6 @@
 
 #![tactic(auto)]
 
-pub mod derivation;
-pub mod found;
 pub mod least;
 pub mod start;
 pub mod turn;

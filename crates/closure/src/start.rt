@@ -1,35 +1,34 @@
 // A derivation from any set, with an index of its own. Internal.
 ghost use Rattle.std.specs.Prelude.{◌≡◌, length};
 ghost use Rattle.items.specs.Item.{narrow, max_facts, max_rules};
-ghost use Rattle.tables.specs.Layout.{program_in, WellFormed};
+ghost use Rattle.tables.specs.Held.{held};
 ghost use Rattle.premises.specs.Plain.{mask_in, PlainIndexed, Zeroed, RowsAre, Masks, OnlyPlain};
 ghost use Rattle.closure.specs.Room.{Room};
 ghost use Rattle.closure.specs.Deriving.{Derived};
 
-use crate::derivation::Derivation;
 use crate::least::derive;
 use bits::row::ROW_WORDS;
 use items::item::{MAX_FACTS, MAX_RULES};
 use premises::plain::{PLAIN_WORDS, index_plain};
 use premises::wake::enter_set;
-use tables::layout::TABLE_CELLS;
+use tables::layout::Tables;
 
 // Fills the index, which is empty before, and derives from the set of the marks by the plain rules of a mask; what each plain rule lacks is counted on
 // from the empty set.
 pub fn start(
-    tables: &[u16; TABLE_CELLS],
+    tables: &Tables,
     mask: &[u8; MAX_RULES],
     index: &mut [u64; PLAIN_WORDS],
     marks: &mut [u8; MAX_FACTS],
     missing: &mut [u16; MAX_RULES],
     fired: &mut [u16; MAX_FACTS],
-) -> Derivation
-    requires well_formed { WellFormed tables.now × OnlyPlain (program_in tables.now) mask.now × Zeroed index.old }
-    requires room { Room (program_in tables.now) marks.old 0 × (length missing.old ≡ max_rules) × (length fired.old ≡ max_facts narrow) }
-    ensures rows_are { RowsAre (program_in tables.now) index.new }
-    ensures plain_indexed { PlainIndexed (program_in tables.now) index.new }
+) -> Option<usize>
+    requires only_plain { OnlyPlain (held tables.now) mask.now × Zeroed index.old }
+    requires room { Room (held tables.now) marks.old 0 × (length missing.old ≡ max_rules) × (length fired.old ≡ max_facts narrow) }
+    ensures rows_are { RowsAre (held tables.now) index.new }
+    ensures plain_indexed { PlainIndexed (held tables.now) index.new }
     ensures masks { Masks mask.now index.new }
-    ensures derived { Derived (program_in tables.now) (mask_in index.new) marks.old fired.old 0 result marks.new missing.new fired.new }
+    ensures derived { Derived (held tables.now) (mask_in index.new) marks.old fired.old 0 result marks.new missing.new fired.new }
 {
     let mut ready = [0u64; ROW_WORDS];
     index_plain(tables, mask, index, missing, &mut ready);

@@ -11,7 +11,8 @@ use Rattle.theory.specs.Rule.{mem, Program, in_force, count, rule}
 use Rattle.theory.specs.Layers.{Cycle}
 use Rattle.theory.proofs.Bools.{either}
 use Rattle.items.specs.Item.{narrow, max_facts}
-use Rattle.components.specs.declared.«open».Merge.TheVariants.{Barred}
+use Rattle.std.specs.Prelude.{Err}
+use Rattle.components.specs.declared.look.Cyclic.{Cyclic}
 use Rattle.components.specs.Open.{Reaches, ReachesBarred, nowhere, seen_of, fact_at, opener_at, root_place, Walking, Current, MayOpen, Gone, Merges}
 use Rattle.components.specs.Look.{body_part}
 use Rattle.components.proofs.Reaching.{one_link, barring_link, reaches_join, then_barred, round}
@@ -105,8 +106,8 @@ module _ {P : Program} {seen stack roots : List ℕ} {n m at : ℕ} (w : Walking
           under a b la lb behind h = w.reaches a b la lb (λ t l u. ⊎_elim (λ s. behind t s u) (λ s. omega (arith, s)) (stays t l))
 
       -- Where one of the roots that would go was met by a constraint, a cycle is met.
-      pub merge_cycle : Merges roots m low Barred → Cycle P (in_force P)
-      merge_cycle gone =
+      pub merge_cycle : (e : Cyclic) → Merges roots m low (Err e) → Cycle P (in_force P)
+      merge_cycle e gone =
           let (t, (l, (behind, met))) = gone in
           round P (fact_at stack low) (fact_at stack (root_place roots t))
           (w.barred_root t l met low behind)
@@ -127,5 +128,5 @@ module _ {P : Program} {seen stack roots : List ℕ} {n m : ℕ} (w : Walking P 
           (λ e. let h : left < m = leb-false _ _ e in absurd (none_behind left h (gone.1 left (omega arith) h).0))
           (either (leb m left))
 
-  pub none_cycle : Merges roots m nowhere Barred → ⊥
-  none_cycle gone = none_behind gone.0 gone.1.0 gone.1.1.0
+  pub none_cycle : (e : Cyclic) → Merges roots m nowhere (Err e) → ⊥
+  none_cycle e gone = none_behind gone.0 gone.1.0 gone.1.1.0

@@ -1,7 +1,6 @@
 pub mod RuleLooked
 pub mod StackCells
 pub mod ComponentClosed
-pub mod RootsLeft
 pub mod FactOpened
 pub mod Reaching
 pub mod ComponentWalk

@@ -1,11 +1,12 @@
 -- Internal: what looking at a rule finds among its premises and constraints.
-use Rattle.std.specs.Prelude.{ℕ, ◌+◌, ◌<◌, ◌≤◌, ◌≡◌, Bool, true, false, cond, List, ◌⊎◌}
+use Rattle.std.specs.Prelude.{ℕ, ◌+◌, ◌<◌, ◌≤◌, ◌≡◌, Bool, true, false, cond, List, ◌⊎◌, Result, Ok, Err}
 use Rattle.theory.specs.Rule.{mem, Program, in_force, rule}
 use Rattle.theory.specs.Layers.{Ranks}
 use Rattle.theory.specs.Places.{rank_in}
 use Rattle.items.specs.Item.{narrow, max_facts}
 use Rattle.components.specs.declared.look.Look.{Look}
-use Rattle.components.specs.declared.look.Look.TheVariants.{Unmet, Barred, Seen}
+use Rattle.components.specs.declared.look.Look.TheVariants.{Unmet, Seen}
+use Rattle.components.specs.declared.look.Cyclic.{Cyclic}
 use Rattle.components.specs.Open.{unmet, nowhere, seen_of}
 
 -- the premises, or the constraints, of rule i
@@ -30,16 +31,16 @@ pub record Asked (P : Program) (i : ℕ) (seen ranks : List ℕ) (high : ℕ) : 
   pub under : (rank : ℕ → ℕ) → Ranks P (in_force P) rank → high ≤ rank (rule P i).conclusion
   pub bounded : (b : ℕ) → ((f : ℕ) → rank_in ranks f ≤ b) → ((f : ℕ) → f < P.facts → (seen_of seen f ≡ unmet → ⊥) → (seen_of seen f < max_facts narrow → ⊥) → rank_in ranks f < b) → high ≤ b
 
--- What was found: a fact of the rule that was not met, as a premise or as a constraint; a constraint that is open; or, of facts that are all met, the lowest place
--- of a premise that is open, if there is one, and a rank that the conclusion must have.
-abbrev pub LookFinds : Program → ℕ → List ℕ → List ℕ → Look → Type 0
-LookFinds P i seen ranks (Unmet f barring) = (mem f.0 (body_part P i barring) ≡ true) × ((f.0 < P.facts) × (seen_of seen f.0 ≡ unmet))
-LookFinds P i seen ranks Barred = (k : ℕ) × ((mem k (rule P i).constraints ≡ true) × ((k < P.facts) × (seen_of seen k < max_facts narrow)))
-LookFinds P i seen ranks (Seen low high) =
+-- What was found: a fact of the rule that was not met, as a premise or as a constraint; or, of facts that are all met, the lowest place of a premise that is open,
+-- if there is one, and a rank that the conclusion must have. Or a constraint is open.
+abbrev pub LookFinds : Program → ℕ → List ℕ → List ℕ → Result Look Cyclic → Type 0
+LookFinds P i seen ranks (Ok (Unmet f barring)) = (mem f.0 (body_part P i barring) ≡ true) × ((f.0 < P.facts) × (seen_of seen f.0 ≡ unmet))
+LookFinds P i seen ranks (Ok (Seen low high)) =
     (PremisePlace P i seen low × Asked P i seen ranks high) × (EachNoted P i false seen ranks low high × EachNoted P i true seen ranks low high)
+LookFinds P i seen ranks (Err _) = (k : ℕ) × ((mem k (rule P i).constraints ≡ true) × ((k < P.facts) × (seen_of seen k < max_facts narrow)))
 
 -- .. among the premises alone, or the constraints
-abbrev pub PartFinds : Program → ℕ → Bool → List ℕ → List ℕ → Look → Type 0
-PartFinds P i barring seen ranks (Unmet f by) = LookFinds P i seen ranks (Unmet f by)
-PartFinds P i barring seen ranks Barred = LookFinds P i seen ranks Barred
-PartFinds P i barring seen ranks (Seen low high) = (PremisePlace P i seen low × Asked P i seen ranks high) × EachNoted P i barring seen ranks low high
+abbrev pub PartFinds : Program → ℕ → Bool → List ℕ → List ℕ → Result Look Cyclic → Type 0
+PartFinds P i barring seen ranks (Ok (Unmet f by)) = LookFinds P i seen ranks (Ok (Unmet f by))
+PartFinds P i barring seen ranks (Ok (Seen low high)) = (PremisePlace P i seen low × Asked P i seen ranks high) × EachNoted P i barring seen ranks low high
+PartFinds P i barring seen ranks (Err e) = LookFinds P i seen ranks (Err e)

@@ -1,12 +1,11 @@
 -- Internal: the walk along dependencies that finds the strong components (sets of facts each of which depends on each other), after Gabow: facts are
 -- open from when they are met until their component is closed, and stand on a stack; some of them are roots, where a component begins as far as is known.
-use Rattle.std.specs.Prelude.{ℕ, ◌+◌, ◌-◌, ◌/◌, ◌%◌, ◌<◌, ◌≤◌, ◌≡◌, Bool, true, false, cond, not, List, length, get_or, eqb, ltb}
+use Rattle.std.specs.Prelude.{ℕ, ◌+◌, ◌-◌, ◌/◌, ◌%◌, ◌<◌, ◌≤◌, ◌≡◌, Bool, true, false, cond, not, List, length, get_or, eqb, ltb, Result, Ok, Err}
 use Rattle.theory.specs.Rule.{how_many, up_to, Program, in_force}
 use Rattle.theory.specs.Layers.{Link, Chain, barred}
 use Rattle.items.specs.Item.{narrow, max_facts}
 use Rattle.theory.specs.Places.{rank_in}
-use Rattle.components.specs.declared.«open».Merge.{Merge}
-use Rattle.components.specs.declared.«open».Merge.TheVariants.{Left, Barred}
+use Rattle.components.specs.declared.look.Cyclic.{Cyclic}
 
 -- f depends on g, directly or not, or is g; .. and by a constraint on the way.
 abbrev pub Reaches : Program → ℕ → ℕ → Type 0
@@ -94,9 +93,9 @@ abbrev pub Gone : List ℕ → ℕ → ℕ → ℕ → Type 0
 Gone roots m low left = (left ≤ m) × ((t : ℕ) → left ≤ t → t < m → (low < root_place roots t) × (root_barred roots t ≡ false))
 
 -- Of the roots those behind a place go, none of them met by a constraint; or one of them was.
-abbrev pub Merges : List ℕ → ℕ → ℕ → Merge → Type 0
-Merges roots m low (Left left) = Gone roots m low left × (0 < left → root_place roots (left - 1) ≤ low)
-Merges roots m low Barred = (t : ℕ) × ((t < m) × ((low < root_place roots t) × (root_barred roots t ≡ true)))
+abbrev pub Merges : List ℕ → ℕ → ℕ → Result ℕ Cyclic → Type 0
+Merges roots m low (Ok left) = Gone roots m low left × (0 < left → root_place roots (left - 1) ≤ low)
+Merges roots m low (Err _) = (t : ℕ) × ((t < m) × ((low < root_place roots t) × (root_barred roots t ≡ true)))
 
 -- The facts from one place up to another are closed, with the highest rank of any of them; nothing else has changed.
 pub record ClosedFrom (stack : List ℕ) (from to : ℕ) (seen ranks seen' ranks' : List ℕ) : Type 0 where

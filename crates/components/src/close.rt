@@ -9,19 +9,15 @@ use crate::open::fact_at;
 use items::item::MAX_FACTS;
 
 // The highest rank of the facts from one place of the stack up to another.
+// Places of the whole stack, here and below, since the contracts count from its bottom: a slice would count from `from`.
 fn highest_rank(stack: &[u16; MAX_FACTS], ranks: &[u16; MAX_FACTS], from: usize, to: usize) -> u16
     requires { (from < to) × (to ≤ max_facts narrow) }
     ensures by_index { (a : ℕ) × ((from ≤ a) × ((a < to) × (result ≡ rank_in ranks.now (fact_at stack.now a)))) }
     ensures by_index_2 { (a : ℕ) → from ≤ a → a < to → rank_in ranks.now (fact_at stack.now a) ≤ result }
 {
     let mut high = ranks[fact_at(stack, from)];
-    let mut a = from + 1;
-    while a < to {
-        let rank = ranks[fact_at(stack, a)];
-        if high < rank {
-            high = rank;
-        }
-        a += 1;
+    for a in from + 1..to {
+        high = high.max(ranks[fact_at(stack, a)]);
     }
     high
 }
@@ -39,11 +35,9 @@ pub fn close_from(
     ensures { ClosedFrom stack.now from to seen.old ranks.old seen.new ranks.new }
 {
     let high = highest_rank(stack, ranks, from, to);
-    let mut a = from;
-    while a < to {
+    for a in from..to {
         let fact = fact_at(stack, a);
         seen[fact] = CLOSED;
         ranks[fact] = high;
-        a += 1;
     }
 }

@@ -4,35 +4,45 @@ ghost use Rattle.items.specs.Item.{narrow, max_facts};
 ghost use Rattle.theory.specs.Rule.{Program};
 ghost use Rattle.components.specs.Open.{unmet, seen_of, fact_at, opener_at, root_place, root_barred, Walking, Current, MayOpen, Opened, Merges};
 
+use crate::look::Cyclic;
 use items::item::{FactId, MAX_FACTS};
 use tables::layout::wide;
 
 // A root that was met by a constraint has this added to its place.
+// One number for the two, as in a cell of the stack.
 const BARRED: u16 = MAX_FACTS as u16;
 
+// How many facts are open, how many of them are roots, and the place of the one that is looked at.
+#[derive(Clone, Copy)]
+pub struct Standing {
+    pub height: usize,
+    pub roots: usize,
+    pub at: usize,
+}
+
 // Opens a fact that was not met: it is the last one of the stack, and a root. Its cell of the stack holds the fact and, 256 times, the place of the fact
-// that opened it: one array in the place of two keeps the turn of the walk at eight parameters.
+// that opened it.
+// One number for the two, so that the stack is a row of numbers as the rows beside it are; all are of fixed length, since there is no heap.
 pub fn open_fact(
     seen: &mut [u16; MAX_FACTS],
     stack: &mut [u16; MAX_FACTS],
     roots: &mut [u16; MAX_FACTS],
-    height: usize,
-    count: usize,
-    opener: usize,
+    standing: Standing,
     fact: FactId,
     barring: bool,
 )
     requires seen_len { (length seen.old ≡ max_facts narrow) × (length stack.old ≡ max_facts narrow) × (length roots.old ≡ max_facts narrow) }
-    requires height_bound { (height < max_facts narrow) × (count ≤ height) × (opener < max_facts narrow) × (fact.0 < max_facts narrow) }
-    ensures { (P : Program) → Walking P seen.old stack.old roots.old height count → (0 < height → Current roots.old height count opener) → fact.0 < P.facts → seen_of seen.old fact.0 ≡ unmet → MayOpen P stack.old height fact.0 barring → Opened P seen.old stack.old roots.old height count opener fact.0 seen.new stack.new roots.new }
+    requires height_bound { (standing.height < max_facts narrow) × (standing.roots ≤ standing.height) × (standing.at < max_facts narrow) × (fact.0 < max_facts narrow) }
+    ensures { (P : Program) → Walking P seen.old stack.old roots.old standing.height standing.roots → (0 < standing.height → Current roots.old standing.height standing.roots standing.at) → fact.0 < P.facts → seen_of seen.old fact.0 ≡ unmet → MayOpen P stack.old standing.height fact.0 barring → Opened P seen.old stack.old roots.old standing.height standing.roots standing.at fact.0 seen.new stack.new roots.new }
 {
+    let height = standing.height;
     seen[fact.0 as usize] = height as u16;
-    stack[height] = (fact.0 as usize + MAX_FACTS * opener) as u16;
+    stack[height] = (fact.0 as usize + MAX_FACTS * standing.at) as u16;
     let mut root = height as u16;
     if barring {
         root += BARRED;
     }
-    roots[count] = root;
+    roots[standing.roots] = root;
 }
 
 // The fact at a place of the stack.
@@ -71,28 +81,20 @@ fn is_barred(roots: &[u16; MAX_FACTS], root: usize) -> bool
     roots[root] >= BARRED
 }
 
-// What is left of the roots when those behind a place go, or that one of these was met by a constraint.
-#[derive(Clone, Copy)]
-pub enum Merge {
-    Left(usize),
-    Barred,
-}
-
-// The roots behind a place go: what stands there is one component with what stands at the place.
-pub fn merge_roots(roots: &[u16; MAX_FACTS], count: usize, low: u16) -> Merge
+// The roots behind a place go: what stands there is one component with what stands at the place. Answers how many are left; where one of those that go was
+// met by a constraint, the component has a cycle through it.
+// The roots are a row of fixed length, since there is no heap: `count` is how many stand in it, and the answer is the next count.
+pub fn merge_roots(roots: &[u16; MAX_FACTS], count: usize, low: u16) -> Result<usize, Cyclic>
     requires { (count ≤ max_facts narrow) × (length roots.now ≡ max_facts narrow) }
     ensures { Merges roots.now count low result }
 {
-    let mut left = count;
-    while left > 0 {
-        let root = left - 1;
-        if root_place(roots, root) <= low as usize {
-            return Merge::Left(left);
+    for root in (0..count).rev() {
+        if root_place(roots, root) <= usize::from(low) {
+            return Ok(root + 1);
         }
         if is_barred(roots, root) {
-            return Merge::Barred;
+            return Err(Cyclic);
         }
-        left = root;
     }
-    Merge::Left(left)
+    Ok(0)
 }

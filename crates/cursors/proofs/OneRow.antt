@@ -1,34 +1,38 @@
 -- The ways through a read whose row is known, for a kind with a body of any length.
 use Prim.Native.Nat.{ℕ, ◌+◌, ◌-◌, ◌<◌, ◌≤◌}
-use mathlib.Core.Path.{◌≡◌, sym, ap, ap₂, ◌∙◌}
-use mathlib.Core.Bool.{true, false}
+use mathlib.Core.Path.{◌≡◌, refl, sym, ap, ap₂, ◌∙◌}
+use mathlib.Core.Bool.{Bool, true, false}
+use mathlib.Core.Logic.{◌⊎◌, inl, inr}
 use mathlib.Core.List.{List}
 use native.Mathlib.Omega.{arith}
-use borrow.Author.Tests.{ne_eqb}
 use lib.ListN.{length, get_or, take, drop}
 use Rattle.cursors.specs.declared.cursor.Row.{Row}
 use Rattle.items.specs.declared.item.Item.{Item}
+use Rattle.items.specs.declared.item.Kind.{Kind}
 use Rattle.cursors.specs.declared.cursor.Row.TheVariants.{Body}
 use Rattle.cursors.specs.declared.cursor.Fault.{Fault}
 use Rattle.cursors.specs.declared.cursor.Fault.TheVariants.{NoByte, OtherKind, ShortBody}
 use Rattle.cursors.specs.declared.cursor.Cursor.{Cursor}
 use Rattle.cursors.specs.declared.cursor.Read.TheVariants.{Found}
 use Rattle.items.specs.Question.{first_no}
-use Rattle.items.specs.Item.{narrow, Width, opens_kind, premise_kind, constraint_kind, rules_kind, unread_kind, body_length, item_of}
+use Rattle.items.specs.Item.{narrow, Width, no_such_kind, kind_number, body_length, item_of}
 use Rattle.cursors.specs.Cursor.{bad, place_questions, stayed, width_in, of_row, row_after, next_at}
-use Rattle.cursors.proofs.EachKind.{all-narrow}
+use Rattle.cursors.proofs.EachKind.{all-narrow, known}
 use Rattle.cursors.proofs.CursorWays.{no_byte, other-kind, short_body, whole_item}
 
--- The kinds that are not of a file's body: none of the five is.
-not-in_body : (k : ℕ) → (k ≡ opens_kind narrow → ⊥) → (k ≡ premise_kind narrow → ⊥) → (k ≡ constraint_kind narrow → ⊥) → (k ≡ rules_kind → ⊥) → (k ≡ unread_kind narrow → ⊥) → of_row Body k ≡ false
-not-in_body k o p q r u = rw (ne_eqb k (opens_kind narrow) o, ne_eqb k (premise_kind narrow) p, ne_eqb k (constraint_kind narrow) q, ne_eqb k rules_kind r, ne_eqb k (unread_kind narrow) u)
+-- A byte that stands for no kind is of no row.
+pub no-kind : (row : Row) (k : ℕ) → body_length narrow k ≡ no_such_kind → of_row row k ≡ false
+no-kind row k h = go (of_row row k) refl
+  where
+    go : (b : Bool) → of_row row k ≡ b → b ≡ false
+    go true e = absurd (omega (arith, known row k e))
+    go false e = refl
 
--- Past the kinds of a rule's items there are the last item's and an unread fact's alone, and among them are those of three items.
-pub past-rule_kinds : (k : ℕ) → constraint_kind narrow < k → (k ≡ rules_kind → ⊥) → (k ≡ unread_kind narrow → ⊥) → of_row Body k ≡ false
-past-rule_kinds k h r u = not-in_body k (λ e. omega arith) (λ e. omega arith) (λ e. omega arith) r u
-
-pub no-rule_kind : (k : ℕ) → k ≤ constraint_kind narrow → (k ≡ opens_kind narrow → ⊥) → (k ≡ premise_kind narrow → ⊥) → (k ≡ constraint_kind narrow → ⊥) → of_row Body k ≡ false
-no-rule_kind k h o p q = not-in_body k o p q (λ e. omega arith) (λ e. omega arith)
+-- The kinds that are not of a file's body.
+pub not-in_body : (k : Kind) → (k ≡ Kind.Facts) ⊎ ((k ≡ Kind.Names) ⊎ (k ≡ Kind.Step)) → of_row Body (kind_number k) ≡ false
+not-in_body k (inl e) = rw e
+not-in_body k (inr (inl e)) = rw e
+not-in_body k (inr (inr e)) = rw e
 
 module _ (s : List ℕ) (c : Cursor) (row : Row) (known : c.row ≡ row) where
   stays : (fault : Fault) → next_at s c ≡ stayed (first_no (place_questions c.row (bad fault))) c → stayed (first_no (place_questions row (bad fault))) c ≡ next_at s c

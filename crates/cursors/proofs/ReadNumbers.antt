@@ -44,5 +44,5 @@ module _ (s : List ℕ) (c : Cursor) where
       kept (bad fault) l = stayed-there (first_no (place_questions c.row (bad fault)))
 
   -- a read that is the one defined, in numbers
-  pub read_answered : (r : Read) → r ≡ next_at s c → (r ≡ next_at s c) × ReadNumbers s c r
-  read_answered r e = (e, rw e read_numbers)
+  pub read_numbered : (r : Read) → r ≡ next_at s c → ReadNumbers s c r
+  read_numbered r e = rw e read_numbers

@@ -134,16 +134,20 @@ abbrev pub ended : List Token → Bool
 ended [] = true
 ended (t ∷ ts) = false
 
+-- Where a row begins.
+abbrev pub start_of : Row → Cursor
+start_of row = record { at = 0; row = row }
+
 -- Where a file begins.
 abbrev pub file_start : Cursor
-file_start = record { at = 0; row = Opening }
+file_start = start_of Opening
 
 -- Where an order, a list or a proof row begins.
 abbrev pub order_start : Cursor
-order_start = record { at = 0; row = Order }
+order_start = start_of Order
 
 abbrev pub steps_start : Cursor
-steps_start = record { at = 0; row = Steps }
+steps_start = start_of Steps
 
 -- A place in the body of a file.
 abbrev pub body_at : ℕ → Cursor

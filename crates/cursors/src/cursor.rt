@@ -1,16 +1,14 @@
 ghost use Rattle.std.specs.Prelude.{◌≡◌, true, ℕ, ◌<◌, length, get_or, eqb};
 ghost use Rattle.items.specs.Question.{first_no};
+ghost use Rattle.items.specs.Item.{kind_number};
 ghost use Rattle.cursors.specs.declared.cursor.Row.TheVariants.{Opening, Body, Order, Steps};
-ghost use Rattle.cursors.specs.Cursor.{bad, place_questions, stayed, of_row, row_after, next_at, ReadNumbers};
+ghost use Rattle.cursors.specs.Cursor.{bad, place_questions, stayed, of_row, row_after, next_at, start_of, ReadNumbers};
 
-use items::item::{
-    CONSTRAINT_KIND, FACTS_KIND, Item, KIND_BYTES, NAMES_KIND, OPENS_KIND, PREMISE_KIND,
-    RULES_KIND, STEP_KIND, UNREAD_KIND,
-};
+use items::item::{Item, KIND_BYTES, Kind};
 use items::refusal::Refusal;
 
 // Which row of items is read: it decides the kinds that may stand there, and the refusal where none does.
-#[derive(Clone, Copy)]
+#[derive(Clone, Copy, Debug, PartialEq, Eq)]
 pub enum Row {
     // The first item of a file, and the items after it.
     Opening,
@@ -22,7 +20,7 @@ pub enum Row {
 }
 
 // What can be wrong where an item is read, in the order in which it is asked.
-#[derive(Clone, Copy)]
+#[derive(Clone, Copy, Debug, PartialEq, Eq)]
 pub enum Fault {
     NoByte,
     OtherKind,
@@ -30,7 +28,7 @@ pub enum Fault {
 }
 
 // A place between two items of a row.
-#[derive(Clone, Copy)]
+#[derive(Clone, Copy, Debug, PartialEq, Eq)]
 pub struct Cursor {
     pub at: usize,
     pub row: Row,
@@ -38,7 +36,7 @@ pub struct Cursor {
 
 // A read gives the item and the cursor past it, or the cursor as it was, with the refusal or past the last item of an order, a list or a
 // proof row.
-#[derive(Clone, Copy)]
+#[derive(Clone, Copy, Debug, PartialEq, Eq)]
 pub enum Read {
     Found(Item, Cursor),
     Refused(Refusal, Cursor),
@@ -75,19 +73,17 @@ fn row_after(row: Row) -> Row
 {
     match row {
         Row::Opening => Row::Body,
-        Row::Body => Row::Body,
-        Row::Order => Row::Order,
-        Row::Steps => Row::Steps,
+        _ => row,
     }
 }
 
-// The read of an item whose kind is of the row. Each call writes the kind out, so that the compiler looks its length up and no loop has to.
-fn read_kind(row: Row, kind: u8, bytes: &[u8], here: Cursor) -> Read
-    requires { (here.row ≡ row) × (here.at < length bytes.now) × (get_or bytes.now here.at 0 ≡ kind) × (of_row row kind ≡ true) }
+// The read of an item whose kind is of the row. Where a call writes the kind out the compiler looks its length up, and no loop has to.
+fn read_kind(row: Row, kind: Kind, bytes: &[u8], here: Cursor) -> Read
+    requires { (here.row ≡ row) × (here.at < length bytes.now) × (get_or bytes.now here.at 0 ≡ kind_number kind) × (of_row row (kind_number kind) ≡ true) }
     ensures { result ≡ next_at bytes.now here }
 {
     let body = here.at + KIND_BYTES;
-    let length = items::lengths::body_length(kind);
+    let length = items::lengths::body_length(kind.byte());
     if bytes.len() - body < length {
         return stay(row, Fault::ShortBody, here);
     }
@@ -102,21 +98,28 @@ fn read_kind(row: Row, kind: u8, bytes: &[u8], here: Cursor) -> Read
 }
 
 // The read in a row that has items of this kind only.
-fn read_only(row: Row, kind: u8, bytes: &[u8], here: Cursor) -> Read
-    requires { (here.row ≡ row) × ((k : ℕ) → of_row row k ≡ eqb k kind) }
+fn read_only(row: Row, kind: Kind, bytes: &[u8], here: Cursor) -> Read
+    requires { (here.row ≡ row) × ((k : ℕ) → of_row row k ≡ eqb k (kind_number kind)) }
     ensures { result ≡ next_at bytes.now here }
 {
     let at = here.at;
     if bytes.len() <= at {
         return stay(row, Fault::NoByte, here);
     }
-    if bytes[at] != kind {
+    if bytes[at] != kind.byte() {
         return stay(row, Fault::OtherKind, here);
     }
     read_kind(row, kind, bytes, here)
 }
 
 impl Cursor {
+    // Where a row begins.
+    pub fn start(row: Row) -> Cursor
+        ensures { result ≡ start_of row }
+    {
+        Cursor { at: 0, row }
+    }
+
     // Moves past one whole item, or says why there is none.
     pub fn next(self, bytes: &[u8]) -> Read
         ensures value { result ≡ next_at bytes.now self }
@@ -138,7 +141,7 @@ impl Cursor {
         requires { self.row ≡ Opening }
         ensures { result ≡ next_at bytes.now self }
     {
-        read_only(Row::Opening, FACTS_KIND, bytes, self)
+        read_only(Row::Opening, Kind::Facts, bytes, self)
     }
 
     // In the body of a file.
@@ -150,21 +153,16 @@ impl Cursor {
         if bytes.len() <= at {
             return stay(Row::Body, Fault::NoByte, self);
         }
-        let kind = bytes[at];
-        // The kinds of a rule's items are neighbours, and the other two lie behind them. In one match they would be a jump through a table of addresses,
-        // which takes a fifth longer and more where premises and constraints stand mixed.
-        if CONSTRAINT_KIND < kind {
-            return match kind {
-                RULES_KIND => read_kind(Row::Body, RULES_KIND, bytes, self),
-                UNREAD_KIND => read_kind(Row::Body, UNREAD_KIND, bytes, self),
-                _ => stay(Row::Body, Fault::OtherKind, self),
-            };
-        }
+        let Some(kind) = Kind::of_byte(bytes[at]) else {
+            return stay(Row::Body, Fault::OtherKind, self);
+        };
         match kind {
-            OPENS_KIND => read_kind(Row::Body, OPENS_KIND, bytes, self),
-            PREMISE_KIND => read_kind(Row::Body, PREMISE_KIND, bytes, self),
-            CONSTRAINT_KIND => read_kind(Row::Body, CONSTRAINT_KIND, bytes, self),
-            _ => stay(Row::Body, Fault::OtherKind, self),
+            Kind::Opens => read_kind(Row::Body, Kind::Opens, bytes, self),
+            Kind::Premise => read_kind(Row::Body, Kind::Premise, bytes, self),
+            Kind::Constraint => read_kind(Row::Body, Kind::Constraint, bytes, self),
+            Kind::Unread => read_kind(Row::Body, Kind::Unread, bytes, self),
+            Kind::Rules => read_kind(Row::Body, Kind::Rules, bytes, self),
+            Kind::Facts | Kind::Names | Kind::Step => stay(Row::Body, Fault::OtherKind, self),
         }
     }
 
@@ -173,7 +171,7 @@ impl Cursor {
         requires { self.row ≡ Order }
         ensures { result ≡ next_at bytes.now self }
     {
-        read_only(Row::Order, NAMES_KIND, bytes, self)
+        read_only(Row::Order, Kind::Names, bytes, self)
     }
 
     // In a proof row.
@@ -181,6 +179,6 @@ impl Cursor {
         requires { self.row ≡ Steps }
         ensures { result ≡ next_at bytes.now self }
     {
-        read_only(Row::Steps, STEP_KIND, bytes, self)
+        read_only(Row::Steps, Kind::Step, bytes, self)
     }
 }

@@ -1,28 +1,23 @@
 -- Each public operation refuses exactly: the instances, by the one law.
 use Prim.Native.Nat.{ℕ}
-use mathlib.Core.Path.{◌≡◌, refl, ap, ◌∙◌}
-use mathlib.Core.Bool.{Bool, true, false, cond}
+use mathlib.Core.Path.{ap}
 use mathlib.Core.List.{List}
 use lib.ListN.{length}
-use Rattle.theory.specs.Rule.{in_force, count, exception}
-use Rattle.theory.specs.Check.{is_stable, is_proof}
+use Rattle.theory.specs.Rule.{count, exception}
 use Rattle.items.specs.Question.{Question, no_number}
 use Rattle.reader.specs.Questions.{program_of}
 use Rattle.reader.specs.Accept.{accept_of}
-use Rattle.items.specs.Item.{has}
-use Rattle.questions.specs.Questions.{row_of, list_questions, order_questions, set_questions, row_questions, ask_list_questions, ask_order_questions, ask_set_questions, ask_row_questions}
+use Rattle.questions.specs.Questions.{list_questions, order_questions, set_questions, row_questions, ask_list_questions, ask_order_questions, ask_set_questions, ask_row_questions}
 use Rattle.run.specs.Outcome.{run_outcome, run_written}
 use Rattle.keeping.specs.Outcome.{grounds_outcome, grounds_written}
-use Rattle.judge.specs.declared.answer.Judged.TheVariants.{Stable, NotStable}
-use Rattle.judge.specs.Judged.{unlisted, judged, judged_number}
-use Rattle.proofcheck.specs.declared.answer.Checked.TheVariants.{Yes, No}
-use Rattle.proofcheck.specs.Checked.{checked, checked_number}
+use Rattle.judge.specs.Judged.{judged}
+use Rattle.proofcheck.specs.Checked.{checked}
 use Rattle.search.specs.Outcome.{search_outcome, search_written}
 use Rattle.layers.specs.Outcome.{layered_outcome, ordered_by}
 use Rattle.better.specs.Outcome.{choice_of}
-use Rattle.better.proofs.Chosen.{choice-means, none_handed}
+use Rattle.better.proofs.Chosen.{none_handed}
 use Rattle.generator.specs.Outcome.{load_outcome, load_written}
-use Rattle.replies.specs.Reply.{file_of, counts_of_ran, counts_of_searched, verdict_of_judged, verdict_of_checked, run_reply, search_reply, count_of_grounds, grounds_reply, count_of_layered, layered_reply, count_of_loaded, load_reply, reply_of_choice}
+use Rattle.replies.specs.Reply.{file_of, counts_of, verdict_of, count_of, run_reply, search_reply, grounds_reply, layered_reply, load_reply, reply_of_choice}
 use Rattle.demands.specs.Demands.{Demand1}
 use Rattle.demands.specs.Calls.{RefusesExactly, list_numbers, order_numbers, set_numbers, row_numbers, accept_call, ask_call, ask_list_call, ask_order_call, ask_set_call, ask_row_call, run_call, grounds_call, judge_call, check_call, search_call, layered_call, choose_call, better_call, load_call}
 use Rattle.demands.specs.RetentionCalls.{retention_accept_call, retention_run_call, retention_grounds_call, retention_judge_call, retention_check_call, retention_search_call, retention_layered_call, retention_better_call, retention_load_call}
@@ -93,13 +88,9 @@ judge_exactly file list set =
     refuses_exactly 1 (judge_call file list set)
     (record {
       own_numbers = judge_own file list set;
-      all_yes = λ h. rw (h, judged) (either_way (is_stable (program_of file) (unlisted (program_of file) list) (has set)));
+      all_yes = λ h. rw (h, judged);
       first-no = λ r h. rw (h, judged);
     })
-  where
-    either_way : (b : Bool) → judged_number (cond b Stable NotStable) ≡ 0
-    either_way true = refl
-    either_way false = refl
 
 pub check_exactly : (file set : List ℕ) (fact : ℕ) (row : List ℕ) → RefusesExactly (check_call file set fact row)
 unfolding checked
@@ -107,13 +98,9 @@ check_exactly file set fact row =
     refuses_exactly 1 (check_call file set fact row)
     (record {
       own_numbers = check_own file set fact row;
-      all_yes = λ h. rw (h, checked) (either_way (is_proof (program_of file) (in_force (program_of file)) (has set) (row_of row) fact));
+      all_yes = λ h. rw (h, checked);
       first-no = λ r h. rw (h, checked);
     })
-  where
-    either_way : (b : Bool) → checked_number (cond b Yes No) ≡ 0
-    either_way true = refl
-    either_way false = refl
 
 pub search-exactly : (file facts rules steps order : List ℕ) → RefusesExactly (search_call file facts rules steps order)
 unfolding search_outcome search_written
@@ -141,7 +128,7 @@ choose_exactly file first second =
     refuses_exactly 1 (choose_call file first second)
     (record {
       own_numbers = better-own file first second;
-      all_yes = λ h. (choice-means file first second).numbered ∙ ap no_number h;
+      all_yes = λ h. rw (h, choice_of);
       first-no = λ r h. rw (h, choice_of);
     })
 
@@ -172,27 +159,27 @@ retention_accept_exactly file =
     (record { own_numbers = file_own file; all_yes = λ h. rw (h, accept_of); first-no = λ r h. rw (h, accept_of) })
 
 pub retention_run_exactly : (file order facts rules steps : List ℕ) → RefusesExactly (retention_run_call file order facts rules steps)
-unfolding run_reply counts_of_ran
+unfolding run_reply counts_of
 retention_run_exactly = run-exactly
 
 pub retention_grounds_exactly : (file order : List ℕ) (fact : ℕ) (facts rules steps : List ℕ) → RefusesExactly (retention_grounds_call file order fact facts rules steps)
-unfolding grounds_reply count_of_grounds
+unfolding grounds_reply count_of
 retention_grounds_exactly = grounds_exactly
 
 pub retention_judge_exactly : (file list set : List ℕ) → RefusesExactly (retention_judge_call file list set)
-unfolding verdict_of_judged
+unfolding verdict_of
 retention_judge_exactly = judge_exactly
 
 pub retention_check_exactly : (file set : List ℕ) (fact : ℕ) (row : List ℕ) → RefusesExactly (retention_check_call file set fact row)
-unfolding verdict_of_checked
+unfolding verdict_of
 retention_check_exactly = check_exactly
 
 pub retention_search_exactly : (file facts rules steps order : List ℕ) → RefusesExactly (retention_search_call file facts rules steps order)
-unfolding search_reply counts_of_searched
+unfolding search_reply counts_of
 retention_search_exactly = search-exactly
 
 pub retention_layered_exactly : (file order : List ℕ) → RefusesExactly (retention_layered_call file order)
-unfolding layered_reply count_of_layered
+unfolding layered_reply count_of
 retention_layered_exactly = layered_exactly
 
 pub retention_better_exactly : (file first second : List ℕ) → RefusesExactly (retention_better_call file first second)
@@ -200,7 +187,7 @@ unfolding reply_of_choice
 retention_better_exactly = choose_exactly
 
 pub retention_load_exactly : (start facts rules : ℕ) (out : List ℕ) → RefusesExactly (retention_load_call start facts rules out)
-unfolding load_reply count_of_loaded
+unfolding load_reply count_of
 retention_load_exactly = load_exactly
 
 -- Demand 1.

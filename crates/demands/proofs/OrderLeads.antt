@@ -3,7 +3,8 @@ use Prim.Native.Nat.{ℕ, ◌*◌, ◌<◌}
 use native.Mathlib.Omega.{arith}
 use native.Mathlib.Decide.{dec_lt}
 use mathlib.Core.Path.{◌≡◌, refl, sym, ◌∙◌, ap, fun_ext, subst}
-use mathlib.Core.Bool.{true, false}
+use mathlib.Core.Bool.{Bool, true, false}
+use Rattle.std.specs.Prelude.{Result, Ok, Err}
 use mathlib.Core.List.{List, ◌++◌}
 use mathlib.Core.Option.{Option, none}
 use lib.ListN.{length}
@@ -26,8 +27,6 @@ use Rattle.questions.proofs.Orders.{naming-names, naming-length, once-yes}
 use Rattle.closure.specs.Steps.{step_bytes}
 use Rattle.run.specs.Outcome.{RunOutcome, run_written, run_outcome, run_number}
 use Rattle.run.proofs.ReadSteps.{steps-read}
-use Rattle.proofcheck.specs.declared.answer.Checked.{Checked}
-use Rattle.proofcheck.specs.declared.answer.Checked.TheVariants as checking
 use Rattle.proofcheck.specs.Checked.{checked, checked_number, checked_verdict}
 use Rattle.proofcheck.proofs.Meaning.{checked-means}
 use Rattle.demands.specs.Results.{set_bytes, RowsProve, row_up_to, EndsAt, LeadsTo}
@@ -42,10 +41,10 @@ pub record NamesOnce (P : Program) (row : List ℕ) : Type 0 where
   pub long : length row ≡ exceptions P
 
 -- a verdict that is not yes is 0
-not_yes : (a : Checked) → (checked_number a ≡ 0 → checked_verdict a ≡ 1 → ⊥) → checked_verdict a ≡ 0
-not_yes checking.Yes n = absurd (n refl refl)
-not_yes checking.No n = refl
-not_yes (checking.Refused r) n = refl
+not_yes : (a : Result Bool Refusal) → (checked_number a ≡ 0 → checked_verdict a ≡ 1 → ⊥) → checked_verdict a ≡ 0
+not_yes (Ok true) n = absurd (n refl refl)
+not_yes (Ok false) n = refl
+not_yes (Err r) n = refl
 
 module _ (file : List ℕ) (accepted : ◌≡◌ {A = Option Refusal} (file_no file) none) (M : FactSet) (stable : Stable (program_of file) (in_force (program_of file)) M) (row : List ℕ) (names : NamesOnce (program_of file) row) (ends_there : Same (run (program_of file) (in_force (program_of file)) row).derived M) where
   abbrev P : Program
@@ -83,7 +82,7 @@ module _ (file : List ℕ) (accepted : ◌≡◌ {A = Option Refusal} (file_no f
     admits : (f : ℕ) → Admits P M (row_of (rows f))
     admits f = rw (rows_read f) (subst (λ (X : FactSet). Admits P X (row_to f s.trace)) reached (run-admits P (in_force P) row f))
 
-    yes_said : (f : ℕ) → M f ≡ true → checked file (set_bytes file M) f (rows f) ≡ checking.Yes
+    yes_said : (f : ℕ) → M f ≡ true → checked file (set_bytes file M) f (rows f) ≡ Ok true
     yes_said f m =
         ap (checked file (set_bytes file M) f) (rows_are f)
         ∙ row-checked file accepted M within f (known f m) (row_to f s.trace) (rw (rows_read f) at (proves f m)) (rw (rows_read f) at (admits f))

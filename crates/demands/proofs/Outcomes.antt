@@ -2,10 +2,10 @@
 use Prim.Native.Nat.{ℕ, ◌<◌}
 use native.Mathlib.Omega.{arith}
 use mathlib.Core.Path.{◌≡◌, refl, sym, ap}
-use mathlib.Core.Bool.{cond}
 use mathlib.Core.List.{List}
 use mathlib.Core.Option.{Option, none, some}
 use lib.ListN.{length}
+use Rattle.std.specs.Prelude.{Ok}
 use Rattle.theory.specs.Rule.{in_force}
 use Rattle.theory.specs.Check.{is_proof}
 use Rattle.items.specs.declared.refusal.Refusal.{Refusal}
@@ -16,7 +16,6 @@ use Rattle.items.specs.Item.{has}
 use Rattle.questions.specs.Questions.{row_of, run_no, check_no, search_no, run_of}
 use Rattle.run.specs.Outcome.{RunOutcome, run_written, run_outcome, run_number}
 use Rattle.run.proofs.Outcomes.{outcome-refused, outcome-written}
-use Rattle.proofcheck.specs.declared.answer.Checked.TheVariants as checking
 use Rattle.proofcheck.specs.Checked.{checked}
 use Rattle.search.specs.Outcome.{SearchOutcome, found_at, refused_with, taken_set, search_outcome, search_number}
 
@@ -37,7 +36,7 @@ module _ (file order facts rules steps : List ℕ) where
       answered (run_no file order (length facts) (length rules) (length steps)) (run_number (run_outcome file order facts rules steps).answer)
       (λ r e. sym (ap (λ (o : RunOutcome). run_number o.answer) (outcome-refused file order facts rules steps r e)))
 
-pub check_checked : (file set : List ℕ) (fact : ℕ) (row : List ℕ) → ◌≡◌ {A = Option Refusal} (check_no file set fact row) none → checked file set fact row ≡ cond (is_proof (program_of file) (in_force (program_of file)) (has set) (row_of row) fact) checking.Yes checking.No
+pub check_checked : (file set : List ℕ) (fact : ℕ) (row : List ℕ) → ◌≡◌ {A = Option Refusal} (check_no file set fact row) none → checked file set fact row ≡ Ok (is_proof (program_of file) (in_force (program_of file)) (has set) (row_of row) fact)
 unfolding checked
 check_checked file set fact row e = rw (e, checked)
 

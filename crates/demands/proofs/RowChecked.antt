@@ -1,10 +1,11 @@
 -- The check says yes to the bytes of a row that is a proof of a fact and that the set handed to it admits.
 use Prim.Native.Nat.{ℕ, ◌<◌}
 use mathlib.Core.Path.{◌≡◌, ap, ◌∙◌}
-use mathlib.Core.Bool.{Bool, cond}
+use mathlib.Core.Bool.{Bool, true}
 use mathlib.Core.List.{List, ◌++◌}
 use mathlib.Core.Option.{Option, none}
 use borrow.Author.Tests.{lt-ltb}
+use Rattle.std.specs.Prelude.{Result, Ok}
 use Rattle.theory.specs.Rule.{Program, FactSet, in_force, Step}
 use Rattle.theory.specs.Stable.{Proof, Admits}
 use Rattle.theory.specs.Conditions.{Within}
@@ -16,7 +17,6 @@ use Rattle.reader.specs.Questions.{program_of, file_questions, file_no}
 use Rattle.questions.specs.Questions.{set_questions, row_questions, row_of, check_questions, check_no}
 use Rattle.closure.specs.Steps.{step_bytes}
 use Rattle.run.proofs.ReadSteps.{steps-read, steps-whole}
-use Rattle.proofcheck.specs.declared.answer.Checked.TheVariants as checking
 use Rattle.proofcheck.specs.Checked.{checked}
 use Rattle.demands.specs.Results.{set_bytes}
 use Rattle.demands.proofs.SetsReadBack.{set_back, set-yes}
@@ -37,7 +37,7 @@ module _ (file : List ℕ) (accepted : ◌≡◌ {A = Option Refusal} (file_no f
         (all_yes (set_questions P.facts (set_bytes file M)) (row_questions P.facts f (step_bytes narrow row)) (set-yes P.facts M)
         (rw (lt-ltb f P.facts known, steps-whole row)))
 
-    pub row-checked : Proof P (in_force P) row f → Admits P M row → checked file (set_bytes file M) f (step_bytes narrow row) ≡ checking.Yes
+    pub row-checked : Proof P (in_force P) row f → Admits P M row → checked file (set_bytes file M) f (step_bytes narrow row) ≡ Ok true
     row-checked p a =
         check_checked file (set_bytes file M) f (step_bytes narrow row) may_check
-        ∙ ap (λ (b : Bool). cond b checking.Yes checking.No) ((test_of_proof P (in_force P) (has (set_bytes file M)) (row_of (step_bytes narrow row)) f).1 (rw (steps-read row) p, rw (steps-read row, set_is) a))
+        ∙ ap {B = Result Bool Refusal} Ok ((test_of_proof P (in_force P) (has (set_bytes file M)) (row_of (step_bytes narrow row)) f).1 (rw (steps-read row) p, rw (steps-read row, set_is) a))

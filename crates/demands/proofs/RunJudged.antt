@@ -1,10 +1,11 @@
 -- Handed what a run leaves, the judge says stable.
 use Prim.Native.Nat.{ℕ, ◌≤◌}
 use mathlib.Core.Path.{◌≡◌, ◌∙◌, ap}
-use mathlib.Core.Bool.{Bool, true, false, not, cond, ◌&&◌}
+use mathlib.Core.Bool.{Bool, true, false, not, ◌&&◌}
 use mathlib.Core.List.{List, ◌++◌}
 use mathlib.Core.Option.{Option, none}
 use lib.ListN.{length}
+use Rattle.std.specs.Prelude.{Result, Ok}
 use Rattle.theory.specs.Rule.{Program, in_force, count, exception}
 use Rattle.theory.specs.Check.{is_stable}
 use Rattle.theory.proofs.Stable.{test_of_stable}
@@ -18,7 +19,6 @@ use Rattle.questions.specs.Questions.{named_in, list_questions, set_questions, r
 use Rattle.run.specs.Outcome.{RunOutcome, run_outcome, run_number}
 use Rattle.demands.specs.Results.{derived_set, aside_set, listed, set_of, RunIs, JudgedStable}
 use Rattle.run.proofs.ReadMarks.{marked-past}
-use Rattle.judge.specs.declared.answer.Judged.TheVariants as judgement
 use Rattle.judge.specs.Judged.{unlisted}
 use Rattle.judge.proofs.JudgeAnswers.{judge_judged}
 use Rattle.demands.proofs.SetsReadBack.{listed_back, listed-yes, set_back, set-yes}
@@ -28,7 +28,7 @@ use Rattle.demands.proofs.RunIs.{yeses, in_bounds, aside_is, run-passed}
 pub run_judged : (file order facts rules steps : List ℕ) → run_number (run_outcome file order facts rules steps).answer ≡ 0 → JudgedStable file (run_outcome file order facts rules steps)
 unfolding judge_questions
 run_judged file order facts rules steps e =
-    judge_judged file list set passed ∙ ap (λ (b : Bool). cond b judgement.Stable judgement.NotStable) stable
+    judge_judged file list set passed ∙ ap {B = Result Bool Refusal} Ok stable
   where
     o : RunOutcome
     o = run_outcome file order facts rules steps

@@ -1,8 +1,8 @@
 -- Two accepted files whose programs are alike get the same replies. Each equation is the definition itself, with the parts of the program on
 -- their way from one file to the other.
 use Prim.Native.Nat.{ℕ, ◌*◌}
-use mathlib.Core.Path.{◌≡◌, refl, sym, ◌∙◌, ap}
-use mathlib.Core.Bool.{Bool, true, false, cond}
+use mathlib.Core.Path.{◌≡◌, sym, ◌∙◌, ap}
+use mathlib.Core.Bool.{Bool, true, false}
 use mathlib.Core.List.{List, [], ◌∷◌, ◌++◌, append_assoc}
 use mathlib.Core.Option.{Option, none, some}
 use lib.ListN.{length}
@@ -10,9 +10,9 @@ use lib.Dec.{eqb, leb}
 use Rattle.theory.specs.Rule.{keep, up_to, Program, FactSet, in_force, nothing, null, count, exception, Alike}
 use Rattle.theory.specs.Run.{run, stage_count, step_count}
 use Rattle.theory.specs.Stable.{order_for}
-use Rattle.theory.specs.Search.{search}
 use Rattle.theory.proofs.Repeats.{alike_exception, alike_exception_count, alike_constraint_count, alike_run, alike_aside, alike_aside_count, alike_fact_mark, alike_fact_marks, alike_rule_marks, alike_grounds, alike_is_stable, alike_is_proof, alike_search, alike_order_for, alike_is_layered, alike_layered_order}
-use Rattle.reader.specs.declared.answer.Accept.TheVariants.{Accepted}
+use Rattle.std.specs.Prelude.{Result, Ok, Err}
+use Rattle.reader.specs.declared.answer.AcceptedFile.{AcceptedFile}
 use Rattle.items.specs.declared.refusal.Refusal.{Refusal}
 use Rattle.items.specs.declared.refusal.Refusal.TheVariants.{FactMarksShort, RuleMarksShort, StepsShort, OrderShort, TooManyConstraints, NoStableSet, NotDerived, NotLayered}
 use Rattle.items.specs.Question.{Question, ask, first_no, no_number}
@@ -20,32 +20,22 @@ use Rattle.items.specs.Question as refusal
 use Rattle.items.specs.Item.{narrow, step_width, name_width, has, max_guessed}
 use Rattle.reader.specs.Questions.{program_of, file_questions, file_no, exceptions, constraint_facts}
 use Rattle.reader.specs.Accept.{accept_of}
-use Rattle.reader.proofs.FileAsked.{accepted_answer}
 use Rattle.items.proofs.FirstNo.{first-yes}
 use Rattle.questions.specs.Answer.{answer_of}
 use Rattle.questions.specs.Questions.{row_of, named_in, list_questions, order_questions, set_questions, row_questions, ask_list_questions, ask_order_questions, ask_set_questions, ask_row_questions, buffer_questions, run_questions, run_no, derived_question, grounds_questions, grounds_no, judge_questions, judge_no, check_questions, check_no, some_stable, stable_question, limit_questions, early_questions, search_questions, search_no, order_room_question, layered_question, layered_questions, layered_no, both_questions, better_questions, better_no, each, naming, run_of}
 use Rattle.closure.specs.Steps.{step_bytes}
-use Rattle.run.specs.declared.answer.Ran.TheVariants as ran
-use Rattle.run.specs.Outcome.{RunOutcome, run_written, run_outcome}
+use Rattle.run.specs.Outcome.{done, RunOutcome, run_written, run_outcome}
 use Rattle.items.specs.Write.{over}
-use Rattle.keeping.specs.declared.answer.Grounds.TheVariants as told
 use Rattle.keeping.specs.Outcome.{GroundsOutcome, grounds_written, grounds_refused, grounds_outcome}
-use Rattle.judge.specs.declared.answer.Judged.{Judged}
-use Rattle.judge.specs.declared.answer.Judged.TheVariants as judgement
 use Rattle.judge.specs.Judged.{judged}
-use Rattle.proofcheck.specs.declared.answer.Checked.{Checked}
-use Rattle.proofcheck.specs.declared.answer.Checked.TheVariants as checking
 use Rattle.proofcheck.specs.Checked.{checked}
-use Rattle.search.specs.declared.answer.Searched.TheVariants as searched
 use Rattle.search.specs.Outcome.{SearchOutcome, search_written, refused_with, taken_set, search_outcome}
 use Rattle.panel_lines.specs.Text.{head_line, step_line, line, last_line, rejected_facts, aside_rules, run_text, ascending, panel_text, shown}
-use Rattle.layers.specs.declared.answer.Layered.TheVariants as layers
 use Rattle.layers.specs.Outcome.{LayeredOutcome, ordered_by, layered_outcome}
 use Rattle.better.specs.declared.answer.Choice.{Choice}
-use Rattle.better.specs.declared.answer.Choice.TheVariants as choice
 use Rattle.better.specs.Outcome.{aside_of, preferred, choice_of, handed}
 use Rattle.grounds_text.specs.Text.{text_questions, text_no, grounds_text}
-use Rattle.replies.specs.Reply.{file_of, verdict_of_judged, verdict_of_checked, run_reply, search_reply, grounds_reply, layered_reply, reply_of_choice}
+use Rattle.replies.specs.Reply.{file_of, verdict_of, run_reply, search_reply, grounds_reply, layered_reply, reply_of_choice}
 use Rattle.demands.specs.Results.{SameReplies}
 
 module _ (s t : List ℕ) (yes-s : ◌≡◌ {A = Option Refusal} (file_no s) none) (yes-t : ◌≡◌ {A = Option Refusal} (file_no t) none) (a : Alike (program_of s) (program_of t)) where
@@ -95,10 +85,15 @@ module _ (s t : List ℕ) (yes-s : ◌≡◌ {A = Option Refusal} (file_no s) no
       ∷ []
 
   accepted : accept_of s ≡ accept_of t
-  accepted =
-      sym (accepted_answer s _ _ _ _ yes-s refl refl refl refl)
-      ∙ ((λ i. Accepted (a.same_facts i) (a.same_count i) (same_exceptions i) (same_constraints i))
-      ∙ accepted_answer t _ _ _ _ yes-t refl refl refl refl)
+  unfolding accept_of
+  accepted i =
+      elim (none_refused i) as (λ _. Result AcceptedFile Refusal) [
+        | none ↦ Ok (record { facts = a.same_facts i; rules = a.same_count i; exceptions = same_exceptions i; constraints = same_constraints i })
+        | some r ↦ Err r
+      ]
+    where
+      none_refused : file_no s ≡ file_no t
+      none_refused = yes-s ∙ sym yes-t
 
   -- The four questions beside the file.
   list_asked : (list : List ℕ) → first_no (ask_list_questions s list) ≡ first_no (ask_list_questions t list)
@@ -132,12 +127,12 @@ module _ (s t : List ℕ) (yes-s : ◌≡◌ {A = Option Refusal} (file_no s) no
   same_run order facts rules steps i =
       elim (run-asked order (length facts) (length rules) (length steps) i) as (λ _. RunOutcome) [
         | none ↦ record {
-          answer = ran.Done (stage_count (end i)) (step_count (end i));
+          answer = done (stage_count (end i)) (step_count (end i));
           fact_marks = over (alike_fact_marks a (named_in order) i) facts;
           rule_marks = over (alike_rule_marks a (named_in order) i) rules;
           steps = over (step_bytes narrow (end i).trace) steps;
         }
-        | some r ↦ record { answer = ran.Refused r; fact_marks = facts; rule_marks = rules; steps = steps }
+        | some r ↦ record { answer = Err r; fact_marks = facts; rule_marks = rules; steps = steps }
       ]
     where
       end : run_of s order ≡ run_of t order
@@ -157,7 +152,7 @@ module _ (s t : List ℕ) (yes-s : ◌≡◌ {A = Option Refusal} (file_no s) no
   same_grounds order fact facts rules steps i =
       elim (grounds_asked order fact (length facts) (length rules) (length steps) i) as (λ _. GroundsOutcome) [
         | none ↦ record {
-          answer = told.Given (length (alike_grounds a (named_in order) fact i));
+          answer = Ok (length (alike_grounds a (named_in order) fact i));
           fact_marks = over (alike_fact_marks a (named_in order) i) facts;
           rule_marks = over (alike_rule_marks a (named_in order) i) rules;
           steps = over (step_bytes narrow (alike_grounds a (named_in order) fact i)) steps;
@@ -178,9 +173,9 @@ module _ (s t : List ℕ) (yes-s : ◌≡◌ {A = Option Refusal} (file_no s) no
   same_judge : (list set : List ℕ) → judged s list set ≡ judged t list set
   unfolding judged
   same_judge list set i =
-      elim (judge_asked list set i) as (λ _. Judged) [
-        | none ↦ cond (alike_is_stable a (named_in list) (has set) i) judgement.Stable judgement.NotStable
-        | some r ↦ judgement.Refused r
+      elim (judge_asked list set i) as (λ _. Result Bool Refusal) [
+        | none ↦ Ok (alike_is_stable a (named_in list) (has set) i)
+        | some r ↦ Err r
       ]
 
   check_asked : (set : List ℕ) (fact : ℕ) (row : List ℕ) → check_no s set fact row ≡ check_no t set fact row
@@ -192,9 +187,9 @@ module _ (s t : List ℕ) (yes-s : ◌≡◌ {A = Option Refusal} (file_no s) no
   same_check : (set : List ℕ) (fact : ℕ) (row : List ℕ) → checked s set fact row ≡ checked t set fact row
   unfolding checked
   same_check set fact row i =
-      elim (check_asked set fact row i) as (λ _. Checked) [
-        | none ↦ cond (alike_is_proof a (has set) (row_of row) fact i) checking.Yes checking.No
-        | some r ↦ checking.Refused r
+      elim (check_asked set fact row i) as (λ _. Result Bool Refusal) [
+        | none ↦ Ok (alike_is_proof a (has set) (row_of row) fact i)
+        | some r ↦ Err r
       ]
 
   -- The search.
@@ -234,7 +229,7 @@ module _ (s t : List ℕ) (yes-s : ◌≡◌ {A = Option Refusal} (file_no s) no
   same_search facts rules steps order i =
       elim (search-asked (length facts) (length rules) (length steps) (length order) i) as (λ _. SearchOutcome) [
         | none ↦ record {
-          answer = searched.Found (stage_count (same_end i)) (step_count (same_end i));
+          answer = done (stage_count (same_end i)) (step_count (same_end i));
           fact_marks = over (alike_fact_marks a (same_written i) i) facts;
           rule_marks = over (alike_rule_marks a (same_written i) i) rules;
           steps = over (step_bytes narrow (same_end i).trace) steps;
@@ -254,8 +249,8 @@ module _ (s t : List ℕ) (yes-s : ◌≡◌ {A = Option Refusal} (file_no s) no
   unfolding layered_outcome ordered_by
   same_layered order i =
       elim (layered_asked (length order) i) as (λ _. LayeredOutcome) [
-        | none ↦ record { answer = layers.Ordered (length (alike_layered_order a i)); order = over (naming (alike_layered_order a i)) order }
-        | some r ↦ record { answer = layers.Refused r; order = order }
+        | none ↦ record { answer = Ok (length (alike_layered_order a i)); order = over (naming (alike_layered_order a i)) order }
+        | some r ↦ record { answer = Err r; order = order }
       ]
 
   -- The better of two orders.
@@ -269,9 +264,9 @@ module _ (s t : List ℕ) (yes-s : ◌≡◌ {A = Option Refusal} (file_no s) no
   same_choice : (first second : List ℕ) → choice_of s first second ≡ choice_of t first second
   unfolding choice_of
   same_choice first second i =
-      elim (better-asked first second i) as (λ _. Choice) [
-        | none ↦ preferred (same_asides first i) (same_asides second i)
-        | some r ↦ choice.Refused r
+      elim (better-asked first second i) as (λ _. Result Choice Refusal) [
+        | none ↦ Ok (preferred (same_asides first i) (same_asides second i))
+        | some r ↦ Err r
       ]
 
   -- The panel's text.
@@ -332,15 +327,15 @@ module _ (s t : List ℕ) (yes-s : ◌≡◌ {A = Option Refusal} (file_no s) no
         search = same_search;
         layered = same_layered;
         choose = same_choice;
-        better = λ first second. ap (λ (c : Choice). handed c first second) (same_choice first second);
+        better = λ first second. ap (λ (c : Result Choice Refusal). handed c first second) (same_choice first second);
         better_number = λ first second. ap no_number (better-asked first second);
         render = λ room. (ap length same_text, ap (λ (text : List ℕ). shown text room) same_text);
         render_grounds = λ fact room. (ap length (same_grounds_text fact), ap (λ (text : List ℕ). shown text room) (same_grounds_text fact));
         retention_accept = ap file_of accepted;
         retention_run = λ order facts rules steps. ap run_reply (same_run order facts rules steps);
         retention_grounds = λ order fact facts rules steps. ap grounds_reply (same_grounds order fact facts rules steps);
-        retention_judge = λ list set. ap verdict_of_judged (same_judge list set);
-        retention_check = λ set fact row. ap verdict_of_checked (same_check set fact row);
+        retention_judge = λ list set. ap verdict_of (same_judge list set);
+        retention_check = λ set fact row. ap verdict_of (same_check set fact row);
         retention_search = λ facts rules steps order. ap search_reply (same_search facts rules steps order);
         retention_layered = λ order. ap layered_reply (same_layered order);
         retention_better = λ first second. ap reply_of_choice (same_choice first second);

@@ -3,7 +3,9 @@
 use Prim.Native.Nat.{ℕ}
 use native.Mathlib.Omega.{arith}
 use mathlib.Core.Path.{◌≡◌, refl, sym, ◌∙◌, ap, subst}
+use mathlib.Core.Bool.{true, false}
 use mathlib.Core.List.{List, [], ◌∷◌}
+use Rattle.std.specs.Prelude.{Ok}
 use Rattle.theory.specs.Rule.{FactSet, withheld, in_force, plain, exception, constraint_fact, plain_rules}
 use Rattle.theory.specs.Derive.{fired, derive, steps}
 use Rattle.theory.specs.Check.{is_stable, least_of, step_holds, is_proof}
@@ -17,11 +19,9 @@ use Rattle.questions.specs.Questions.{list_questions, order_questions, set_quest
 use Rattle.questions.proofs.Orders.{naming-names}
 use Rattle.run.specs.Outcome.{run_written, run_outcome, run_number}
 use Rattle.run.proofs.ReadMarks.{marked-past}
-use Rattle.judge.specs.declared.answer.Judged.TheVariants as judgement
 use Rattle.judge.specs.Judged.{judged, judged_number, judged_verdict}
 use Rattle.judge.specs.Judged as judge
 use Rattle.judge.proofs.Meaning.{judged-means}
-use Rattle.proofcheck.specs.declared.answer.Checked.TheVariants as checking
 use Rattle.proofcheck.specs.Checked.{checked, checked_number, checked_verdict}
 use Rattle.proofcheck.proofs.Meaning.{checked-means}
 use Rattle.search.specs.Outcome.{search_written, taken_set, search_outcome, search_number}
@@ -37,7 +37,7 @@ use Rattle.demands.proofs.SearchIs.{search_is}
 pub ran-so : (file order : List ℕ) → run_number (runs file order).answer ≡ 0 → RunIs file (naming order) (fact_room file) (rule_room file) (step_room file) (runs file order)
 ran-so file order e = run_is file (naming order) (fact_room file) (rule_room file) (step_room file) e
 
-stable_so : (file rs set : List ℕ) → judged file (naming rs) set ≡ judgement.Stable → IsStable file rs set
+stable_so : (file rs set : List ℕ) → judged file (naming rs) set ≡ Ok true → IsStable file rs set
 stable_so file rs set e =
     record {
       says = e;
@@ -46,7 +46,7 @@ stable_so file rs set e =
           (((judged-means file (naming rs) set).stable_exactly (ap judged_number e)).0 (ap judged_verdict e));
     }
 
-not-stable_so : (file rs set : List ℕ) → judged file (naming rs) set ≡ judgement.NotStable → IsNotStable file rs set
+not-stable_so : (file rs set : List ℕ) → judged file (naming rs) set ≡ Ok false → IsNotStable file rs set
 not-stable_so file rs set e = record { says = e; is_not = not_so }
   where
     not_so : Stable (program_of file) (less (program_of file) rs) (has set) → ⊥
@@ -56,7 +56,7 @@ not-stable_so file rs set e = record { says = e; is_not = not_so }
         let zero : judged_verdict (judged file (naming rs) set) ≡ 0 = ap judged_verdict e in
         omega arith
 
-proof_so : (file set : List ℕ) (fact : ℕ) (row : List ℕ) → checked file set fact row ≡ checking.Yes → IsProof file set fact row
+proof_so : (file set : List ℕ) (fact : ℕ) (row : List ℕ) → checked file set fact row ≡ Ok true → IsProof file set fact row
 proof_so file set fact row e =
     let t = ((checked-means file set fact row).yes_exactly (ap checked_number e)).0 (ap checked_verdict e) in
     record { says = e; proves = t.0; admitted = t.1 }

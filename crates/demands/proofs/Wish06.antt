@@ -2,6 +2,7 @@
 use Prim.Native.Nat.{ℕ, suc, ◌+◌, ◌*◌, ◌<◌, ◌≤◌}
 use native.Mathlib.Omega.{arith}
 use mathlib.Core.Path.{◌≡◌, refl, sym, ap, ◌∙◌}
+use Rattle.std.specs.Prelude.{Result, Ok, Err}
 use mathlib.Core.Bool.{Bool, true, false, not, cond, ◌&&◌, ◌||◌}
 use mathlib.Core.List.{List, [], ◌∷◌, ◌++◌, map}
 use mathlib.Core.Logic.{⊎_elim, ◌↔◌}
@@ -45,8 +46,6 @@ use Rattle.questions.proofs.NamesAsked.{not_known, past-rules}
 use Rattle.questions.proofs.OperationAsked.{file_accepted, list_refused, rules-short}
 use Rattle.run.specs.Outcome.{RunOutcome, run_written, run_outcome, run_number}
 use Rattle.run.proofs.Outcomes.{outcome-refused}
-use Rattle.proofcheck.specs.declared.answer.Checked.{Checked}
-use Rattle.proofcheck.specs.declared.answer.Checked.TheVariants.{Yes, No, Refused}
 use Rattle.proofcheck.specs.Checked.{checked, checked_number, checked_verdict}
 use Rattle.proofcheck.proofs.Meaning.{checked-means}
 use Rattle.search.specs.Outcome.{SearchOutcome, found_at, search_written, taken_set, search_outcome, search_number}
@@ -55,7 +54,6 @@ use Rattle.layers.proofs.LayeredAnswers.{all_yes}
 use Rattle.layers.proofs.LayersMeaning.{no-refusal, last-room, named_are, least}
 use Rattle.panel_lines.specs.Text.{head_line, step_line, line, last_line, rejected_facts, aside_rules, run_text, ascending, panel_text}
 use Rattle.demands.specs.Results.{aside_set, found_set}
-use Rattle.demands.specs.Starred.{runs}
 use Rattle.demands.specs.Wish04.{handed_over}
 use Rattle.demands.specs.Wish06.{AfterRule, NamesUnread, ReadAlone, WithheldLast, OrderGets, NamesOther, Wish06, UnreadExample, held}
 use Rattle.demands.proofs.Outcomes.{run-written, run-answered, search-refused, search-found, search-answered}
@@ -78,15 +76,14 @@ late_refuses end i {f} ts s below opened =
     rw (alone (by_tags i).unread s (by_tags i).opens (tt, tt), alone (by_tags i).unread s (by_tags i).own (tt, (tt, tt)), alone (by_tags i).unread s (by_tags i).rules (tt, tt), s, lt-ltb f.0 end.facts below, ne_eqb end.rules 0 opened)
 
 -- A verdict is 1 only where no question got no, and else 0.
-answered_so : (r : Checked) → checked_verdict r ≡ 1 → checked_number r ≡ 0
-answered_so Yes e = refl
-answered_so No e = refl
-answered_so (Refused r) e = absurd (omega (arith, e))
+answered_so : (r : Result Bool Refusal) → checked_verdict r ≡ 1 → checked_number r ≡ 0
+answered_so (Ok b) e = refl
+answered_so (Err r) e = absurd (omega (arith, e))
 
-else_no : (r : Checked) → (checked_verdict r ≡ 1 → ⊥) → checked_verdict r ≡ 0
-else_no Yes h = absurd (h refl)
-else_no No h = refl
-else_no (Refused r) h = refl
+else_no : (r : Result Bool Refusal) → (checked_verdict r ≡ 1 → ⊥) → checked_verdict r ≡ 0
+else_no (Ok true) h = absurd (h refl)
+else_no (Ok false) h = refl
+else_no (Err r) h = refl
 
 no-count : {A : Type 0} (n : ℕ) → ◌≡◌ {A = Option ℕ} none (some n) → A
 no-count n e = absurd (let z : ◌≡◌ {A = ℕ} 0 1 = cc in omega arith)

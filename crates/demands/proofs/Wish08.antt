@@ -10,6 +10,7 @@ use borrow.Author.Tests.{eqb-true}
 use lib.ListN.{length, get_or, take}
 use lib.Dec.{eqb}
 use Rattle.theory.specs.Rule.{mem, keep, range, up_to, how_many, Program, Mask, FactSet, count, rule, plain, plain_rules, in_force}
+use Rattle.std.specs.Prelude as std
 use Rattle.theory.specs.Conditions.{Bounded}
 use Rattle.theory.specs.Walk.{after}
 use Rattle.theory.specs.Derive.{conclude, Fresh, fired, meets, derive, steps, step_by}
@@ -27,7 +28,6 @@ use Rattle.reader.proofs.Accepted.{accepted_file, bounded}
 use Rattle.premises.specs.Premises.{plain_ones, lacking, Counted}
 use Rattle.premises.specs.Plain.{plain_with, RowsAre}
 use Rattle.premises.proofs.PremisesCounted.{lacks_none, none_lacks, asked-lacking, unasked_lacking}
-use Rattle.closure.specs.declared.derivation.Derivation.{Derivation}
 use Rattle.closure.specs.Room.{Room}
 use Rattle.closure.specs.Deriving.{Derived}
 use Rattle.premises.proofs.PlainRows.{plain_known}
@@ -127,7 +127,7 @@ module _ {P : Program} (b : Bounded P) (few : P.facts < max_facts narrow) (on : 
     none_met : meets P on (barred_in marks) (has marks) ≡ false
     none_met = clear-meets P on (barred_in marks) (has marks) (λ f t. none_barred f)
 
-    module _ {fired₀ marks' missing' fired' : List ℕ} {r : Derivation} (cells : length fired₀ ≡ max_facts narrow) (d : Derived P on marks fired₀ 0 r marks' missing' fired') where
+    module _ {fired₀ marks' missing' fired' : List ℕ} {r : std.Option ℕ} (cells : length fired₀ ≡ max_facts narrow) (d : Derived P on marks fired₀ 0 r marks' missing' fired') where
       front : take (length rules) fired' ≡ rules
       front = rw zero-add at (ap (take (0 + length rules)) (d.rules none_met) ∙ placed-front rules fired₀ 0 (omega (arith, few_rules, cells)))
 
@@ -158,7 +158,7 @@ wish_08 file a =
       by_plain = closes (plain_rules (program_of file) (in_force (program_of file)));
     }
   where
-    closes : (on : Mask) (marks marks' missing' fired' : List ℕ) (r : Derivation) → DerivesFrom file on marks marks' missing' fired' r
+    closes : (on : Mask) (marks marks' missing' fired' : List ℕ) (r : std.Option ℕ) → DerivesFrom file on marks marks' missing' fired' r
     closes on marks marks' missing' fired' r T fired₀ s room cells none_barred d =
         subst (λ (P : Program). ClosureIs P on marks marks' missing' fired' r) (s a).program
         (ended-closure (s a).well_formed.in_bounds (facts_below (s a).well_formed) on room none_barred cells d)

@@ -13,7 +13,8 @@ use Rattle.cursors.specs.Cursor.{front, place_questions, next_at, read_number}
 use Rattle.reader.specs.Questions.{file_questions}
 use Rattle.reader.specs.Accept.{accept_of, accept_number}
 use Rattle.questions.specs.Questions.{ask_list_questions, ask_order_questions, ask_set_questions, ask_row_questions, run_questions, grounds_questions, judge_questions, check_questions, search_questions, layered_questions, better_questions, better_no}
-use Rattle.questions.specs.Answer.{answer_of, answer_number}
+use Rattle.items.specs.Answer.{answer_number}
+use Rattle.questions.specs.Answer.{answer_of}
 use Rattle.run.specs.Outcome.{run_outcome, run_number, run_stages, run_steps, RunOutcome}
 use Rattle.keeping.specs.Outcome.{grounds_outcome, grounds_count, grounds_number, GroundsOutcome}
 use Rattle.judge.specs.Judged.{judged, judged_number, judged_verdict}

@@ -4,7 +4,7 @@ use Rattle.theory.specs.Rule.{FactSet, in_force}
 use Rattle.theory.specs.Chaining.{StepsInTurn}
 use Rattle.reader.specs.Questions.{program_of}
 use Rattle.questions.specs.Questions.{row_of}
-use Rattle.run.specs.declared.answer.Ran.TheVariants.{Done}
+use Rattle.run.specs.Outcome.{done}
 use Rattle.demands.specs.Starred.{Runs}
 
 -- The bytes of the examples below: 2 facts; 0<; 1<. And 3 facts; 0<!2; 1<.
@@ -20,9 +20,9 @@ OutOfTurn file order row = (D R : ℕ → FactSet) → StepsInTurn (program_of f
 
 pub record InTurnExample : Type 0 where
   -- Two plain rules are ready at once, and the lowest-numbered one comes first: (0,0) (1,1). Neither (1,1) (0,0) nor (0,0) (0,0) (1,1) is in turn.
-  pub lowest_first : Runs two_ready [] (record { answer = Done 0 2; fact_marks = 1 ∷ 1 ∷ []; rule_marks = 0 ∷ 0 ∷ []; steps = 6 ∷ 0 ∷ 0 ∷ 0 ∷ 6 ∷ 1 ∷ 0 ∷ 1 ∷ [] })
+  pub lowest_first : Runs two_ready [] (record { answer = done 0 2; fact_marks = 1 ∷ 1 ∷ []; rule_marks = 0 ∷ 0 ∷ []; steps = 6 ∷ 0 ∷ 0 ∷ 0 ∷ 6 ∷ 1 ∷ 0 ∷ 1 ∷ [] })
   pub not_highest : OutOfTurn two_ready [] (6 ∷ 1 ∷ 0 ∷ 1 ∷ 6 ∷ 0 ∷ 0 ∷ 0 ∷ [])
   pub not_twice : OutOfTurn two_ready [] (6 ∷ 0 ∷ 0 ∷ 0 ∷ 6 ∷ 0 ∷ 0 ∷ 0 ∷ 6 ∷ 1 ∷ 0 ∷ 1 ∷ [])
   -- A plain rule that is ready comes before an exception rule with a lower number: (1,1) (0,0). The row (0,0) (1,1) is not in turn.
-  pub plain_first : Runs one_ready (0 ∷ []) (record { answer = Done 1 2; fact_marks = 1 ∷ 1 ∷ 2 ∷ []; rule_marks = 1 ∷ 0 ∷ []; steps = 6 ∷ 1 ∷ 0 ∷ 1 ∷ 6 ∷ 0 ∷ 0 ∷ 0 ∷ 9 ∷ 9 ∷ 9 ∷ 9 ∷ [] })
+  pub plain_first : Runs one_ready (0 ∷ []) (record { answer = done 1 2; fact_marks = 1 ∷ 1 ∷ 2 ∷ []; rule_marks = 1 ∷ 0 ∷ []; steps = 6 ∷ 1 ∷ 0 ∷ 1 ∷ 6 ∷ 0 ∷ 0 ∷ 0 ∷ 9 ∷ 9 ∷ 9 ∷ 9 ∷ [] })
   pub not_exception : OutOfTurn one_ready (0 ∷ []) (6 ∷ 0 ∷ 0 ∷ 0 ∷ 6 ∷ 1 ∷ 0 ∷ 1 ∷ [])

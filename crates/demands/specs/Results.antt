@@ -1,6 +1,6 @@
 -- What the results of a run and of a search are (demands 2 and 3), read off the bytes that they leave, and what it is for two files to get the
 -- same results.
-use Rattle.std.specs.Prelude.{ℕ, ◌*◌, ◌<◌, ◌≤◌, Bool, cond, true, false, not, ◌&&◌, List, map, take, length, get_or, drop, ◌≡◌, ◌↔◌, ◌⊎◌, eqb}
+use Rattle.std.specs.Prelude.{ℕ, ◌*◌, ◌<◌, ◌≤◌, Bool, cond, true, false, not, ◌&&◌, List, map, take, length, get_or, drop, ◌≡◌, ◌↔◌, ◌⊎◌, eqb, Ok}
 use Rattle.theory.specs.Rule.{keep, up_to, how_many, FactSet, count, withheld, in_force, plain, exception, Step, rule}
 use Rattle.items.specs.Item.{narrow, step_width, name_width, marked}
 use Rattle.questions.specs.Questions.{naming, named_in, order_no, row_of, buffers_no, ask_list_questions, ask_order_questions, ask_set_questions, ask_row_questions, better_no}
@@ -11,7 +11,6 @@ use Rattle.theory.specs.Stable.{Stable, row_to, Earliest, any_set, Proof, Admits
 use Rattle.keeping.specs.Outcome.{grounds_outcome}
 use Rattle.judge.specs.Judged.{judged}
 use Rattle.std.proofs.Math.Option.{none}
-use Rattle.proofcheck.specs.declared.answer.Checked.TheVariants.{Yes}
 use Rattle.proofcheck.specs.Checked.{checked, checked_verdict}
 use Rattle.search.specs.Outcome.{SearchOutcome, search_outcome, search_number, search_stages, search_steps}
 use Rattle.layers.specs.Outcome.{layered_outcome}
@@ -21,8 +20,7 @@ use Rattle.reader.specs.Accept.{accept_of}
 use Rattle.questions.specs.Answer.{answer_of}
 use Rattle.panel_lines.specs.Text.{panel_text, shown}
 use Rattle.grounds_text.specs.Text.{grounds_text}
-use Rattle.replies.specs.Reply.{file_of, verdict_of_judged, verdict_of_checked, run_reply, search_reply, grounds_reply, layered_reply, reply_of_choice}
-use Rattle.judge.specs.declared.answer.Judged.TheVariants as judgement
+use Rattle.replies.specs.Reply.{file_of, verdict_of, run_reply, search_reply, grounds_reply, layered_reply, reply_of_choice}
 
 -- the numbers below n that pass a test, as the bytes of an order or a list
 abbrev pub listed : ℕ → (ℕ → Bool) → List ℕ
@@ -120,7 +118,7 @@ pub record RunIs (file order facts rules steps : List ℕ) (o : RunOutcome) : Ty
 abbrev pub JudgedStable : List ℕ → RunOutcome → Type 0
 JudgedStable file o =
     judged file (listed (count (program_of file)) (aside_set file o)) (set_of (program_of file).facts (derived_set file o))
-    ≡ judgement.Stable
+    ≡ Ok true
 
 -- An order that leads to a set of facts, with a proof for each fact of the set and for no other (demand 3; for any stable set, not only the
 -- earliest).
@@ -133,7 +131,7 @@ set_bytes file M = set_of (program_of file).facts M
 pub record RowsProve (file : List ℕ) (M : FactSet) (row : ℕ → List ℕ) : Type 0 where
   pub proves : (f : ℕ) → M f ≡ true → Proof (program_of file) (in_force (program_of file)) (row_of (row f)) f
   pub admitted : (f : ℕ) → M f ≡ true → Admits (program_of file) M (row_of (row f))
-  pub says_yes : (f : ℕ) → M f ≡ true → checked file (set_bytes file M) f (row f) ≡ Yes
+  pub says_yes : (f : ℕ) → M f ≡ true → checked file (set_bytes file M) f (row f) ≡ Ok true
 
 -- The bytes of the steps that a run wrote from the first up to the fact's own.
 abbrev pub row_up_to : ℕ → RunOutcome → List ℕ
@@ -264,8 +262,8 @@ pub record SameReplies (s t : List ℕ) : Type 0 where
   pub retention_accept : file_of (accept_of s) ≡ file_of (accept_of t)
   pub retention_run : (order facts rules steps : List ℕ) → run_reply (run_outcome s order facts rules steps) ≡ run_reply (run_outcome t order facts rules steps)
   pub retention_grounds : (order : List ℕ) (fact : ℕ) (facts rules steps : List ℕ) → grounds_reply (grounds_outcome s order fact facts rules steps) ≡ grounds_reply (grounds_outcome t order fact facts rules steps)
-  pub retention_judge : (list set : List ℕ) → verdict_of_judged (judged s list set) ≡ verdict_of_judged (judged t list set)
-  pub retention_check : (set : List ℕ) (fact : ℕ) (row : List ℕ) → verdict_of_checked (checked s set fact row) ≡ verdict_of_checked (checked t set fact row)
+  pub retention_judge : (list set : List ℕ) → verdict_of (judged s list set) ≡ verdict_of (judged t list set)
+  pub retention_check : (set : List ℕ) (fact : ℕ) (row : List ℕ) → verdict_of (checked s set fact row) ≡ verdict_of (checked t set fact row)
   pub retention_search : (facts rules steps order : List ℕ) → search_reply (search_outcome s facts rules steps order) ≡ search_reply (search_outcome t facts rules steps order)
   pub retention_layered : (order : List ℕ) → layered_reply (layered_outcome s order) ≡ layered_reply (layered_outcome t order)
   pub retention_better : (first second : List ℕ) → reply_of_choice (choice_of s first second) ≡ reply_of_choice (choice_of t first second)

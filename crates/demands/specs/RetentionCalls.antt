@@ -12,7 +12,7 @@ use Rattle.generator.specs.Outcome.{load_outcome}
 use Rattle.replies.specs.declared.ChoiceReply.{ChoiceReply}
 use Rattle.replies.specs.declared.FileReply.{FileReply}
 use Rattle.replies.specs.declared.Verdict.{Verdict}
-use Rattle.replies.specs.Reply.{file_of, verdict_of_judged, verdict_of_checked, RunReply, run_reply, SearchReply, search_reply, GroundsReply, grounds_reply, LayeredReply, layered_reply, LoadReply, load_reply, reply_of_choice}
+use Rattle.replies.specs.Reply.{file_of, verdict_of, RunReply, run_reply, SearchReply, search_reply, GroundsReply, grounds_reply, LayeredReply, layered_reply, LoadReply, load_reply, reply_of_choice}
 use Rattle.demands.specs.Calls.{Reply, Call, accept_call, run_call, grounds_call, judge_call, check_call, search_call, layered_call, choose_call, load_call}
 
 -- A call with another reply.
@@ -62,11 +62,11 @@ abbrev pub verdict_replied : Verdict → Reply
 verdict_replied v = record { number = v.refusal; counts = v.verdict ∷ []; left = [] }
 
 abbrev pub retention_judge_call : List ℕ → List ℕ → List ℕ → Call
-retention_judge_call file list set = replying (judge_call file list set) (verdict_replied (verdict_of_judged (judged file list set)))
+retention_judge_call file list set = replying (judge_call file list set) (verdict_replied (verdict_of (judged file list set)))
 
 abbrev pub retention_check_call : List ℕ → List ℕ → ℕ → List ℕ → Call
 retention_check_call file set fact row =
-    replying (check_call file set fact row) (verdict_replied (verdict_of_checked (checked file set fact row)))
+    replying (check_call file set fact row) (verdict_replied (verdict_of (checked file set fact row)))
 
 -- `retention_search`
 abbrev pub retention_search_call : List ℕ → List ℕ → List ℕ → List ℕ → List ℕ → Call

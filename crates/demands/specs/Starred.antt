@@ -1,18 +1,15 @@
 -- The starred examples of document 01, from their bytes: what each operation answers and leaves, and what that means by the definitions.
-use Rattle.std.specs.Prelude.{ℕ, ◌*◌, ◌≡◌, not, ◌&&◌, List, [], ◌∷◌, replicate}
+use Rattle.std.specs.Prelude.{ℕ, ◌*◌, ◌≡◌, not, ◌&&◌, List, [], ◌∷◌, replicate, Ok, true, false}
 use Rattle.theory.specs.Rule.{mem, Program, Mask, FactSet, in_force, count}
 use Rattle.theory.specs.Stable.{Stable, Proof, Admits, Earliest, any_set}
 use Rattle.items.specs.declared.refusal.Refusal.TheVariants.{NoStableSet}
 use Rattle.items.specs.Item.{narrow, name_width, step_width, has}
 use Rattle.reader.specs.Questions.{program_of, exceptions}
 use Rattle.questions.specs.Questions.{row_of, naming}
-use Rattle.run.specs.declared.answer.Ran.TheVariants.{Done}
+use Rattle.run.specs.Outcome.{done}
 use Rattle.run.specs.Outcome.{RunOutcome, run_outcome}
-use Rattle.judge.specs.declared.answer.Judged.TheVariants as judgement
 use Rattle.judge.specs.Judged.{judged}
-use Rattle.proofcheck.specs.declared.answer.Checked.TheVariants as checking
 use Rattle.proofcheck.specs.Checked.{checked}
-use Rattle.search.specs.declared.answer.Searched.TheVariants.{Found}
 use Rattle.search.specs.Outcome.{SearchOutcome, refused_with, search_outcome, search_number}
 use Rattle.demands.specs.Results.{found_set, set_of, RunIs, SearchIs}
 use Rattle.demands.specs.Examples as bytes
@@ -51,16 +48,16 @@ pub record Runs (file order : List ℕ) (o : RunOutcome) : Type 0 where
 
 -- A set, one byte for each fact, is stable for a file less these rules, and the judge says so; or it is not.
 pub record IsStable (file rs set : List ℕ) : Type 0 where
-  pub says : judged file (naming rs) set ≡ judgement.Stable
+  pub says : judged file (naming rs) set ≡ Ok true
   pub is : Stable (program_of file) (less (program_of file) rs) (has set)
 
 pub record IsNotStable (file rs set : List ℕ) : Type 0 where
-  pub says : judged file (naming rs) set ≡ judgement.NotStable
+  pub says : judged file (naming rs) set ≡ Ok false
   pub is_not : Stable (program_of file) (less (program_of file) rs) (has set) → ⊥
 
 -- A row of steps is a proof of a fact that a set admits, and the check says yes.
 pub record IsProof (file set : List ℕ) (fact : ℕ) (row : List ℕ) : Type 0 where
-  pub says : checked file set fact row ≡ checking.Yes
+  pub says : checked file set fact row ≡ Ok true
   pub proves : Proof (program_of file) (in_force (program_of file)) (row_of row) fact
   pub admitted : Admits (program_of file) (has set) (row_of row)
 
@@ -82,7 +79,7 @@ pub record Starred : Type 0 where
   pub example_a :
       Runs bytes.example_a (1 ∷ 2 ∷ [])
       (record {
-        answer = Done 1 2;
+        answer = done 1 2;
         fact_marks = 1 ∷ 1 ∷ 2 ∷ 0 ∷ [];
         rule_marks = 0 ∷ 1 ∷ 3 ∷ 0 ∷ [];
         steps = 6 ∷ 0 ∷ 0 ∷ 0 ∷ 6 ∷ 1 ∷ 0 ∷ 1 ∷ 9 ∷ 9 ∷ 9 ∷ 9 ∷ 9 ∷ 9 ∷ 9 ∷ 9 ∷ [];
@@ -92,7 +89,7 @@ pub record Starred : Type 0 where
   pub example_a2 :
       Runs bytes.example_a (2 ∷ 1 ∷ [])
       (record {
-        answer = Done 1 3;
+        answer = done 1 3;
         fact_marks = 1 ∷ 2 ∷ 1 ∷ 1 ∷ [];
         rule_marks = 0 ∷ 3 ∷ 1 ∷ 0 ∷ [];
         steps = 6 ∷ 0 ∷ 0 ∷ 0 ∷ 6 ∷ 2 ∷ 0 ∷ 2 ∷ 6 ∷ 3 ∷ 0 ∷ 3 ∷ 9 ∷ 9 ∷ 9 ∷ 9 ∷ [];
@@ -103,7 +100,7 @@ pub record Starred : Type 0 where
   pub example_a3 :
       SearchTakes bytes.example_a (1 ∷ 1 ∷ 0 ∷ 0 ∷ [])
       (record {
-        answer = Found 1 2;
+        answer = done 1 2;
         fact_marks = 1 ∷ 1 ∷ 2 ∷ 0 ∷ [];
         rule_marks = 0 ∷ 1 ∷ 3 ∷ 0 ∷ [];
         steps = 6 ∷ 0 ∷ 0 ∷ 0 ∷ 6 ∷ 1 ∷ 0 ∷ 1 ∷ 9 ∷ 9 ∷ 9 ∷ 9 ∷ 9 ∷ 9 ∷ 9 ∷ 9 ∷ [];
@@ -112,14 +109,14 @@ pub record Starred : Type 0 where
   -- B: nothing derived, rule 0 set aside, search 41.
   pub example_b :
       Runs bytes.example_b (0 ∷ [])
-      (record { answer = Done 0 0; fact_marks = 0 ∷ []; rule_marks = 2 ∷ []; steps = 9 ∷ 9 ∷ 9 ∷ 9 ∷ [] })
+      (record { answer = done 0 0; fact_marks = 0 ∷ []; rule_marks = 2 ∷ []; steps = 9 ∷ 9 ∷ 9 ∷ 9 ∷ [] })
       × IsStable bytes.example_b (0 ∷ []) (0 ∷ [])
       × SearchTakesNone bytes.example_b
   -- C, order 0 1. Rule 1 is set aside: {0} is stable for the file less that rule, and not for the whole.
   pub example_c :
       Runs bytes.example_c (0 ∷ 1 ∷ [])
       (record {
-        answer = Done 1 1;
+        answer = done 1 1;
         fact_marks = 1 ∷ 2 ∷ 0 ∷ [];
         rule_marks = 1 ∷ 2 ∷ [];
         steps = 6 ∷ 0 ∷ 0 ∷ 0 ∷ 9 ∷ 9 ∷ 9 ∷ 9 ∷ 9 ∷ 9 ∷ 9 ∷ 9 ∷ [];
@@ -130,7 +127,7 @@ pub record Starred : Type 0 where
   pub example_c2 :
       Runs bytes.example_c (1 ∷ 0 ∷ [])
       (record {
-        answer = Done 1 1;
+        answer = done 1 1;
         fact_marks = 0 ∷ 1 ∷ 2 ∷ [];
         rule_marks = 3 ∷ 1 ∷ [];
         steps = 6 ∷ 1 ∷ 0 ∷ 1 ∷ 9 ∷ 9 ∷ 9 ∷ 9 ∷ 9 ∷ 9 ∷ 9 ∷ 9 ∷ [];
@@ -140,7 +137,7 @@ pub record Starred : Type 0 where
   pub example_c3 :
       SearchTakes bytes.example_c (0 ∷ 1 ∷ 0 ∷ [])
       (record {
-        answer = Found 1 1;
+        answer = done 1 1;
         fact_marks = 0 ∷ 1 ∷ 2 ∷ [];
         rule_marks = 3 ∷ 1 ∷ [];
         steps = 6 ∷ 1 ∷ 0 ∷ 1 ∷ 9 ∷ 9 ∷ 9 ∷ 9 ∷ 9 ∷ 9 ∷ 9 ∷ 9 ∷ [];
@@ -149,13 +146,13 @@ pub record Starred : Type 0 where
   -- D: rule 1 set aside, 41.
   pub example_d :
       Runs bytes.example_d (1 ∷ [])
-      (record { answer = Done 0 0; fact_marks = 0 ∷ 0 ∷ []; rule_marks = 0 ∷ 2 ∷ []; steps = 9 ∷ 9 ∷ 9 ∷ 9 ∷ 9 ∷ 9 ∷ 9 ∷ 9 ∷ [] })
+      (record { answer = done 0 0; fact_marks = 0 ∷ 0 ∷ []; rule_marks = 0 ∷ 2 ∷ []; steps = 9 ∷ 9 ∷ 9 ∷ 9 ∷ 9 ∷ 9 ∷ 9 ∷ 9 ∷ [] })
       × IsStable bytes.example_d (1 ∷ []) (0 ∷ 0 ∷ [])
       × SearchTakesNone bytes.example_d
   -- E: the empty set, an empty order.
   pub example_e :
-      Runs bytes.example_e [] (record { answer = Done 0 0; fact_marks = []; rule_marks = []; steps = [] })
+      Runs bytes.example_e [] (record { answer = done 0 0; fact_marks = []; rule_marks = []; steps = [] })
       × IsStable bytes.example_e [] []
-      × SearchTakes bytes.example_e [] (record { answer = Found 0 0; fact_marks = []; rule_marks = []; steps = []; order = [] })
+      × SearchTakes bytes.example_e [] (record { answer = done 0 0; fact_marks = []; rule_marks = []; steps = []; order = [] })
   -- F: {0} is not stable, the empty set is.
   pub example_f : IsNotStable bytes.example_f [] (1 ∷ []) × IsStable bytes.example_f [] (0 ∷ [])

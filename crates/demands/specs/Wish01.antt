@@ -1,5 +1,5 @@
 -- Document 02, wish 1, "Shorter grounds for one fact", read off the bytes that the operation leaves.
-use Rattle.std.specs.Prelude.{ℕ, ◌*◌, ◌<◌, ◌≤◌, ◌≡◌, true, false, List, ◌↔◌, length, take, drop}
+use Rattle.std.specs.Prelude.{ℕ, ◌*◌, ◌<◌, ◌≤◌, ◌≡◌, true, false, List, ◌↔◌, length, take, drop, Ok}
 use Rattle.theory.specs.Rule.{Step, in_force}
 use Rattle.theory.specs.Stable.{Admits}
 use Rattle.theory.specs.Keeping.{StepSet, Kept, select, Subsequence, Minimal}
@@ -8,7 +8,6 @@ use Rattle.reader.specs.Questions.{program_of}
 use Rattle.questions.specs.Questions.{row_of}
 use Rattle.run.specs.Outcome.{RunOutcome, run_outcome, run_number}
 use Rattle.keeping.specs.Outcome.{GroundsOutcome, grounds_outcome, grounds_count, grounds_number}
-use Rattle.proofcheck.specs.declared.answer.Checked.TheVariants.{Yes}
 use Rattle.proofcheck.specs.Checked.{checked}
 use Rattle.demands.specs.Results.{derived_set, set_bytes, taken_steps}
 
@@ -37,7 +36,7 @@ pub record GroundsAre (file : List ℕ) (fact : ℕ) (steps : List ℕ) (ran : R
   pub minimal : Minimal (program_of file) (in_force (program_of file)) (kept_row o) fact
   pub admitted : Admits (program_of file) (derived_set file ran) (kept_row o)
   -- The check, asked about the fact with that row and the set of marks 1, says yes.
-  pub says_yes : checked file (set_bytes file (derived_set file ran)) fact (kept_bytes o) ≡ Yes
+  pub says_yes : checked file (set_bytes file (derived_set file ran)) fact (kept_bytes o) ≡ Ok true
 
 -- The operation, on any bytes at all.
 pub record ShorterGrounds (file : List ℕ) (fact : ℕ) (steps : List ℕ) (ran : RunOutcome) (o : GroundsOutcome) : Type 0 where

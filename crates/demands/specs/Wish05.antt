@@ -4,7 +4,7 @@ use Rattle.std.proofs.Math.Option.{none}
 use Rattle.theory.specs.Rule as theory
 use Rattle.theory.specs.Rule.{rule}
 use Rattle.reader.specs.Questions.{program_of, file_no}
-use Rattle.run.specs.declared.answer.Ran.TheVariants.{Done}
+use Rattle.run.specs.Outcome.{done}
 use Rattle.run.specs.Outcome.{run_outcome, run_number}
 use Rattle.generator.specs.Draws.{state_after, draw}
 use Rattle.generator.specs.Load.{load_bytes, rule_drawn}
@@ -30,11 +30,11 @@ pub record LoadIs (start n m : ℕ) (out : List ℕ) (o : LoadOutcome) : Type 0 
 -- "Start 0, n 4, m 1 writes 10 04 01 03 03 02 03 02 1F 00 01, which runs one stage": under every order that the run takes, in any buffers, and it takes one.
 pub record LoadExample : Type 0 where
   pub bytes : load_bytes 0 4 1 ≡ 0x10 ∷ 0x04 ∷ 0x01 ∷ 0x03 ∷ 0x03 ∷ 0x02 ∷ 0x03 ∷ 0x02 ∷ 0x1F ∷ 0x00 ∷ 0x01 ∷ []
-  pub one_stage : (order facts rules steps : List ℕ) → run_number (run_outcome (load_bytes 0 4 1) order facts rules steps).answer ≡ 0 → (run_outcome (load_bytes 0 4 1) order facts rules steps).answer ≡ Done 1 1
+  pub one_stage : (order facts rules steps : List ℕ) → run_number (run_outcome (load_bytes 0 4 1) order facts rules steps).answer ≡ 0 → (run_outcome (load_bytes 0 4 1) order facts rules steps).answer ≡ done 1 1
   pub runs :
       Runs (load_bytes 0 4 1) (0 ∷ [])
       (record {
-        answer = Done 1 1;
+        answer = done 1 1;
         fact_marks = 0 ∷ 0 ∷ 2 ∷ 1 ∷ [];
         rule_marks = 1 ∷ [];
         steps = 6 ∷ 3 ∷ 0 ∷ 0 ∷ 9 ∷ 9 ∷ 9 ∷ 9 ∷ 9 ∷ 9 ∷ 9 ∷ 9 ∷ 9 ∷ 9 ∷ 9 ∷ 9 ∷ [];

@@ -15,13 +15,12 @@ use Rattle.reader.specs.Questions.{rules_of, unread_of, fact_count, program_of, 
 use Rattle.reader.specs.Accept.{accept_of}
 use Rattle.reader.specs.Accept as accepted
 use Rattle.questions.specs.Questions.{whole, named_in, row_of, names_questions, order_no, ask_order_questions, buffers_no, list_questions}
-use Rattle.run.specs.declared.answer.Ran.TheVariants.{Done}
-use Rattle.run.specs.Outcome.{RunOutcome, run_written, run_outcome, run_number}
+use Rattle.run.specs.Outcome.{done}
+use Rattle.run.specs.Outcome.{run_written, run_outcome, run_number}
 use Rattle.keeping.specs.Outcome.{grounds_outcome, grounds_number}
 use Rattle.proofcheck.specs.Checked.{checked, checked_verdict}
-use Rattle.search.specs.declared.answer.Searched.TheVariants.{Found}
-use Rattle.search.specs.Outcome.{SearchOutcome, found_at, search_outcome, search_number}
-use Rattle.layers.specs.Outcome.{LayeredOutcome, layered_outcome, layered_number}
+use Rattle.search.specs.Outcome.{found_at, search_outcome, search_number}
+use Rattle.layers.specs.Outcome.{layered_outcome, layered_number}
 use Rattle.panel_lines.specs.Text.{head_line, ascending, panel_text}
 use Rattle.demands.specs.Results.{aside_set, withheld_set, taken_steps, found_set, written_order, written_steps}
 use Rattle.demands.specs.Wish01.{kept_row}
@@ -133,5 +132,5 @@ held = 0x10 ∷ 0x02 ∷ 0x07 ∷ 0x01 ∷ 0x01 ∷ 0x00 ∷ 0x03 ∷ 0x01 ∷ 0
 
 -- An unread hold label: 2 facts, 1 is unread; 0 < !1. The rule is withheld, nothing follows, and the search takes the empty set.
 pub record UnreadExample : Type 0 where
-  pub runs : Runs held (0 ∷ []) (record { answer = Done 0 0; fact_marks = 0 ∷ 0 ∷ []; rule_marks = 4 ∷ []; steps = 9 ∷ 9 ∷ 9 ∷ 9 ∷ 9 ∷ 9 ∷ 9 ∷ 9 ∷ [] })
-  pub takes : SearchTakes held (0 ∷ 0 ∷ []) (record { answer = Found 0 0; fact_marks = 0 ∷ 0 ∷ []; rule_marks = 4 ∷ []; steps = 9 ∷ 9 ∷ 9 ∷ 9 ∷ 9 ∷ 9 ∷ 9 ∷ 9 ∷ []; order = 5 ∷ 0 ∷ 0 ∷ [] })
+  pub runs : Runs held (0 ∷ []) (record { answer = done 0 0; fact_marks = 0 ∷ 0 ∷ []; rule_marks = 4 ∷ []; steps = 9 ∷ 9 ∷ 9 ∷ 9 ∷ 9 ∷ 9 ∷ 9 ∷ 9 ∷ [] })
+  pub takes : SearchTakes held (0 ∷ 0 ∷ []) (record { answer = done 0 0; fact_marks = 0 ∷ 0 ∷ []; rule_marks = 4 ∷ []; steps = 9 ∷ 9 ∷ 9 ∷ 9 ∷ 9 ∷ 9 ∷ 9 ∷ 9 ∷ []; order = 5 ∷ 0 ∷ 0 ∷ [] })

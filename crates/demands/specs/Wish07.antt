@@ -1,5 +1,5 @@
 -- Document 02, wish 7, "The better of two orders", on any bytes at all.
-use Rattle.std.specs.Prelude.{ℕ, ◌≤◌, ◌<◌, ◌≡◌, true, false, List, [], ◌∷◌, ◌⊎◌, ◌↔◌, eqb, take}
+use Rattle.std.specs.Prelude.{ℕ, ◌≤◌, ◌<◌, ◌≡◌, true, false, List, [], ◌∷◌, ◌⊎◌, ◌↔◌, eqb, take, Ok}
 use Rattle.std.proofs.Math.Option.{none, some}
 use Rattle.theory.specs.Rule.{how_many, count, exception, withheld}
 use Rattle.theory.specs.Better.{FewestOfThree}
@@ -69,9 +69,9 @@ pub record Wish07 (file : List ℕ) : Type 0 where
 pub record BetterExample : Type 0 where
   pub first_sets : aside_of example_c (naming (0 ∷ 1 ∷ [])) ≡ 1
   pub second_sets : aside_of example_c (naming (1 ∷ 0 ∷ [])) ≡ 0
-  pub takes_second : choice_of example_c (naming (0 ∷ 1 ∷ [])) (naming (1 ∷ 0 ∷ [])) ≡ Second
-  pub takes_first : choice_of example_c (naming (1 ∷ 0 ∷ [])) (naming (0 ∷ 1 ∷ [])) ≡ First
+  pub takes_second : choice_of example_c (naming (0 ∷ 1 ∷ [])) (naming (1 ∷ 0 ∷ [])) ≡ Ok Second
+  pub takes_first : choice_of example_c (naming (1 ∷ 0 ∷ [])) (naming (0 ∷ 1 ∷ [])) ≡ Ok First
   pub hands_back : better_of example_c (naming (0 ∷ 1 ∷ [])) (naming (1 ∷ 0 ∷ [])) ≡ 5 ∷ 0 ∷ 1 ∷ 5 ∷ 0 ∷ 0 ∷ []
-  pub equal : choice_of example_c (naming (0 ∷ 1 ∷ [])) (naming (0 ∷ 1 ∷ [])) ≡ First
+  pub equal : choice_of example_c (naming (0 ∷ 1 ∷ [])) (naming (0 ∷ 1 ∷ [])) ≡ Ok First
   pub refuses : no_number (better_no example_c (naming (0 ∷ 1 ∷ [])) (naming (1 ∷ []))) ≡ 14
   pub hands_nothing : better_of example_c (naming (0 ∷ 1 ∷ [])) (naming (1 ∷ [])) ≡ []

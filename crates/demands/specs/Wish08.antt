@@ -1,6 +1,6 @@
 -- Document 02, wish 8, "Rules found by fact": for every accepted file what the index lists, how the counts of missing premises fall, and that from
 -- every fact set the closure and its steps, in their order, are those of the definition.
-use Rattle.std.specs.Prelude.{ℕ, ◌+◌, ◌<◌, ◌≤◌, ◌≡◌, true, false, ◌&&◌, List, [], ◌∷◌, map, ◌↔◌, length, get_or, take, eqb}
+use Rattle.std.specs.Prelude.{ℕ, ◌+◌, ◌<◌, ◌≤◌, ◌≡◌, true, false, ◌&&◌, List, [], ◌∷◌, map, ◌↔◌, length, get_or, take, eqb, Option, Some}
 use Rattle.theory.specs.Rule.{all, mem, how_many, Program, Mask, FactSet, adjoin, rule, plain, plain_rules, in_force}
 use Rattle.theory.specs.Derive.{fired, derive, steps, step_by}
 use Rattle.items.specs.Item.{narrow, max_facts, has}
@@ -12,8 +12,6 @@ use Rattle.premises.specs.Premises.{plain_ones, lacking, Counted}
 use Rattle.premises.specs.Plain.{plain_with, RowsAre}
 use Rattle.closure.specs.Room.{Room}
 use Rattle.closure.specs.Deriving.{Derived}
-use Rattle.closure.specs.declared.derivation.Derivation.{Derivation}
-use Rattle.closure.specs.declared.derivation.Derivation.TheVariants.{Closed}
 
 -- Each number is below the next.
 abbrev pub Ascending : List ℕ → Type 0
@@ -44,8 +42,8 @@ pub record FoundByFact (P : Program) : Type 0 where
 
 -- A derivation by the rules of a mask, over marks, counts of missing premises and a row of the rules fired, is the closure: it fires as many rules, leaves the marks
 -- of its set, and the rules in the row give its steps, in their order.
-pub record ClosureIs (P : Program) (on : Mask) (marks marks' missing' fired' : List ℕ) (r : Derivation) : Type 0 where
-  pub closes : r ≡ Closed (length (fired P on (has marks)))
+pub record ClosureIs (P : Program) (on : Mask) (marks marks' missing' fired' : List ℕ) (r : Option ℕ) : Type 0 where
+  pub closes : r ≡ Some (length (fired P on (has marks)))
   pub set : has marks' ≡ derive P on (has marks)
   pub in_order : map (step_by P) (take (length (fired P on (has marks))) fired') ≡ steps P on (has marks)
   -- The cell of each plain rule has the count of its distinct premises that the set still lacks, ..
@@ -54,7 +52,7 @@ pub record ClosureIs (P : Program) (on : Mask) (marks marks' missing' fired' : L
   pub cells_fall : (missing₀ : List ℕ) → Counted P (plain_ones P) (has marks) missing₀ → (i : ℕ) → plain P i ≡ true → get_or missing₀ i 0 ≡ get_or missing' i 0 + how_many (λ f. mem f (rule P i).premises) (concluded P (fired P on (has marks)))
 
 -- What the closure promises, over the tables of the file, of marks that bar no fact.
-abbrev pub DerivesFrom : List ℕ → Mask → List ℕ → List ℕ → List ℕ → List ℕ → Derivation → Type 0
+abbrev pub DerivesFrom : List ℕ → Mask → List ℕ → List ℕ → List ℕ → List ℕ → Option ℕ → Type 0
 DerivesFrom file on marks marks' missing' fired' r =
     (T fired₀ : List ℕ) → Scanned file T → Room (program_in T) marks 0 → length fired₀ ≡ max_facts narrow → ((f : ℕ) → barred_in marks f ≡ false) → Derived (program_in T) on marks fired₀ 0 r marks' missing' fired' → ClosureIs (program_of file) on marks marks' missing' fired' r
 
@@ -65,6 +63,6 @@ pub record Wish08 (file : List ℕ) : Type 0 where
   -- what the function that fills the index promises of the tables of the file
   pub indexed : (T index : List ℕ) → Scanned file T → RowsAre (program_in T) index → RowsAre (program_of file) index
   -- "From every fact set, the closure and its steps, in their order": for every mask of rules, ..
-  pub closed : (on : Mask) (marks marks' missing' fired' : List ℕ) (r : Derivation) → DerivesFrom file on marks marks' missing' fired' r
+  pub closed : (on : Mask) (marks marks' missing' fired' : List ℕ) (r : Option ℕ) → DerivesFrom file on marks marks' missing' fired' r
   -- .. and so for the closure of document 01, by the plain rules, all of which are in force.
-  pub by_plain : (marks marks' missing' fired' : List ℕ) (r : Derivation) → DerivesFrom file (plain_rules (program_of file) (in_force (program_of file))) marks marks' missing' fired' r
+  pub by_plain : (marks marks' missing' fired' : List ℕ) (r : Option ℕ) → DerivesFrom file (plain_rules (program_of file) (in_force (program_of file))) marks marks' missing' fired' r

@@ -5,7 +5,7 @@ use mathlib.Core.Path.{◌≡◌, sym, ap, subst, ◌∙◌}
 use mathlib.Core.Bool.{true}
 use mathlib.Core.List.{List}
 use mathlib.Core.Logic.{◌⊎◌, inl, inr, ⊎_elim}
-use borrow.Author.Tests.{eqb-true, eqb-false, ltb-true, ltb-false}
+use borrow.Author.Tests.{eqb-true, eqb-false, ltb-true}
 use lib.ListN.{get_or}
 use lib.Dec.{eqb, ltb}
 use Rattle.theory.specs.Rule.{mem, Program, in_force, count, rule}
@@ -98,23 +98,7 @@ module _ {P : Program} {seen stack roots todo ranks : List ℕ} {n m at f : ℕ}
           let same : seen_of seen' g ≡ seen_of seen g = placed-other g (λ q. omega arith) in
           k.none_between b g l h (omega (arith, o.openers b l)) (omega arith)
 
--- Another fact may be looked at, where no rule is left of the facts behind it.
-pub looked_elsewhere : {P : Program} {seen stack roots todo ranks : List ℕ} {n m at : ℕ} → Looked P seen stack roots todo ranks n m at → (to : ℕ) → ((f : ℕ) → f < P.facts → seen_of seen f < max_facts narrow → to < seen_of seen f → get_or todo f 0 ≡ thread_end) → Looked P seen stack roots todo ranks n m to
-looked_elsewhere k to none_behind =
-    record {
-      bounds = k.bounds;
-      few_rules = k.few_rules;
-      known = k.known;
-      premises = k.premises;
-      constraints = k.constraints;
-      none_yet = k.none_yet;
-      none_behind = none_behind;
-      none_between = k.none_between;
-      few_ranks = k.few_ranks;
-      closed_fewer = k.closed_fewer;
-    }
-
--- A fact with no rule left is left for the one that opened it.
+-- No rule is left of the fact that is looked at.
 module _ {P : Program} {seen stack roots todo ranks : List ℕ} {n m at : ℕ} (w : Walking P seen stack roots n m) (inside : at < n) (k : Looked P seen stack roots todo ranks n m at) (done : get_or todo (fact_at stack at) 0 ≡ thread_end) where
   -- so has every fact at that place or behind it
   none_left : (f : ℕ) → f < P.facts → seen_of seen f < max_facts narrow → at ≤ seen_of seen f → get_or todo f 0 ≡ thread_end
@@ -122,12 +106,6 @@ module _ {P : Program} {seen stack roots todo ranks : List ℕ} {n m at : ℕ} (
       same_or (seen_of seen f) at
       (λ e. let there : fact_at stack at ≡ f = subst (λ a. fact_at stack a ≡ f) e (w.place_there f l is_open).1 in subst (λ g. get_or todo g 0 ≡ thread_end) there done)
       (λ e. k.none_behind f l is_open (omega arith))
-
-  pub looked_left : Looked P seen stack roots todo ranks n m (opener_at stack at)
-  looked_left =
-      looked_elsewhere k (opener_at stack at)
-      (λ f l is_open behind.
-      ⊎_elim (λ e. k.none_between at f inside l behind (ltb-true _ _ e)) (λ e. none_left f l is_open (ltb-false _ _ e)) (either (ltb (seen_of seen f) at)))
 
   -- The last component is closed.
   module _ (here : Current roots n m at) (some_root : 0 < m) (last : root_place roots (m - 1) ≡ at) {seen' ranks' : List ℕ} (c : ClosedFrom stack at n seen ranks seen' ranks') where

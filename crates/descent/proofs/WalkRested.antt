@@ -1,29 +1,26 @@
 -- Between two walks no fact is open: how the first walk begins, how a walk from a fact begins, and how it ends.
-use Prim.Native.Nat.{ℕ, ◌+◌, ◌≤◌, ◌<◌}
+use Prim.Native.Nat.{ℕ, ◌≤◌, ◌<◌}
 use native.Mathlib.Omega.{arith}
-use mathlib.Core.Path.{◌≡◌, refl, sym, subst}
-use mathlib.Core.Bool.{Bool, true, false}
+use mathlib.Core.Path.{◌≡◌, refl, subst}
 use mathlib.Core.List.{List}
 use mathlib.Core.Logic.{inl, ⊎_elim}
-use borrow.Author.Tests.{ltb-true, ltb-false}
 use lib.ListN.{length, get_or, replicate, length-replicate, get_or-replicate}
-use lib.Dec.{eqb, ltb}
+use lib.Dec.{eqb}
 use Rattle.theory.specs.Rule.{Program, in_force, count, rule}
 use Rattle.theory.specs.Conditions.{Bounded}
 use Rattle.theory.specs.Layers.{Ranks, Cycle}
 use Rattle.theory.specs.Places.{rank_in}
-use Rattle.theory.proofs.Bools.{either, never}
 use Rattle.theory.proofs.Lists.{zeros}
 use Rattle.theory.proofs.Ranks.{cycle_unlayered, ranks_layered}
 use Rattle.theory.proofs.Counted.{counted_most}
 use Rattle.items.specs.Item.{narrow, max_facts, max_rules}
 use Rattle.tables.specs.Ranking.{RanksSoFar}
 use Rattle.threads.specs.Threads.{Threaded}
-use Rattle.components.specs.Open.{unmet, closed, seen_of, Walking, Current, MayOpen, Opened}
-use Rattle.descent.specs.declared.walk.Standing.{Standing}
-use Rattle.descent.specs.Standing.{rule_key, WasLooked, Looked, StaysMet, Stands, Rests, RanksFound}
+use Rattle.components.specs.Open.{unmet, closed, seen_of, Walking}
+use Rattle.std.specs.Prelude.{Ok, Err}
+use Rattle.components.specs.declared.look.Cyclic.{Cyclic}
+use Rattle.descent.specs.Standing.{rule_key, WasLooked, Rests, RanksFound}
 use Rattle.descent.proofs.ThreadsBegun.{threads_begin, none_before}
-use Rattle.descent.proofs.RulesLooked.{same_or, opened-met, looked_opened, looked_elsewhere}
 
 -- Nothing was met at first.
 none_met : (P : Program) (seen stack roots : List ℕ) → P.facts < max_facts narrow → seen ≡ replicate (max_facts narrow) unmet → length stack ≡ max_facts narrow → length roots ≡ max_facts narrow → Walking P seen stack roots 0 0
@@ -96,54 +93,6 @@ rests-first P {keys} {todo} {next} {seen} {stack} {roots} {ranks} b few few_rule
     none_looked : (i : ℕ) → i < count P → WasLooked P seen todo i → ⊥
     none_looked i h d = let u = not-met (rule P i).conclusion (b.conclusion_below i h) in ⊎_elim (λ e. omega (arith, u)) (λ e. omega (arith, u, e.0)) d
 
--- A fact that was not met is opened.
-module _ {P : Program} {seen stack roots todo next ranks : List ℕ} (w : Rests P seen stack roots todo next ranks) (f : ℕ) (low : f < P.facts) where
-  pub may_begin : ((length seen ≡ max_facts narrow) × (length stack ≡ max_facts narrow) × (length roots ≡ max_facts narrow)) × ((0 < max_facts narrow) × (0 ≤ 0) × (0 < max_facts narrow) × (f < max_facts narrow))
-  may_begin = ((w.walking.seen_places, w.walking.stack_places, w.walking.root_places), (omega arith, omega arith, omega arith, omega (arith, w.walking.few)))
-
-  pub begun :
-      (barring : Bool) (seen' stack' roots' : List ℕ) → seen_of seen f ≡ unmet
-      → (Walking P seen stack roots 0 0 → (0 < 0 → Current roots 0 0 0) → f < P.facts → seen_of seen f ≡ unmet → MayOpen P stack 0 f barring → Opened P seen stack roots 0 0 0 f seen' stack' roots')
-      → Stands P seen' stack' roots' todo next ranks (record { height = 1; roots = 1; at = 0 }) × (StaysMet seen seen' × (seen_of seen' f ≡ unmet → ⊥))
-  begun barring seen' stack' roots' not-met opens =
-      let o = opens w.walking (λ l. absurd (omega arith)) low not-met (λ a l. absurd (omega arith)) in (
-        record {
-          walking = o.walking;
-          current = λ _. record { inside = omega arith; no_root_behind = λ t l. omega (arith, (o.walking.root_inside t l).1) };
-          threads = w.threads;
-          so_far = w.so_far;
-          looked = looked_opened w.walking w.looked low not-met o;
-        },
-        (opened-met w.walking w.looked low not-met o, λ e. omega (arith, o.place)),
-      )
-
--- No fact is open any more, so there is no root either.
-pub rested : {P : Program} {seen stack roots todo next ranks : List ℕ} {s : Standing} → Stands P seen stack roots todo next ranks s → s.height ≤ 0 → Rests P seen stack roots todo next ranks
-rested {P} {seen} {stack} {roots} {todo} {next} {ranks} {s} w h =
-    record {
-      walking = subst (λ m. Walking P seen stack roots 0 m) no-root (subst (λ n. Walking P seen stack roots n s.roots) none_open w.walking);
-      threads = w.threads;
-      so_far = w.so_far;
-      looked = subst (λ m. Looked P seen stack roots todo ranks 0 m 0) no-root (subst (λ n. Looked P seen stack roots todo ranks n s.roots 0) none_open looked_none);
-    }
-  where
-    looked_none : Looked P seen stack roots todo ranks s.height s.roots 0
-    looked_none = looked_elsewhere w.looked 0 (λ f l is_open behind. absurd (omega (arith, (w.walking.place_there f l is_open).0)))
-
-    none_open : s.height ≡ 0
-    none_open = omega arith
-
-    no-root : s.roots ≡ 0
-    no-root =
-        ⊎_elim
-        (λ e. absurd (omega (arith, (w.walking.root_inside 0 (ltb-true _ _ e)).1)))
-        (λ e. let few : s.roots ≤ 0 = ltb-false _ _ e in omega arith)
-        (either (ltb 0 s.roots))
-
--- One fact more was met.
-pub met_further : (seen seen' : List ℕ) (f : ℕ) → ((g : ℕ) → g < f → seen_of seen g ≡ unmet → ⊥) → StaysMet seen seen' → (seen_of seen' f ≡ unmet → ⊥) → (g : ℕ) → g < f + 1 → seen_of seen' g ≡ unmet → ⊥
-met_further seen seen' f met stays here g l e = same_or g f (λ q. here (subst (λ a. seen_of seen' a ≡ unmet) q e)) (λ q. met g (omega arith) (stays g e))
-
 -- Every fact was met and none is open: all are closed, so every rule in force was looked at, and the ranks are right. They are the least ones, as none is too high.
 module _ {P : Program} {seen stack roots todo next ranks : List ℕ} (w : Rests P seen stack roots todo next ranks) (met : (f : ℕ) → f < P.facts → seen_of seen f ≡ unmet → ⊥) where
   all_closed : (f : ℕ) → f < P.facts → seen_of seen f ≡ closed
@@ -159,9 +108,9 @@ module _ {P : Program} {seen stack roots todo next ranks : List ℕ} (w : Rests 
         above = λ i h on g m. (w.looked.constraints i h on (inl (conclusion_closed i h)) g m).1;
       }
 
-  pub all-walked : RanksFound P true ranks
-  all-walked = record { layered = sym (ranks_layered P (in_force P) w.looked.bounds (rank_in ranks) right_ranks); least = λ _. record { ranks = right_ranks; least = w.so_far.under } }
+  pub all-walked : RanksFound P (Ok ranks)
+  all-walked = (ranks_layered P (in_force P) w.looked.bounds (rank_in ranks) right_ranks, record { ranks = right_ranks; least = w.so_far.under })
 
 -- A cycle: there are no ranks.
-pub cycle_met : (P : Program) (ranks : List ℕ) → Cycle P (in_force P) → RanksFound P false ranks
-cycle_met P ranks c = record { layered = sym (cycle_unlayered P (in_force P) c); least = λ t. never t refl }
+pub cycle_met : (P : Program) (e : Cyclic) → Cycle P (in_force P) → RanksFound P (Err e)
+cycle_met P e c = cycle_unlayered P (in_force P) c

@@ -1,7 +1,7 @@
 -- A turn of the walk: each way that it can go keeps what the walk knows and leaves less to be done, or has met a cycle.
 use Prim.Native.Nat.{ℕ, ◌+◌, ◌-◌, ◌*◌, ◌≤◌, ◌<◌}
 use native.Mathlib.Omega.{arith}
-use mathlib.Core.Path.{◌≡◌, refl, sym, ap, subst, ◌∙◌}
+use mathlib.Core.Path.{◌≡◌, sym, ap, subst, ◌∙◌}
 use mathlib.Core.Bool.{Bool, true, false, cond}
 use mathlib.Core.List.{List}
 use mathlib.Core.Logic.{◌⊎◌, inl, inr, ⊎_elim}
@@ -11,24 +11,22 @@ use lib.Dec.{eqb}
 use Rattle.theory.specs.Rule.{Program, in_force, count, rule}
 use Rattle.theory.specs.Layers.{Cycle}
 use Rattle.theory.specs.Places.{rank_in}
-use Rattle.items.specs.Item.{narrow, max_facts, max_rules}
+use Rattle.items.specs.Item.{narrow, max_facts}
 use Rattle.items.specs.declared.item.FactId.{FactId}
 use Rattle.tables.specs.Ranking.{RanksSoFar}
 use Rattle.threads.specs.Threads.{thread_end}
-use Rattle.components.specs.declared.look.Look.{Look}
-use Rattle.components.specs.declared.look.Look.TheVariants as look
-use Rattle.components.specs.declared.«open».Merge.{Merge}
-use Rattle.components.specs.declared.«open».Merge.TheVariants as merge
+use Rattle.std.specs.Prelude.{Ok, Err}
+use Rattle.components.specs.declared.look.Cyclic.{Cyclic}
+use Rattle.components.specs.declared.look.Look.TheVariants.{Unmet, Seen}
 use Rattle.components.specs.Open.{unmet, seen_of, fact_at, opener_at, root_place, unmet_count, Walking, Current, MayOpen, Opened, Gone, Merges, ClosedFrom}
 use Rattle.components.specs.Look.{LookFinds}
 use Rattle.components.proofs.ComponentWalk.{current_fewer, left-for_opener, may_open, open_constraint_cycle, merged, merge_cycle, none_merged, none_cycle}
 use Rattle.tables.proofs.RanksHeld.{raised}
-use Rattle.components.proofs.WalkClosed.{last-highest, closed-ranks, closed-unmet, closed-walking}
-use Rattle.descent.specs.declared.walk.Standing.{Standing}
-use Rattle.descent.specs.declared.walk.Turn.TheVariants.{Goes}
-use Rattle.descent.specs.Standing.{RuleOf, threads_left, Stands, TurnLeaves}
+use Rattle.components.proofs.WalkClosed.{closed-ranks, closed-unmet, closed-walking}
+use Rattle.components.specs.declared.«open».Standing.{Standing}
+use Rattle.descent.specs.Standing.{RuleOf, threads_left, Stands, Turned}
 use Rattle.descent.proofs.ThreadsFollowed.{followed, less-followed}
-use Rattle.descent.proofs.RulesLooked.{same_or, opened-met, looked_opened, looked_left, closed-met, looked_closed}
+use Rattle.descent.proofs.RulesLooked.{same_or, opened-met, looked_opened, closed-met, looked_closed}
 use Rattle.descent.proofs.RuleDone.{high_few, rank_raised, looked_done}
 
 -- Less is left where there is less of what counts for many places, ..
@@ -82,19 +80,6 @@ module _ {P : Program} {seen stack roots todo next ranks : List ℕ} {s : Standi
   opener_before : 0 < s.at → opener_at stack s.at < s.at
   opener_before h = w.walking.opener_earlier s.at h looked_inside
 
-  -- The fact is left for the one that opened it.
-  pub stepped_back : root_place roots (s.roots - 1) < s.at → get_or todo (fact_at stack s.at) 0 ≡ thread_end → TurnLeaves P seen todo s next (Goes (record { height = s.height; roots = s.roots; at = opener_at stack s.at })) seen stack roots todo ranks
-  stepped_back behind done = (
-    record {
-      walking = w.walking;
-      current = λ _. left-for_opener s.height s.roots w.walking (omega arith) looked_inside (omega (arith, looked_inside)) (omega arith) (λ t l. omega (arith, last-highest w.walking t l));
-      threads = w.threads;
-      so_far = w.so_far;
-      looked = looked_left w.walking looked_inside w.looked done;
-    },
-    (nearer_left _ _ s.height s.at s.height (opener_at stack s.at) refl some_open (inr (opener_before (omega arith))), λ f e. e),
-  )
-
   -- The last component is closed.
   module _ (not_behind : s.at ≤ root_place roots (s.roots - 1)) (seen' ranks' : List ℕ) (c : ClosedFrom stack s.at s.height seen ranks seen' ranks') where
     last-root : root_place roots (s.roots - 1) ≡ s.at
@@ -106,7 +91,7 @@ module _ {P : Program} {seen stack roots todo next ranks : List ℕ} {s : Standi
     still : Walking P seen' stack roots s.at (s.roots - 1)
     still = closed-walking w.walking here some_root last-root c
 
-    pub closed-last : get_or todo (fact_at stack s.at) 0 ≡ thread_end → TurnLeaves P seen todo s next (Goes (record { height = s.at; roots = s.roots - 1; at = opener_at stack s.at })) seen' stack roots todo ranks'
+    pub closed-last : get_or todo (fact_at stack s.at) 0 ≡ thread_end → Turned P seen todo s next (record { height = s.at; roots = s.roots - 1; at = opener_at stack s.at }) seen' stack roots todo ranks'
     closed-last done = (
       record {
         walking = still;
@@ -156,9 +141,6 @@ module _ {P : Program} {seen stack roots todo next ranks : List ℕ} {s : Standi
   pub rule-in_force : in_force P i ≡ true
   rule-in_force = own-rule.in-force
 
-  pub rule-small : i < max_rules
-  rule-small = omega (arith, rule_known, w.looked.few_rules)
-
   own-place : seen_of seen fact ≡ s.at
   own-place = rw l.is_fact (w.walking.fact_there s.at now_here.inside).1
 
@@ -166,17 +148,14 @@ module _ {P : Program} {seen stack roots todo next ranks : List ℕ} {s : Standi
   concludes = own-rule.concludes ∙ l.is_fact
 
   -- A fact that was not met is opened, and is looked at then.
-  module _ {r : Look} {f : FactId} {barring : Bool} (is : r ≡ look.Unmet f barring) (finds : LookFinds P i seen ranks r) where
-    found : LookFinds P i seen ranks (look.Unmet f barring)
-    found = subst (λ q. LookFinds P i seen ranks q) is finds
-
+  module _ {f : FactId} (barring : Bool) (found : LookFinds P i seen ranks (Ok (Unmet f barring))) where
     pub may_open_it : ((length seen ≡ max_facts narrow) × (length stack ≡ max_facts narrow) × (length roots ≡ max_facts narrow)) × ((s.height < max_facts narrow) × (s.roots ≤ s.height) × (s.at < max_facts narrow) × (f.0 < max_facts narrow))
     may_open_it = ((w.walking.seen_places, w.walking.stack_places, w.walking.root_places), (few_open w l.some_open, few_roots w l.some_open, looked_small w l.some_open, omega (arith, found.1.0, w.walking.few)))
 
     pub opened :
         (seen' stack' roots' : List ℕ)
         → (Walking P seen stack roots s.height s.roots → (0 < s.height → Current roots s.height s.roots s.at) → f.0 < P.facts → seen_of seen f.0 ≡ unmet → MayOpen P stack s.height f.0 barring → Opened P seen stack roots s.height s.roots s.at f.0 seen' stack' roots')
-        → TurnLeaves P seen todo s next (Goes (record { height = s.height + 1; roots = s.roots + 1; at = s.height })) seen' stack' roots' todo ranks
+        → Turned P seen todo s next (record { height = s.height + 1; roots = s.roots + 1; at = s.height }) seen' stack' roots' todo ranks
     opened seen' stack' roots' opens =
         let o = opens w.walking w.current found.1.0 found.1.1 (may_open w.walking now_here i rule_known rule-in_force concludes f.0 barring found.0) in (
           record {
@@ -190,28 +169,20 @@ module _ {P : Program} {seen stack roots todo next ranks : List ℕ} {s : Standi
         )
 
   -- A constraint that is open closes a cycle.
-  pub barred-look : {r : Look} → r ≡ look.Barred → LookFinds P i seen ranks r → Cycle P (in_force P)
-  barred-look is finds =
-      let (k, (named, (low, is_open))) = subst (λ q. LookFinds P i seen ranks q) is finds in
-      open_constraint_cycle w.walking now_here i rule_known rule-in_force concludes k named low is_open
+  pub barred-look : {e : Cyclic} → LookFinds P i seen ranks (Err e) → Cycle P (in_force P)
+  barred-look (k, (named, (low, is_open))) = open_constraint_cycle w.walking now_here i rule_known rule-in_force concludes k named low is_open
 
   -- All facts of the rule were met. Its conclusion gets the rank that they ask; the roots behind the lowest open premise go, or a cycle is met.
-  module _ {r : Look} {low high : ℕ} (is : r ≡ look.Seen low high) (finds : LookFinds P i seen ranks r) where
-    met : LookFinds P i seen ranks (look.Seen low high)
-    met = subst (λ q. LookFinds P i seen ranks q) is finds
-
+  module _ {low high : ℕ} (met : LookFinds P i seen ranks (Ok (Seen low high))) where
     asked-rank : RanksSoFar P (set ranks fact high)
     asked-rank = raised P ranks fact high fact_small (omega (arith, high_few w.walking w.looked met.0.1, w.walking.few)) (λ rank r. subst (λ f. high ≤ rank f) own-rule.concludes (met.0.1.under rank r)) w.so_far
 
-    pub merged_cycle : {m : Merge} → m ≡ merge.Barred → Merges roots s.roots low m → Cycle P (in_force P)
-    merged_cycle way merges =
+    pub merged_cycle : {e : Cyclic} → Merges roots s.roots low (Err e) → Cycle P (in_force P)
+    merged_cycle {e} gone =
         ⊎_elim
-        (λ e. absurd (none_cycle w.walking (rw e at gone)))
-        (λ (g, (named, (below, (place, is_open)))). merge_cycle w.walking now_here i rule_known rule-in_force concludes g low named below place is_open gone)
+        (λ none. absurd (none_cycle w.walking e (rw none at gone)))
+        (λ (g, (named, (below, (place, is_open)))). merge_cycle w.walking now_here i rule_known rule-in_force concludes g low named below place is_open e gone)
         met.0.0
-      where
-        gone : Merges roots s.roots low merge.Barred
-        gone = subst (λ q. Merges roots s.roots low q) way merges
 
     left-walking : (left : ℕ) → Gone roots s.roots low left → Walking P seen stack roots s.height left
     left-walking left gone =
@@ -222,9 +193,9 @@ module _ {P : Program} {seen stack roots todo next ranks : List ℕ} {s : Standi
 
     -- The rule is done with: the fact's next one follows it in the thread. Its rank is raised where it was below the one that is asked.
     pub looked-on :
-        {m : Merge} {left : ℕ} (j : ℕ) (ranks' : List ℕ) → m ≡ merge.Left left → Merges roots s.roots low m → j ≡ i → ((ranks' ≡ set ranks fact high) × (rank_in ranks fact < high)) ⊎ ((ranks' ≡ ranks) × (high ≤ rank_in ranks fact))
-        → TurnLeaves P seen todo s next (Goes (record { height = s.height; roots = left; at = s.at })) seen stack roots (set todo fact (get_or next j 0)) ranks'
-    looked-on {left = left} j ranks' way merges same ranked =
+        {left : ℕ} (j : ℕ) (ranks' : List ℕ) → Merges roots s.roots low (Ok left) → j ≡ i → ((ranks' ≡ set ranks fact high) × (rank_in ranks fact < high)) ⊎ ((ranks' ≡ ranks) × (high ≤ rank_in ranks fact))
+        → Turned P seen todo s next (record { height = s.height; roots = left; at = s.at }) seen stack roots (set todo fact (get_or next j 0)) ranks'
+    looked-on {left} j ranks' gone same ranked =
         rw same (
           record {
             walking = left-walking left gone.0;
@@ -255,6 +226,3 @@ module _ {P : Program} {seen stack roots todo next ranks : List ℕ} {s : Standi
             λ f e. e,
           ),
         )
-      where
-        gone : Merges roots s.roots low (merge.Left left)
-        gone = subst (λ q. Merges roots s.roots low q) way merges

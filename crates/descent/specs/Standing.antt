@@ -1,5 +1,5 @@
 -- Internal: where a walk along dependencies stands.
-use Rattle.std.specs.Prelude.{ℕ, ◌+◌, ◌-◌, ◌*◌, ◌<◌, ◌≤◌, ◌≡◌, Bool, true, false, cond, List, ◌⊎◌, length, get_or, eqb}
+use Rattle.std.specs.Prelude.{ℕ, ◌+◌, ◌-◌, ◌*◌, ◌<◌, ◌≤◌, ◌≡◌, true, false, cond, List, ◌⊎◌, length, get_or, eqb, Result, Ok, Err}
 use Rattle.theory.specs.Rule.{mem, up_to, Program, in_force, count, rule}
 use Rattle.theory.specs.Conditions.{Bounded}
 use Rattle.theory.specs.Lists.{sum_of}
@@ -8,10 +8,10 @@ use Rattle.theory.specs.Places.{rank_in}
 use Rattle.items.specs.Item.{narrow, max_facts, max_rules}
 use Rattle.tables.specs.Ranking.{RanksSoFar}
 use Rattle.threads.specs.Threads.{thread_end}
+use Rattle.components.specs.declared.look.Cyclic.{Cyclic}
 use Rattle.components.specs.Open.{unmet, closed, seen_of, opener_at, root_place, unmet_count, Walking, Current}
-use Rattle.descent.specs.declared.walk.Standing.{Standing}
-use Rattle.descent.specs.declared.walk.Turn.{Turn}
-use Rattle.descent.specs.declared.walk.Turn.TheVariants.{Goes, Cyclic}
+use Rattle.components.specs.declared.«open».Standing.{Standing}
+use Rattle.descent.specs.declared.walk.Walker.{Walker}
 
 -- The key of a rule in force is its conclusion. Another rule has the end for its key, so it stands in no thread.
 abbrev pub rule_key : Program → ℕ → ℕ
@@ -86,11 +86,18 @@ pub record Stands (P : Program) (seen stack roots todo next ranks : List ℕ) (s
   pub so_far : RanksSoFar P ranks
   pub looked : Looked P seen stack roots todo ranks s.height s.roots s.at
 
--- A turn of the walk: it goes on with less to do, or has met a cycle.
-abbrev pub TurnLeaves : Program → List ℕ → List ℕ → Standing → List ℕ → Turn → List ℕ → List ℕ → List ℕ → List ℕ → List ℕ → Type 0
-TurnLeaves P seen todo s next (Goes s') seen' stack' roots' todo' ranks' =
+abbrev pub WalkStands : Program → List ℕ → Walker → Type 0
+WalkStands P next w = Stands P w.seen w.stack w.roots w.todo next w.ranks w.standing
+
+-- A turn of the walk that goes on: less is left to be done.
+abbrev pub Turned : Program → List ℕ → List ℕ → Standing → List ℕ → Standing → List ℕ → List ℕ → List ℕ → List ℕ → List ℕ → Type 0
+Turned P seen todo s next s' seen' stack' roots' todo' ranks' =
     Stands P seen' stack' roots' todo' next ranks' s' × ((turns_left P seen' todo' s'.height s'.at < turns_left P seen todo s.height s.at) × StaysMet seen seen')
-TurnLeaves P seen todo s next Cyclic seen' stack' roots' todo' ranks' = Cycle P (in_force P)
+
+-- A turn of the walk: it goes on with less to do, or has met a cycle.
+abbrev pub TurnLeaves : Program → List ℕ → Walker → Result Unit Cyclic → Walker → Type 0
+TurnLeaves P next w (Ok _) w' = Turned P w.seen w.todo w.standing next w'.standing w'.seen w'.stack w'.roots w'.todo w'.ranks
+TurnLeaves P next w (Err _) w' = Cycle P (in_force P)
 
 -- No fact is open: between two walks.
 pub record Rests (P : Program) (seen stack roots todo next ranks : List ℕ) : Type 0 where
@@ -99,12 +106,15 @@ pub record Rests (P : Program) (seen stack roots todo next ranks : List ℕ) : T
   pub so_far : RanksSoFar P ranks
   pub looked : Looked P seen stack roots todo ranks 0 0 0
 
+abbrev pub WalkRests : Program → List ℕ → Walker → Type 0
+WalkRests P next w = Rests P w.seen w.stack w.roots w.todo next w.ranks
+
 -- A walk from a fact ends with no fact open and this one met, or has met a cycle.
-abbrev pub WalkLeaves : Program → List ℕ → List ℕ → ℕ → Bool → List ℕ → List ℕ → List ℕ → List ℕ → List ℕ → Type 0
-WalkLeaves P next seen f true seen' stack' roots' todo' ranks' = Rests P seen' stack' roots' todo' next ranks' × (StaysMet seen seen' × (seen_of seen' f ≡ unmet → ⊥))
-WalkLeaves P next seen f false seen' stack' roots' todo' ranks' = Cycle P (in_force P)
+abbrev pub WalkLeaves : Program → List ℕ → Walker → ℕ → Result Unit Cyclic → Walker → Type 0
+WalkLeaves P next w f (Ok _) w' = WalkRests P next w' × (StaysMet w.seen w'.seen × (seen_of w'.seen f ≡ unmet → ⊥))
+WalkLeaves P next w f (Err _) w' = Cycle P (in_force P)
 
 -- The walk over all facts: the ranks are the least ones; or there are none.
-pub record RanksFound (P : Program) (r : Bool) (ranks : List ℕ) : Type 0 where
-  pub layered : r ≡ is_layered P (in_force P)
-  pub least : r ≡ true → LeastRanks P (in_force P) (rank_in ranks)
+abbrev pub RanksFound : Program → Result (List ℕ) Cyclic → Type 0
+RanksFound P (Ok ranks) = (is_layered P (in_force P) ≡ true) × LeastRanks P (in_force P) (rank_in ranks)
+RanksFound P (Err _) = is_layered P (in_force P) ≡ false

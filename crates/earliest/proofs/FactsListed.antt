@@ -1,22 +1,17 @@
--- The loops that list the facts to guess and keep the facts marked.
+-- The loop that lists the facts to guess.
 use Prim.Native.Nat.{ℕ, zero, suc, ◌+◌, ◌-◌, ◌<◌, ◌≤◌}
 use native.Mathlib.Omega.{arith}
 use native.Mathlib.Nat.{zero-add}
 use native.Mathlib.Numerals.{add-one}
 use mathlib.Core.Path.{◌≡◌, refl, sym, ap, subst, ◌∙◌}
 use mathlib.Core.Bool.{Bool, true, false, cond}
-use mathlib.Core.List.{List, [], ◌∷◌, ◌++◌, append_assoc, append-nil}
-use mathlib.Core.Logic.{⊎_elim}
-use borrow.Author.Tests.{eqb-true, eqb-false}
-use lib.Dec.{eqb}
-use lib.ListN.{length, get_or, set, take, length-set}
-use lib.Seq.{take-suc-set, get_or-set_same, get_or-set_other}
-use Rattle.items.specs.Item.{narrow, max_facts, max_guessed, has}
+use mathlib.Core.List.{List, [], ◌∷◌, ◌++◌, append_assoc}
+use lib.ListN.{length, set, take, length-set}
+use lib.Seq.{take-suc-set}
+use Rattle.items.specs.Item.{max_guessed, has}
 use Rattle.theory.specs.Rule.{keep, how_many, range, up_to}
 use Rattle.theory.specs.Lists.{down_from}
-use Rattle.theory.proofs.Bools.{either}
 use Rattle.theory.proofs.Lists.{how_many-append, less_one, range-more}
-use Rattle.earliest.specs.Root.{Kept}
 
 -- Of the facts below `facts` those from f on are listed.
 pub record Down (marks : List ℕ) (facts : ℕ) (row : List ℕ) (n f : ℕ) : Type 0 where
@@ -40,13 +35,6 @@ module _ (marks : List ℕ) (facts : ℕ) (row : List ℕ) where
   pub none_listed : how_many (has marks) (up_to facts) ≤ max_guessed → length row ≡ max_guessed → Down marks facts row 0 facts
   none_listed few l =
       record { places = l; below = omega arith; room = omega (arith, few, how_many-down (has marks) facts); listed = refl }
-
-  pub all_listed : (n : ℕ) → Down marks facts row n 0 → (n ≤ max_guessed) × (take n row ≡ keep (has marks) (down_from facts))
-  all_listed n w = (omega (arith, w.room), sym (append-nil (take n row)) ∙ w.listed)
-
-  pub no_more : (n f : ℕ) → Down marks facts row n f → f ≤ 0 → Down marks facts row n 0
-  no_more n zero w l = w
-  no_more n (suc f) w l = absurd (omega arith)
 
   module _ (n f : ℕ) (more : 0 < f) (w : Down marks facts row n f) where
     -- the highest that is left
@@ -91,30 +79,3 @@ module _ (marks : List ℕ) (facts : ℕ) (row : List ℕ) where
             room = omega (arith, (left true e).0);
             listed = front ∙ (left true e).1;
           }
-
--- The facts below f are kept.
-pub record Keeping (marks found : List ℕ) (f : ℕ) : Type 0 where
-  pub places : length found ≡ max_facts narrow
-  pub kept : (g : ℕ) → g < f → has found g ≡ has marks g
-
-module _ (marks found : List ℕ) where
-  pub none_kept : length found ≡ max_facts narrow → Keeping marks found 0
-  none_kept l = record { places = l; kept = λ g h. absurd (omega arith) }
-
-  pub all-kept : (f : ℕ) → max_facts narrow ≤ f → Keeping marks found f → Kept marks found
-  all-kept f h w = record { places = w.places; facts = λ g l. w.kept g (omega arith) }
-
-  pub one_kept : (f : ℕ) → f < max_facts narrow → Keeping marks found f → Keeping marks (set found f (get_or marks f 0)) (f + 1)
-  unfolding has
-  one_kept f h w = record { places = length-set found f (get_or marks f 0) ∙ w.places; kept = at_place }
-    where
-      at_place : (g : ℕ) → g < f + 1 → has (set found f (get_or marks f 0)) g ≡ has marks g
-      at_place g l = ⊎_elim same other (either (eqb g f))
-        where
-          same : eqb g f ≡ true → has (set found f (get_or marks f 0)) g ≡ has marks g
-          same t = let is : g ≡ f = eqb-true g f t in rw is (ap (λ (m : ℕ). eqb m 1) (get_or-set_same found f (get_or marks f 0) 0 (omega (arith, w.places))))
-
-          other : eqb g f ≡ false → has (set found f (get_or marks f 0)) g ≡ has marks g
-          other t =
-              let apart : g ≡ f → ⊥ = eqb-false g f t in
-              ap (λ (m : ℕ). eqb m 1) (get_or-set_other found f g (get_or marks f 0) 0 apart) ∙ w.kept g (omega arith)

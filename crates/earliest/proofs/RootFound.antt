@@ -6,6 +6,8 @@ use mathlib.Core.Bool.{Bool, true, false, cond, not, ◌&&◌}
 use mathlib.Core.List.{List, [], ◌∷◌}
 use mathlib.Core.Logic.{⊎_elim}
 use mathlib.Core.Option.{Option, none, some}
+use Rattle.std.specs.Prelude.{Some, None}
+use Rattle.std.specs.Prelude as std
 use borrow.Author.Tests.{ltb-true, ltb-false}
 use lib.Dec.{ltb}
 use lib.ListN.{length, replicate}
@@ -77,13 +79,13 @@ module _ (P : Program) {row : List ℕ} (every : row ≡ guessed P (in_force P))
       ap (λ (ks : List ℕ). hunt (fits P (in_force P)) ks (sure_in P row base)) every
       ∙ ap (hunt (fits P (in_force P)) (guessed P (in_force P))) (fun_ext none_sure)
 
-  none_shown : (found : List ℕ) → ◌≡◌ {A = Option FactSet} (first_fit P row base) none → Shown (search P (in_force P)) false found
+  none_shown : ◌≡◌ {A = Option FactSet} (first_fit P row base) none → Shown (search P (in_force P)) None
   unfolding search
-  none_shown found e = let q : ◌≡◌ {A = Option FactSet} (hunt (fits P (in_force P)) (guessed P (in_force P)) nothing) none = sym first-is ∙ e in rw (q, search) refl
+  none_shown e = let q : ◌≡◌ {A = Option FactSet} (hunt (fits P (in_force P)) (guessed P (in_force P)) nothing) none = sym first-is ∙ e in rw (q, search) refl
 
-  one_shown : (found : List ℕ) (g : ℕ) → first_fit P row base ≡ some (guess_at row (sure_in P row base) g) → has found ≡ derived_by P row base g → Shown (search P (in_force P)) true found
+  one_shown : (found : List ℕ) (g : ℕ) → first_fit P row base ≡ some (guess_at row (sure_in P row base) g) → length found ≡ max_facts narrow → has found ≡ derived_by P row base g → Shown (search P (in_force P)) (Some found)
   unfolding search
-  one_shown found g e h = let q : hunt (fits P (in_force P)) (guessed P (in_force P)) nothing ≡ some (guess_at row (sure_in P row base) g) = sym first-is ∙ e in rw (q, search) (refl, h)
+  one_shown found g e l h = let q : hunt (fits P (in_force P)) (guessed P (in_force P)) nothing ≡ some (guess_at row (sure_in P row base) g) = sym first-is ∙ e in rw (q, search) (found, refl, l, h)
 
 -- Bytes for the facts alone show a whole set.
 bytes_show : {P : Program} → Bounded P → P.facts ≤ max_facts narrow → (row base found : List ℕ) (g : ℕ) → length found ≡ max_facts narrow → Derived P row base g found → has found ≡ derived_by P row base g
@@ -106,15 +108,13 @@ none_out before base e h k =
 
 -- What the guesses find is what the search takes.
 module _ {P : Program} (b : Bounded P) (few : P.facts ≤ max_facts narrow) {row base : List ℕ} (r : AtRoot P row base) where
-  pub nothing-shown : (found : List ℕ) → ◌≡◌ {A = Option FactSet} (first_fit P row base) none → Shown (search P (in_force P)) false found
-  nothing-shown found e = none_shown P r.every base found e
+  pub nothing-shown : ◌≡◌ {A = Option FactSet} (first_fit P row base) none → Shown (search P (in_force P)) None
+  nothing-shown e = none_shown P r.every base e
 
-  pub fits-shown : (marks found : List ℕ) → ((g : ℕ) × (first_fit P row base ≡ some (guess_at row (sure_in P row base) g)) × Derived P row base g marks) → Kept marks found → Shown (search P (in_force P)) true found
+  pub fits-shown : (marks found : List ℕ) → ((g : ℕ) × (first_fit P row base ≡ some (guess_at row (sure_in P row base) g)) × Derived P row base g marks) → Kept marks found → Shown (search P (in_force P)) (Some found)
   fits-shown marks found w k =
-      one_shown P r.every base found w.0 w.1 (bytes_show b few row base found w.0 k.places (λ f l. k.facts f l ∙ w.2 f l))
+      one_shown P r.every base found w.0 w.1 k.places (bytes_show b few row base found w.0 k.places (λ f l. k.facts f l ∙ w.2 f l))
 
-  pub found_shown : (t : Bool) (found : List ℕ) → Found P row base t found → Shown (search P (in_force P)) t found
-  found_shown true found f =
-      let w : (g : ℕ) × (first_fit P row base ≡ some (guess_at row (sure_in P row base) g)) × Derived P row base g found = f.one_fits refl in
-      one_shown P r.every base found w.0 w.1 (bytes_show b few row base found w.0 f.places w.2)
-  found_shown false found f = nothing-shown found (f.none_fits refl)
+  pub found_shown : (answer : std.Option (List ℕ)) → Found P row base answer → Shown (search P (in_force P)) answer
+  found_shown None f = nothing-shown (f.none_fits refl)
+  found_shown (Some found) f = let w = f.one_fits found refl in one_shown P r.every base found w.1 w.2 w.0 (bytes_show b few row base found w.1 w.0 w.3)

@@ -1,5 +1,6 @@
 -- Internal: the search for the earliest stable set, where all constraint facts are guessed.
-use Rattle.std.specs.Prelude.{ℕ, ◌<◌, ◌≡◌, Bool, true, false, List, length}
+use Rattle.std.specs.Prelude.{ℕ, ◌<◌, ◌≡◌, false, List, length, Some, None}
+use Rattle.std.specs.Prelude as std
 use Rattle.std.proofs.Math.Option.{Option, none, some}
 use Rattle.theory.specs.Rule.{Program, FactSet, in_force}
 use Rattle.theory.specs.Search.{guessed}
@@ -13,10 +14,10 @@ pub record AtRoot (P : Program) (row base : List ℕ) : Type 0 where
   pub none_held : (k : ℕ) → has base (outside k) ≡ false
   pub row_base : RowBase P row base
 
--- Whether a set was found, and then the bytes show it.
-abbrev pub Shown : Option FactSet → Bool → List ℕ → Type 0
-Shown none r bytes = r ≡ false
-Shown (some M) r bytes = (r ≡ true) × (has bytes ≡ M)
+-- The bytes show the set that was found, if there is one.
+abbrev pub Shown : Option FactSet → std.Option (List ℕ) → Type 0
+Shown none r = r ≡ None
+Shown (some M) r = (bytes : List ℕ) × (r ≡ Some bytes) × (length bytes ≡ max_facts narrow) × (has bytes ≡ M)
 
 -- the facts that the marks show, in bytes for the facts alone
 pub record Kept (marks bytes : List ℕ) : Type 0 where

@@ -4,6 +4,7 @@ use native.Mathlib.Decide.{dec_lt}
 use mathlib.Core.Option.{Option, none, some}
 use borrow.Author.Tests.{lt-leb}
 use lib.Seq.{take-append_seam}
+use Rattle.std.specs.Prelude.{Ok}
 use Rattle.theory.specs.Rule.{up_to}
 use Rattle.theory.proofs.Bools.{and_left, and_right}
 use Rattle.items.specs.declared.refusal.Refusal.{Refusal}
@@ -17,7 +18,6 @@ use Rattle.items.proofs.PlacedBytes.{over-more}
 use Rattle.items.proofs.RefusalNumbers.{number-above}
 use Rattle.reader.specs.Questions.{file_no}
 use Rattle.reader.proofs.Accepted.{all_asked}
-use Rattle.generator.specs.declared.answer.Loaded.TheVariants.{Written}
 use Rattle.generator.specs.Load.{items_of, load_bytes}
 use Rattle.generator.specs.Outcome.{most_facts, load_length, load_questions, load_no, LoadOutcome, load_written, refused_with, load_outcome, load_number, load_count, file_in, LoadMeans}
 use Rattle.generator.specs.Drawing.{RulesWritten}
@@ -85,12 +85,12 @@ module _ (start n m : ℕ) (out : List ℕ) where
         unfolding load_bytes
         whole = ap (λ (bytes : List ℕ). 0x10 ∷ n ∷ bytes) (sym (bytes_append narrow (items_of start n (up_to m)) (Rules m ∷ [])))
 
-        pub written : (out₁ out₂ out₃ : List ℕ) (facts bytes : ℕ) → out₁ ≡ placed (0x10 ∷ n ∷ []) 0 out → facts ≡ n → RulesWritten start facts m out₁ out₂ → out₃ ≡ placed (bytes_of narrow (Rules m ∷ [])) (2 + 6 * m) out₂ → bytes ≡ load_length m → ◌≡◌ {A = LoadOutcome} (record { answer = Written bytes; out = out₃ }) o
+        pub written : (out₁ out₂ out₃ : List ℕ) (facts bytes : ℕ) → out₁ ≡ placed (0x10 ∷ n ∷ []) 0 out → facts ≡ n → RulesWritten start facts m out₁ out₂ → out₃ ≡ placed (bytes_of narrow (Rules m ∷ [])) (2 + 6 * m) out₂ → bytes ≡ load_length m → ◌≡◌ {A = LoadOutcome} (record { answer = Ok bytes; out = out₃ }) o
         unfolding load_written
         written out₁ out₂ out₃ facts bytes w₁ f w₂ w₃ e =
             let front = bytes_of narrow (Facts n ∷ items_of start n (up_to m)) in
             let all : out₃ ≡ over (load_bytes start n m) out = w₃ ∙ ap₂ (λ (k : ℕ) (s : List ℕ). placed (bytes_of narrow (Rules m ∷ [])) k s) (sym (front_length start n m)) (subst (λ (k : ℕ). RulesWritten start k m out₁ out₂) f w₂ out w₁) ∙ over-more front (bytes_of narrow (Rules m ∷ [])) out ∙ ap (λ (bs : List ℕ). over bs out) whole in
-            ap₂ (λ (k : ℕ) (s : List ℕ). record { answer = Written k; out = s }) (e ∙ sym (load-length start n m)) all ∙ sym (load_is passed)
+            ap₂ (λ (k : ℕ) (s : List ℕ). record { answer = Ok k; out = s }) (e ∙ sym (load-length start n m)) all ∙ sym (load_is passed)
 
   -- Number 0 says that every question got yes.
   pub no-refusal : load_number o.answer ≡ 0 → ◌≡◌ {A = Option Refusal} (load_no n m (length out)) none

@@ -1,5 +1,5 @@
 -- Rules written one after another.
-use Rattle.std.proofs.Common.{◌≡◌, ℕ, zero, suc, ◌+◌, ◌*◌, ◌%◌, ◌<◌, ◌≤◌, eqb, ◌≢◌, ◌⊎◌, List, [], ◌∷◌, ◌++◌, length, get_or, sym, refl, ap, ◌∙◌, subst, ap₂, inl, inr, append_assoc, append-nil, zero-add, add-one, arith}
+use Rattle.std.proofs.Common.{◌≡◌, ℕ, suc, ◌+◌, ◌*◌, ◌%◌, ◌<◌, ◌≤◌, Bool, true, false, cond, eqb, List, [], ◌∷◌, ◌++◌, length, sym, refl, ap, ◌∙◌, ap₂, append_assoc, append-nil, zero-add, add-one, arith}
 use Rattle.theory.specs.Rule.{up_to}
 use Rattle.theory.proofs.Lists.{length-range, range-more}
 use Rattle.items.specs.declared.item.Item.{Item}
@@ -11,21 +11,17 @@ use Rattle.items.proofs.PlacedBytes.{placed-more, placed-length, over-more}
 use Rattle.generator.specs.Draws.{increment, states, state_after, taken}
 use Rattle.generator.specs.Load.{conclusion_of, first_of, second_of, rule_items, items_of}
 use Rattle.generator.specs.Outcome.{load_length}
-use Rattle.generator.specs.Drawing.{RuleWritten, RulesWritten}
+use Rattle.generator.specs.Drawing.{first_kind, second_kind, RuleWritten, RulesWritten}
 use Rattle.generator.proofs.LoadRead.{two, rule-length, rules-length}
 
--- The kinds of a rule's two items, by turns.
-abbrev pub first_kinds : List ℕ
-first_kinds = 3 ∷ 2 ∷ 2 ∷ []
-
-abbrev pub second_kinds : List ℕ
-second_kinds = 3 ∷ 2 ∷ 3 ∷ []
-
-turn_bytes : (t f g : ℕ) → t < 3 → bytes_of narrow (two (eqb t 0) (eqb t 1) f g) ≡ (get_or first_kinds t 0 ∷ f ∷ []) ++ (get_or second_kinds t 0 ∷ g ∷ [])
-turn_bytes zero f g h = refl
-turn_bytes (suc zero) f g h = refl
-turn_bytes (suc (suc zero)) f g h = refl
-turn_bytes (suc (suc (suc t))) f g h = absurd (omega arith)
+-- The bytes of a rule's two further items.
+turn_bytes : (t f g : ℕ) → bytes_of narrow (two (eqb t 0) (eqb t 1) f g) ≡ (first_kind t ∷ f ∷ []) ++ (second_kind t ∷ g ∷ [])
+turn_bytes t f g = go (eqb t 0) (eqb t 1)
+  where
+    go : (a b : Bool) → bytes_of narrow (two a b f g) ≡ (cond a 3 2 ∷ f ∷ []) ++ (cond a 3 (cond b 2 3) ∷ g ∷ [])
+    go true b = refl
+    go false true = refl
+    go false false = refl
 
 -- The state behind one draw more.
 next-state : (start k state : ℕ) → state ≡ state_after start k → (state + increment) % states ≡ state_after start (suc k)
@@ -43,15 +39,13 @@ placed-three a b c d e f at s h =
 
 module _ (start n : ℕ) where
   -- The bytes of rule i, by the table of kinds.
-  rule-bytes : (i : ℕ) → bytes_of narrow (rule_items start n i) ≡ (opens_kind narrow ∷ conclusion_of start n i ∷ []) ++ ((get_or first_kinds (i % 3) 0 ∷ first_of start n i ∷ []) ++ (get_or second_kinds (i % 3) 0 ∷ second_of start n i ∷ []))
+  rule-bytes : (i : ℕ) → bytes_of narrow (rule_items start n i) ≡ (opens_kind narrow ∷ conclusion_of start n i ∷ []) ++ ((first_kind (i % 3) ∷ first_of start n i ∷ []) ++ (second_kind (i % 3) ∷ second_of start n i ∷ []))
   unfolding rule_items
-  rule-bytes i = ap (λ (bytes : List ℕ). opens_kind narrow ∷ conclusion_of start n i ∷ bytes) (turn_bytes (i % 3) (first_of start n i) (second_of start n i) (omega arith))
+  rule-bytes i = ap (λ (bytes : List ℕ). opens_kind narrow ∷ conclusion_of start n i ∷ bytes) (turn_bytes (i % 3) (first_of start n i) (second_of start n i))
 
   -- What is written when i rules are.
-  pub record Drawn (before : List ℕ) (state turn at i : ℕ) (out : List ℕ) : Type 0 where
+  pub record Drawn (before : List ℕ) (state i : ℕ) (out : List ℕ) : Type 0 where
     pub state_is : state ≡ state_after start (3 * i)
-    pub turn_is : turn ≡ i % 3
-    pub place : at ≡ 2 + 6 * i
     pub kept : length out ≡ length before
     pub written : RulesWritten start n i before out
 
@@ -75,34 +69,23 @@ module _ (start n : ℕ) where
       ap (λ (bytes : List ℕ). 0x10 ∷ n ∷ bytes)
       (sym (bytes_append narrow (items_of start n (up_to i)) (rule_items start n i)) ∙ ap (bytes_of narrow) (sym (items_more i)))
 
-  pub none_drawn : (out : List ℕ) → Drawn out start 0 2 0 out
+  pub none_drawn : (out : List ℕ) → Drawn out start 0 out
   unfolding state_after
-  none_drawn out = record { state_is = refl; turn_is = refl; place = refl; kept = refl; written = λ room e. e }
+  none_drawn out = record { state_is = refl; kept = refl; written = λ room e. e }
 
-  module _ {before : List ℕ} {state turn at i : ℕ} {out : List ℕ} (d : Drawn before state turn at i out) where
-    -- The turns begin anew behind the last.
-    pub next-turn : (turn' : ℕ) → ((turn + 1 ≡ 3) × (turn' ≡ 0)) ⊎ ((turn + 1 ≢ 3) × (turn' ≡ turn + 1)) → turn' ≡ (i + 1) % 3
-    next-turn turn' (inl w) = omega (arith, d.turn_is, w.0, w.1)
-    next-turn turn' (inr w) = omega (arith, d.turn_is, w.0, w.1)
+  module _ {before : List ℕ} {state i : ℕ} {out : List ℕ} (d : Drawn before state i out) (m : ℕ) (h : i < m) (l : load_length m ≤ length before) where
+    pub rule_fits : 2 + 6 * i + 6 ≤ length out
+    rule_fits = omega (arith, d.kept)
 
-    pub all-drawn : (m : ℕ) → i ≡ m → RulesWritten start n m before out
-    all-drawn m e = subst (λ (k : ℕ). RulesWritten start n k before out) e d.written
-
-  module _ {before : List ℕ} {state turn at i : ℕ} {out : List ℕ} (d : Drawn before state turn at i out) (m : ℕ) (h : i < m) (l : load_length m ≤ length before) where
-    pub rule_fits : at + 6 ≤ length out
-    rule_fits = omega (arith, d.place, d.kept)
-
-    pub rule-drawn : (r turn' : ℕ) (out' : List ℕ) → RuleWritten n state turn at out r out' → turn' ≡ (i + 1) % 3 → Drawn before r turn' (at + 6) (i + 1) out'
-    rule-drawn r turn' out' w t =
-        let wrote = w start i d.state_is d.turn_is in
+    pub rule-drawn : (r : ℕ) (out' : List ℕ) → RuleWritten n state (i % 3) (2 + 6 * i) out r out' → Drawn before r (i + 1) out'
+    rule-drawn r out' w =
+        let wrote = w start i d.state_is refl in
         record {
           state_is = wrote.1 ∙ ap (λ (k : ℕ). state_after start (3 * k)) (sym (add-one i));
-          turn_is = t;
-          place = omega (arith, d.place);
-          kept = ap length wrote.0 ∙ placed-length (bytes_of narrow (rule_items start n i)) out at (omega (arith, rule-length start n i, rule_fits)) ∙ d.kept;
+          kept = ap length wrote.0 ∙ placed-length (bytes_of narrow (rule_items start n i)) out (2 + 6 * i) (omega (arith, rule-length start n i, rule_fits)) ∙ d.kept;
           written = λ room e.
               wrote.0
-              ∙ ap₂ (λ (k : ℕ) (s : List ℕ). placed (bytes_of narrow (rule_items start n i)) k s) (d.place ∙ sym (front_length i)) (d.written room e)
+              ∙ ap₂ (λ (k : ℕ) (s : List ℕ). placed (bytes_of narrow (rule_items start n i)) k s) (sym (front_length i)) (d.written room e)
               ∙ over-more (bytes_of narrow (Facts n ∷ items_of start n (up_to i))) (bytes_of narrow (rule_items start n i)) room
               ∙ ap (λ (bytes : List ℕ). over bytes room) (front-more i);
         }
@@ -114,8 +97,8 @@ module _ (n state turn at s₁ s₂ s₃ f₁ f₂ f₃ : ℕ) (out out₁ out�
       → f₁ ≡ taken n s₁ → f₂ ≡ taken n s₂ → f₃ ≡ taken n s₃
       → at + 6 ≤ length out
       → out₁ ≡ placed (0x01 ∷ f₁ ∷ []) at out
-      → out₂ ≡ placed (get_or first_kinds turn 0 ∷ f₂ ∷ []) (at + 2) out₁
-      → out₃ ≡ placed (get_or second_kinds turn 0 ∷ f₃ ∷ []) (at + 4) out₂
+      → out₂ ≡ placed (first_kind turn ∷ f₂ ∷ []) (at + 2) out₁
+      → out₃ ≡ placed (second_kind turn ∷ f₃ ∷ []) (at + 4) out₂
       → RuleWritten n state turn at out s₃ out₃
   three-written d₁ d₂ d₃ t₁ t₂ t₃ fits w₁ w₂ w₃ start i e t =
       let b₁ : s₁ ≡ state_after start (suc (3 * i)) = d₁ ∙ next-state start (3 * i) state e in

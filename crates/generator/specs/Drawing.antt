@@ -1,8 +1,8 @@
 -- Internal: how the draws and the rules of a load are made.
-use Rattle.std.specs.Prelude.{◌≡◌, ℕ, suc, ◌+◌, ◌*◌, ◌/◌, ◌%◌, ◌<◌, ◌≤◌, List, [], ◌∷◌}
+use Rattle.std.specs.Prelude.{◌≡◌, ℕ, suc, ◌+◌, ◌*◌, ◌/◌, ◌%◌, ◌<◌, ◌≤◌, cond, eqb, List, [], ◌∷◌}
 use Rattle.theory.specs.Rule.{up_to}
 use Rattle.items.specs.declared.item.Item.TheVariants.{Facts}
-use Rattle.items.specs.Item.{narrow}
+use Rattle.items.specs.Item.{narrow, premise_kind, constraint_kind}
 use Rattle.items.specs.Write.{bytes_of, placed, over}
 use Rattle.generator.specs.declared.draw.Modulus.{Modulus}
 use Rattle.generator.specs.Draws.{states, state_after}
@@ -14,6 +14,13 @@ pub record Divides (by : Modulus) : Type 0 where
   pub some : 0 < by.facts
   pub few : by.facts ≤ most_facts
   pub inverse : by.inverse ≡ states / by.facts + 1
+
+-- The kinds of a rule's two further items, by its turn.
+abbrev pub first_kind : ℕ → ℕ
+first_kind turn = cond (eqb turn 0) (constraint_kind narrow) (premise_kind narrow)
+
+abbrev pub second_kind : ℕ → ℕ
+second_kind turn = cond (eqb turn 0) (constraint_kind narrow) (cond (eqb turn 1) (premise_kind narrow) (constraint_kind narrow))
 
 -- Where the state is the one behind the draws of the rules before rule i, whose turn it is, its items stand at a place, and r is the state behind its draws.
 abbrev pub RuleWritten : ℕ → ℕ → ℕ → ℕ → List ℕ → ℕ → List ℕ → Type 0

@@ -1,15 +1,13 @@
 -- What making a test load answers and leaves in the buffer lent to it (document 02, wish 5).
-use Rattle.std.specs.Prelude.{◌≡◌, ℕ, ◌+◌, ◌*◌, ◌&&◌, List, [], ◌∷◌, length, take, nat_le}
+use Rattle.std.specs.Prelude.{◌≡◌, ℕ, ◌+◌, ◌*◌, ◌&&◌, List, [], ◌∷◌, length, take, nat_le, Result, Ok, Err}
 use Rattle.std.proofs.Math.Option.{Option, none, some}
 use Rattle.items.specs.declared.refusal.Refusal.{Refusal}
 use Rattle.items.specs.declared.refusal.Refusal.TheVariants.{FactsOutOfRange, RulesOutOfRange, LoadShort}
-use Rattle.items.specs.Question as refusal
 use Rattle.items.specs.Question.{Question, ask, first_no, no_number}
+use Rattle.items.specs.Answer.{answer_number, count_in}
 use Rattle.items.specs.Item.{max_rules}
 use Rattle.items.specs.Write.{over}
 use Rattle.reader.specs.Questions.{program_of, file_no}
-use Rattle.generator.specs.declared.answer.Loaded.{Loaded}
-use Rattle.generator.specs.declared.answer.Loaded.TheVariants.{Written, Refused}
 use Rattle.generator.specs.Load.{load_bytes, load_program}
 
 -- The most facts of a load, and the bytes of one with m rules: "5 + 6 × m bytes".
@@ -32,16 +30,16 @@ load_no n m room = first_no (load_questions n m room)
 
 -- The answer, and the buffer.
 pub record LoadOutcome : Type 0 where
-  pub answer : Loaded
+  pub answer : Result ℕ Refusal
   pub out : List ℕ
 
 -- The file is written over the front of the buffer, and its length is answered.
 unfoldable pub load_written : List ℕ → List ℕ → LoadOutcome
-load_written bytes out = record { answer = Written (length bytes); out = over bytes out }
+load_written bytes out = record { answer = Ok (length bytes); out = over bytes out }
 
 -- A refusal alters no byte.
 abbrev pub refused_with : Refusal → List ℕ → LoadOutcome
-refused_with r out = record { answer = Refused r; out = out }
+refused_with r out = record { answer = Err r; out = out }
 
 -- What the operation answers and leaves.
 unfoldable pub load_outcome : ℕ → ℕ → ℕ → List ℕ → LoadOutcome
@@ -52,13 +50,11 @@ load_outcome start n m out =
     ]
 
 -- The answer's number, 0 where there is a result, and its count, 0 on a refusal.
-abbrev pub load_number : Loaded → ℕ
-load_number (Written bytes) = 0
-load_number (Refused r) = refusal.number r
+abbrev pub load_number : Result ℕ Refusal → ℕ
+load_number r = answer_number r
 
-abbrev pub load_count : Loaded → ℕ
-load_count (Written bytes) = bytes
-load_count (Refused r) = 0
+abbrev pub load_count : Result ℕ Refusal → ℕ
+load_count r = count_in r
 
 -- The file that is handed out: as many bytes as are counted.
 abbrev pub file_in : LoadOutcome → List ℕ

@@ -1,40 +1,42 @@
 // The rules of a load, written one after another. Internal.
-ghost use Rattle.std.specs.Prelude.{◌+◌, ◌*◌, ◌<◌, ◌≤◌, length};
-ghost use Rattle.items.specs.Item.{narrow, item_width, max_rules};
+ghost use Rattle.std.specs.Prelude.{◌≡◌, ◌+◌, ◌*◌, ◌≤◌, length};
+ghost use Rattle.items.specs.Item.{narrow, item_width, max_rules, kind_number};
 ghost use Rattle.generator.specs.Outcome.{load_length};
-ghost use Rattle.generator.specs.Drawing.{Divides, RuleWritten, RulesWritten};
+ghost use Rattle.generator.specs.Drawing.{Divides, first_kind, second_kind, RuleWritten, RulesWritten};
 
 use crate::draw::{Modulus, fact_of, step};
-use items::item::{CONSTRAINT_KIND, OPENS_KIND, PREMISE_KIND};
+use items::item::Kind;
 use items::lengths::ITEM_WIDTH;
 use items::write::write_fact_body;
 
 // The bytes of a rule: its conclusion and two items more.
 pub const RULE_LENGTH: usize = 3 * ITEM_WIDTH;
 
-// The kinds of these two, by turns.
+// The two items are of these kinds, by turns.
 const TURNS: usize = 3;
 
-const FIRST_KINDS: [u8; TURNS] = [CONSTRAINT_KIND, PREMISE_KIND, PREMISE_KIND];
-
-const SECOND_KINDS: [u8; TURNS] = [CONSTRAINT_KIND, PREMISE_KIND, CONSTRAINT_KIND];
+fn kinds_at(turn: usize) -> (Kind, Kind)
+    ensures { (kind_number result.0 ≡ first_kind turn) × (kind_number result.1 ≡ second_kind turn) }
+{
+    match turn {
+        0 => (Kind::Constraint, Kind::Constraint),
+        1 => (Kind::Premise, Kind::Premise),
+        _ => (Kind::Premise, Kind::Constraint),
+    }
+}
 
 // Draws a rule from a state and writes it at a place. Answers the state behind its draws.
 fn write_rule(out: &mut [u8], at: usize, state: u32, turn: usize, by: Modulus) -> u32
-    requires { Divides by × (turn < 3) × (at + 3 * item_width narrow ≤ length out.old) }
+    requires { Divides by × (at + 3 * item_width narrow ≤ length out.old) }
     ensures { RuleWritten by.facts state turn at out.old result out.new }
 {
     let first = step(state);
     let second = step(first);
     let third = step(second);
-    write_fact_body(out, at, OPENS_KIND, fact_of(first, by));
-    write_fact_body(out, at + ITEM_WIDTH, FIRST_KINDS[turn], fact_of(second, by));
-    write_fact_body(
-        out,
-        at + 2 * ITEM_WIDTH,
-        SECOND_KINDS[turn],
-        fact_of(third, by),
-    );
+    let kinds = kinds_at(turn);
+    write_fact_body(out, at, Kind::Opens, fact_of(first, by));
+    write_fact_body(out, at + ITEM_WIDTH, kinds.0, fact_of(second, by));
+    write_fact_body(out, at + 2 * ITEM_WIDTH, kinds.1, fact_of(third, by));
     third
 }
 
@@ -44,16 +46,8 @@ pub fn write_rules(out: &mut [u8], start: u32, rules: usize, by: Modulus)
     ensures { RulesWritten start by.facts rules out.old out.new }
 {
     let mut state = start;
-    let mut turn: usize = 0;
-    let mut at = ITEM_WIDTH;
-    let mut i: usize = 0;
-    while i < rules {
-        state = write_rule(out, at, state, turn, by);
-        at += RULE_LENGTH;
-        turn += 1;
-        if turn == TURNS {
-            turn = 0;
-        }
-        i += 1;
+    for i in 0..rules {
+        let at = ITEM_WIDTH + RULE_LENGTH * i;
+        state = write_rule(out, at, state, i % TURNS, by);
     }
 }

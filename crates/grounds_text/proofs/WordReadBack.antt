@@ -7,7 +7,7 @@ use mathlib.Core.List.{List, [], ◌∷◌, ◌++◌}
 use borrow.Author.Tests.{le-leb, ltb-true}
 use lib.ListN.{length, length-append}
 use lib.Dec.{ltb}
-use Rattle.words.specs.declared.Word.TheVariants.{Number}
+use Rattle.std.specs.Prelude.{Some}
 use Rattle.words.specs.Word.{digit_zero, digit_nine, is_digit, all_digits, longest_number, most_value, is_number, word_of}
 use Rattle.panel_lines.specs.Text.{digit, digits, decimal}
 use Rattle.panel_lines.proofs.Decimal.{few_digits}
@@ -44,7 +44,7 @@ some_digits (suc k) n = go (ltb n 10) refl
     go true e = rw e (omega arith)
     go false e = rw e (omega (arith, length-append (digits k (n / 10)) (digit (n % 10))))
 
-pub word-read_back : (n : ℕ) → n ≤ most_value → word_of (decimal n) ≡ Number n
+pub word-read_back : (n : ℕ) → n ≤ most_value → word_of (decimal n) ≡ Some n
 unfolding decimal word_of is_number
 word-read_back n h = rw (digits_value n n (omega arith), all_digits_lem n n (omega arith), le-leb n most_value h, le-leb 1 (length (digits n n)) (some_digits n n), le-leb (length (digits n n)) longest_number few)
   where

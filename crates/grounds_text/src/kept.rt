@@ -1,30 +1,27 @@
 // The text for a fact, into a buffer that is large enough. Internal.
 ghost use Rattle.std.specs.Prelude.{◌≤◌, length};
 ghost use Rattle.items.specs.Item.{narrow};
-ghost use Rattle.tables.specs.Layout.{program_in, WellFormed};
+ghost use Rattle.tables.specs.Held.{held};
 ghost use Rattle.questions.specs.Put.{Put};
 ghost use Rattle.grounds_text.specs.Text.{grounds_text, lines_room};
 ghost use Rattle.grounds_text.specs.Tabled.{program_text};
 
 use items::item::{MAX_FACTS, MAX_RULES};
 use items::lengths::{NAME_WIDTH, STEP_WIDTH};
-use keeping::answer::Grounds;
 use panel_lines::put::put_line;
 use panel_text::lines::put_steps;
 use panel_text::order::put_order;
 use panel_text::text::MOST_STEP;
-use reader::answer::Asked;
-use tables::layout::TABLE_CELLS;
+use tables::layout::Tables;
 
 // Every text has room in so many bytes: a step for each fact.
 pub const LINES_ROOM: usize = MAX_FACTS * MOST_STEP;
 
 // The text by the tables of an accepted file. The order gets yes to its questions and the buffers are large enough, so the only no is that the fact
 // was not derived.
-fn put_kept(tables: &[u16; TABLE_CELLS], fact: u32, out: &mut [u8]) -> usize
-    requires well_formed { WellFormed tables.now }
+fn put_kept(tables: &Tables, fact: u32, out: &mut [u8]) -> usize
     requires narrow_in_bounds { lines_room narrow ≤ length out.old }
-    ensures { Put (program_text (program_in tables.now) fact) 0 out.old result out.new }
+    ensures { Put (program_text (held tables.now) fact) 0 out.old result out.new }
 {
     let mut order = [0u8; MAX_RULES * NAME_WIDTH];
     let named = put_order(tables, &mut order);
@@ -39,23 +36,23 @@ fn put_kept(tables: &[u16; TABLE_CELLS], fact: u32, out: &mut [u8]) -> usize
         &mut rule_marks,
         &mut steps,
     ) {
-        Grounds::Refused(r) => put_line(out, 0, b'E', r.number() as u16),
-        Grounds::Given { steps: taken } => {
-            let used = (taken as usize) * STEP_WIDTH;
+        Err(r) => put_line(out, 0, b'E', u16::from(r.number())),
+        Ok(taken) => {
+            let used = usize::from(taken) * STEP_WIDTH;
             put_steps(out, 0, &steps[..used])
         }
     }
 }
 
-// The text for a fact by a file. Answers its length.
+// The text for a fact by a file. Answers its length. The panel asks its file alike: one function for both would take a closure with a contract in place of these lines.
 pub fn put_text(file: &[u8], fact: u32, out: &mut [u8]) -> usize
     requires { lines_room narrow ≤ length out.old }
     ensures put { Put (grounds_text file.now fact) 0 out.old result out.new }
     ensures upper_bound { result ≤ lines_room narrow }
 {
-    let mut tables = [0u16; TABLE_CELLS];
+    let mut tables = Tables::empty();
     match reader::scan::scan(file, &mut tables) {
-        Asked::No(r) => put_line(out, 0, b'E', r.number() as u16),
-        Asked::Yes(_) => put_kept(&tables, fact, out),
+        Err(r) => put_line(out, 0, b'E', u16::from(r.number())),
+        Ok(_) => put_kept(&tables, fact, out),
     }
 }

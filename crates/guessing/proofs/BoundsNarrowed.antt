@@ -7,11 +7,11 @@ use mathlib.Core.Bool.{Bool, true, false, not, ◌&&◌}
 use mathlib.Core.List.{List}
 use mathlib.Core.Logic.{by_cases, ⊎_elim}
 use native.Mathlib.Decide.{ℕ_discrete}
-use borrow.Author.Tests.{eq-eqb, ne_eqb}
+use borrow.Author.Tests.{eq-eqb}
 use lib.Bits.{bit_and, bit_xor}
+use mir.Val.{bool_byte}
 use lib.Dec.{eqb, ltb}
 use lib.ListN.{length, get_or}
-use lib.Pow.{pow_mono}
 use Rattle.theory.proofs.Lists.{element_below}
 use Rattle.theory.specs.Rule.{all, Program, Sub, in_force}
 use Rattle.theory.specs.Guesses.{bit, unlike, fact_at, guess_at}
@@ -19,7 +19,7 @@ use Rattle.theory.proofs.Bools.{either, never}
 use Rattle.theory.proofs.NumberBits.{bit-and, bit-xor, bit-zero}
 use Rattle.theory.proofs.Stable.{least_anti}
 use Rattle.theory.proofs.Guesses.{guess_mono, fits-apart}
-use Rattle.items.specs.Item.{narrow, max_facts, max_guessed, has}
+use Rattle.items.specs.Item.{narrow, max_facts, has}
 use Rattle.guessing.specs.Guessing.{sure_in, RowBase, derived_by, fits_at, Derived}
 use Rattle.guessing.specs.Bounds.{Gathered, Responds, Between, EndsRefuted}
 use Rattle.guessing.proofs.PathBits.{same_bits}
@@ -49,16 +49,13 @@ module _ {row marks : List ℕ} {number n : ℕ} (w : Gathering row marks number
             (λ ne. let s : n + 1 - suc i ≡ suc (n - suc i) = omega arith in ap (bit (2 * number + d)) s ∙ one_lower number d (n - suc i) h ∙ w.bits i (omega arith));
       }
 
-  pub marked-gathered : n < length row → get_or marks (get_or row n 0) 0 ≡ 1 → Gathering row marks (2 * number + 1) (n + 1)
+  pub one_gathered : n < length row → Gathering row marks (2 * number + bool_byte (eqb (get_or marks (get_or row n 0) 0) 1)) (n + 1)
   unfolding has
-  marked-gathered l e = let o : (2 * number + 1) % 2 ≡ 1 = omega arith in gather_bit l 1 (omega arith) (ap (λ (m : ℕ). eqb m 1) (o ∙ sym e))
-
-  pub others_gathered : n < length row → (get_or marks (get_or row n 0) 0 ≡ 1 → ⊥) → Gathering row marks (2 * number) (n + 1)
-  unfolding has
-  others_gathered l ne =
-      let o : (2 * number + 0) % 2 ≡ 0 = omega arith in
-      let z : 2 * number + 0 ≡ 2 * number = omega arith in
-      subst (λ (m : ℕ). Gathering row marks m (n + 1)) z (gather_bit l 0 (omega arith) (ap (λ (m : ℕ). eqb m 1) o ∙ sym (ne_eqb _ 1 ne)))
+  one_gathered l = go _ refl
+    where
+      go : (b : Bool) → b ≡ has marks (get_or row n 0) → Gathering row marks (2 * number + bool_byte b) (n + 1)
+      go true e = let o : (2 * number + 1) % 2 ≡ 1 = omega arith in gather_bit l 1 (omega arith) (ap (λ (m : ℕ). eqb m 1) o ∙ e)
+      go false e = let o : (2 * number + 0) % 2 ≡ 0 = omega arith in gather_bit l 0 (omega arith) (ap (λ (m : ℕ). eqb m 1) o ∙ e)
 
   pub all-gathered : length row ≤ n → Gathered row marks number
   all-gathered l =
@@ -67,10 +64,6 @@ module _ {row marks : List ℕ} {number n : ℕ} (w : Gathering row marks number
         small = subst (λ (m : ℕ). number < 2 ^ m) is w.small;
         bits = λ j h. let e : n - suc (length row - suc j) ≡ j = omega arith in sym (ap (bit number) e) ∙ w.bits (length row - suc j) (omega arith);
       }
-
-  -- the number fits a word
-  pub gathered_small : n < length row → length row ≤ max_guessed → number < 32768
-  gathered_small l few = let m : 2 ^ n ≤ 2 ^ 15 = pow_mono {i = n} {j = 15} (omega arith) in omega (arith, w.small)
 
 -- What is gathered of the marks of a guess is what it derives.
 pub gathered_responds : {P : Program} {row base marks : List ℕ} {g number : ℕ} → all (λ k. ltb k (max_facts narrow)) row ≡ true → Derived P row base g marks → Gathered row marks number → Responds P row base g number

@@ -1,21 +1,23 @@
 -- The loop over the places: each place at which every guess that passes the test is the same gives a nogood of the others.
 use Prim.Native.Nat.{ℕ, ◌+◌, ◌-◌, ◌*◌, ◌%◌, ◌^◌, ◌<◌, ◌≤◌}
-use native.Mathlib.Decide.{ℕ_discrete}
 use native.Mathlib.Nat.{mul-div_cancel}
+use native.Mathlib.Numerals.{add-one}
 use native.Mathlib.Omega.{arith}
 use mathlib.Core.Path.{◌≡◌, sym, ap, subst, ◌∙◌}
 use mathlib.Core.Bool.{Bool, true, false, ◌&&◌}
 use mathlib.Core.List.{List}
-use mathlib.Core.Logic.{by_cases, ⊎_elim}
+use mathlib.Core.Logic.{⊎_elim}
+use Rattle.std.proofs.lemmas.List.Elements.{All-push, All-same}
 use lib.Bits.{bit_and, bit_xor}
 use lib.Dec.{eqb}
-use lib.ListN.{length, get_or, set, length-set}
+use lib.ListN.{length, take, set, length-set}
 use lib.Pow.{pow_pos, shl_exact}
-use lib.Seq.{get_or-set_same, get_or-set_other}
+use lib.Seq.{take-suc-set}
 use Rattle.theory.specs.Guesses.{bit}
 use Rattle.theory.proofs.Bools.{either, never, and_left, and_both}
 use Rattle.theory.proofs.NumberBits.{bit-and, bit_shifted, bit-zero}
 use Rattle.items.specs.Item.{max_guessed}
+use Rattle.nogoods.specs.declared.nogood.Nogood.{Nogood}
 use Rattle.nogoods.specs.Nogoods.{most_kept, Refutes, Stored}
 use Rattle.guessing.specs.Bounds.{BitsBetween, EndsRefuted}
 
@@ -45,60 +47,52 @@ module _ {pass : ℕ → Bool} {places low high : ℕ} (between : BitsBetween pa
       has = and_left (bit x j) (bit mask j) (sym (bit-and j x mask) ∙ ap (λ (n : ℕ). bit n j) e ∙ at)
 
 -- One nogood more behind those that are stored.
-module _ (pass : ℕ → Bool) (masks values : List ℕ) (kept m v : ℕ) where
-  abbrev Entry : ℕ → Type 0
-  Entry i = Refutes pass (get_or (set masks kept m) i 0) (get_or (set values kept v) i 0)
-
-  entry : (i : ℕ) {m' v' : ℕ} → get_or (set masks kept m) i 0 ≡ m' → get_or (set values kept v) i 0 ≡ v' → Refutes pass m' v' → Entry i
-  entry i p q h x s e = h x s (ap (bit_and x) (sym p) ∙ e ∙ q)
-
-  pub one_stored : kept < length masks → kept < length values → Stored pass masks values kept → Refutes pass m v → Stored pass (set masks kept m) (set values kept v) (kept + 1)
-  one_stored k l stored refutes i q =
-      by_cases (ℕ_discrete i kept)
-      (λ is. subst Entry (sym is) (entry kept (get_or-set_same masks kept m 0 k) (get_or-set_same values kept v 0 l) refutes))
-      (λ n. entry i (get_or-set_other masks kept i m 0 n) (get_or-set_other values kept i v 0 n) (stored i (omega arith)))
+pub one_stored : {pass : ℕ → Bool} (nogoods : List Nogood) (kept : ℕ) (n : Nogood) → kept < length nogoods → Stored pass (take kept nogoods) → Refutes pass n.mask n.value → Stored pass (take (kept + 1) (set nogoods kept n))
+one_stored {pass} nogoods kept n l stored refutes =
+    All-same (λ (m : Nogood). Refutes pass m.mask m.value) _ _
+    (ap (λ (k : ℕ). take k (set nogoods kept n)) (add-one kept) ∙ take-suc-set nogoods kept n l)
+    (All-push (λ (m : Nogood). Refutes pass m.mask m.value) (take kept nogoods) n stored refutes)
 
 -- Behind one place: what is stored refutes, whatever test the bounds are those of.
-pub record Storing (places low high : ℕ) (masks values : List ℕ) (kept place : ℕ) : Type 0 where
+pub record Storing (places low high : ℕ) (nogoods : List Nogood) (kept place : ℕ) : Type 0 where
   pub few : kept + place ≤ places
-  pub mask_places : length masks ≡ most_kept
-  pub value_places : length values ≡ most_kept
-  pub stored : (pass : ℕ → Bool) → BitsBetween pass places low high → Stored pass masks values kept
+  pub room : length nogoods ≡ most_kept
+  pub stored : (pass : ℕ → Bool) → BitsBetween pass places low high → Stored pass (take kept nogoods)
 
-pub none_stored : {places low high : ℕ} (masks values : List ℕ) → length masks ≡ most_kept → length values ≡ most_kept → Storing places low high masks values 0 places
-none_stored masks values m v = record { few = omega arith; mask_places = m; value_places = v; stored = λ _ _ i l. absurd (omega arith) }
+pub none_stored : {places low high : ℕ} (nogoods : List Nogood) → length nogoods ≡ most_kept → Storing places low high nogoods 0 places
+none_stored nogoods m = record { few = omega arith; room = m; stored = λ _ _ i d l. absurd (omega arith) }
 
-module _ {places low high : ℕ} {masks values : List ℕ} {kept place : ℕ} (w : Storing places low high masks values kept place) (l : 0 < place) where
+module _ {places low high : ℕ} {nogoods : List Nogood} {kept place : ℕ} (w : Storing places low high nogoods kept place) (l : 0 < place) where
   -- A place that the bounds leave open.
-  pub left_open : Storing places low high masks values kept (place - 1)
-  left_open = record { few = omega (arith, w.few); mask_places = w.mask_places; value_places = w.value_places; stored = w.stored }
+  pub left_open : Storing places low high nogoods kept (place - 1)
+  left_open = record { few = omega (arith, w.few); room = w.room; stored = w.stored }
 
   module _ (small : places ≤ max_guessed) where
     inside : place - 1 < places
     inside = omega (arith, w.few)
 
-    stores : (m v : ℕ) → ((pass : ℕ → Bool) → BitsBetween pass places low high → Refutes pass m v) → Storing places low high (set masks kept m) (set values kept v) (kept + 1) (place - 1)
-    stores m v refutes =
+    stores : (n : Nogood) → ((pass : ℕ → Bool) → BitsBetween pass places low high → Refutes pass n.mask n.value) → Storing places low high (set nogoods kept n) (kept + 1) (place - 1)
+    stores n refutes =
         record {
           few = omega (arith, w.few);
-          mask_places = length-set masks kept m ∙ w.mask_places;
-          value_places = length-set values kept v ∙ w.value_places;
-          stored = λ pass between. one_stored pass masks values kept m v (omega (arith, w.few, w.mask_places)) (omega (arith, w.few, w.value_places)) (w.stored pass between) (refutes pass between);
+          room = length-set nogoods kept n ∙ w.room;
+          stored = λ pass between. one_stored nogoods kept n (omega (arith, w.few, w.room)) (w.stored pass between) (refutes pass between);
         }
 
     -- A place that every guess has, ..
-    pub stores_low : bit low (place - 1) ≡ true → Storing places low high (set masks kept (bit_and (1 * 2 ^ (place - 1) % 4294967296) high)) (set values kept 0) (kept + 1) (place - 1)
-    stores_low h = stores _ _ (λ _ between. lacks-low between (place - 1) _ inside (place_bit (place - 1) (omega (arith, inside))) h)
+    pub stores_low : bit low (place - 1) ≡ true → Storing places low high (set nogoods kept (record { mask = bit_and (1 * 2 ^ (place - 1) % 4294967296) high; value = 0 })) (kept + 1) (place - 1)
+    stores_low h = stores _ (λ _ between. lacks-low between (place - 1) _ inside (place_bit (place - 1) (omega (arith, inside))) h)
 
     -- .. and one that none can have.
-    pub stores_high : bit high (place - 1) ≡ false → Storing places low high (set masks kept (1 * 2 ^ (place - 1) % 4294967296)) (set values kept (1 * 2 ^ (place - 1) % 4294967296)) (kept + 1) (place - 1)
-    stores_high h = stores _ _ (λ _ between. above_high between (place - 1) _ inside (place_bit (place - 1) (omega (arith, inside))) h)
+    pub stores_high : bit high (place - 1) ≡ false → Storing places low high (set nogoods kept (record { mask = 1 * 2 ^ (place - 1) % 4294967296; value = 1 * 2 ^ (place - 1) % 4294967296 })) (kept + 1) (place - 1)
+    stores_high h = stores _ (λ _ between. above_high between (place - 1) _ inside (place_bit (place - 1) (omega (arith, inside))) h)
 
 -- The bounds themselves behind them, where neither passes the test.
-pub ends_stored : {pass : ℕ → Bool} {low high : ℕ} (masks values : List ℕ) (kept : ℕ) → kept ≤ max_guessed → length masks ≡ most_kept → length values ≡ most_kept → Stored pass masks values kept → EndsRefuted pass low high → Stored pass (set (set masks kept (bit_xor low high)) (kept + 1) (bit_xor low high)) (set (set values kept 0) (kept + 1) (bit_xor low high)) (kept + 2)
-ends_stored {pass} {low} {high} masks values kept l m v stored e =
-    let free = bit_xor low high in
-    let first : Stored pass (set masks kept free) (set values kept 0) (kept + 1) = one_stored pass masks values kept free 0 (omega arith) (omega arith) stored e.low_fails in
+pub ends_stored : {pass : ℕ → Bool} {low high : ℕ} (nogoods : List Nogood) (kept : ℕ) → kept ≤ max_guessed → length nogoods ≡ most_kept → Stored pass (take kept nogoods) → EndsRefuted pass low high
+    → Stored pass (take (kept + 2) (set (set nogoods kept (record { mask = bit_xor low high; value = 0 })) (kept + 1) (record { mask = bit_xor low high; value = bit_xor low high })))
+ends_stored {pass} {low} {high} nogoods kept l m stored e =
+    let first : Nogood = record { mask = bit_xor low high; value = 0 } in
+    let second : Nogood = record { mask = bit_xor low high; value = bit_xor low high } in
     let is : kept + 1 + 1 ≡ kept + 2 = omega arith in
-    subst (λ (n : ℕ). Stored pass (set (set masks kept free) (kept + 1) free) (set (set values kept 0) (kept + 1) free) n) is
-    (one_stored pass (set masks kept free) (set values kept 0) (kept + 1) free free (omega (arith, length-set masks kept free)) (omega (arith, length-set values kept 0)) first e.high_fails)
+    subst (λ (n : ℕ). Stored pass (take n (set (set nogoods kept first) (kept + 1) second))) is
+    (one_stored (set nogoods kept first) (kept + 1) second (omega (arith, length-set nogoods kept first)) (one_stored nogoods kept first (omega arith) stored e.low_fails) e.high_fails)

@@ -7,7 +7,7 @@ use mathlib.Core.List.{List}
 use mathlib.Core.Logic.{⊎_elim}
 use borrow.Author.Tests.{lt-ltb}
 use lib.Dec.{ltb}
-use lib.ListN.{length, take, drop}
+use lib.ListN.{length, get_or, take, drop}
 use lib.Seq.{take-length}
 use Rattle.theory.specs.Rule.{all, mem, Program, FactSet, in_force, constraint_fact, count}
 use Rattle.theory.specs.Conditions.{Bounded}
@@ -16,7 +16,7 @@ use Rattle.theory.specs.Check.{least_of}
 use Rattle.theory.specs.Search.{guessed}
 use Rattle.theory.specs.Guesses.{guess_at, left_out}
 use Rattle.theory.proofs.Bools.{either, never, and_left, or-none}
-use Rattle.theory.proofs.Lists.{all_of, mem-keep, mem-down_from}
+use Rattle.theory.proofs.Lists.{all_of, element_below, mem-keep, mem-down_from}
 use Rattle.theory.proofs.Stable.{least_of-agrees, least_of-mask}
 use Rattle.theory.proofs.Search.{constraint_guessed}
 use Rattle.theory.proofs.Guesses.{guess_off, left_out_lem, none_left_out}
@@ -25,7 +25,7 @@ use Rattle.tables.specs.Layout.{program_in, WellFormed}
 use Rattle.tables.proofs.ProgramHeld.{facts_below}
 use Rattle.index.specs.Literal.{outside}
 use Rattle.index.specs.Cells.{on_in}
-use Rattle.propagation.specs.State.{Ready, Settled, HeldToo, not_held_out}
+use Rattle.propagation.specs.State.{Settled, HeldToo, not_held_out}
 use Rattle.propagation.proofs.Least.{settled_least}
 use Rattle.guessing.specs.Guessing.{sure_in, Base, Derived, RowBase}
 
@@ -55,15 +55,18 @@ module _ {T row base : List ℕ} (f : WellFormed T) (r : RowBase (program_in T) 
   pub row-facts : all (λ k. ltb k (max_facts narrow)) row ≡ true
   row-facts = all_of (λ k. ltb k (max_facts narrow)) row row_below
 
-module _ {T R row base missing : List ℕ} (r : Ready T R) (b : Base (program_in T) R row base missing) where
+  pub row-fact : (n : ℕ) → n < length row → get_or row n 0 < max_facts narrow
+  row-fact n l = element_below (max_facts narrow) row n row-facts l
+
+module _ {T R row base missing : List ℕ} (w : WellFormed T) (b : Base (program_in T) R row base missing) where
   -- Those that a guess leaves out have their places too.
   pub left-facts : (g : ℕ) (outs : List ℕ) → outs ≡ left_out row g → all (λ k. ltb k (max_facts narrow)) outs ≡ true
-  left-facts g outs is = all_of (λ k. ltb k (max_facts narrow)) outs (λ k m. row_below r.well_formed b.row_base k (left-in_row row g k (rw is at m)))
+  left-facts g outs is = all_of (λ k. ltb k (max_facts narrow)) outs (λ k m. row_below w b.row_base k (left-in_row row g k (rw is at m)))
 
   -- With those held out too the marks show what the guess derives.
   pub guess_derived : (g n : ℕ) (outs marks left : List ℕ) → outs ≡ left_out row g → n ≡ length outs → Settled (program_in T) (on_in R) marks left → HeldToo base (drop 0 (take n outs)) marks → Derived (program_in T) row base g marks
   guess_derived g n outs marks left is whole s held =
-      settled_set (program_in T) r.well_formed.in_bounds R marks left (guess_at row (sure_in (program_in T) row base) g) b.in-force s
+      settled_set (program_in T) w.in_bounds R marks left (guess_at row (sure_in (program_in T) row base) g) b.in-force s
       (λ k m. ⊎_elim (of_row k) (beside k m) (either (mem k row)))
     where
       also : (k : ℕ) → has marks (outside k) ≡ has base (outside k) || mem k (left_out row g)

@@ -8,31 +8,30 @@ use mathlib.Core.Bool.{Bool, true, false}
 use mathlib.Core.List.{List}
 use mathlib.Core.Logic.{by_cases}
 use lib.Dec.{ltb}
-use lib.ListN.{length, set, length-set}
+use lib.ListN.{length, take, set, length-set}
 use lib.Pow.{pow_mono, shl_exact}
+use Rattle.std.specs.Prelude.{Option, Some, None}
 use Rattle.theory.proofs.Lists.{element_below}
 use Rattle.theory.specs.Rule.{all, Program, in_force}
 use Rattle.theory.specs.Search.{fits}
 use Rattle.theory.specs.Guesses.{fact_at}
 use Rattle.theory.proofs.Guesses.{hunt-first, hunt-none, fits-where, fits-apart}
 use Rattle.items.specs.Item.{narrow, max_facts, max_guessed}
+use Rattle.nogoods.specs.declared.nogood.Nogood.{Nogood}
 use Rattle.nogoods.specs.Nogoods.{guesses, most_kept, Passed, Refutes, Stored}
 use Rattle.guessing.specs.Guessing.{Base, sure_in, fits_at, Derived, Conflict}
 use Rattle.guessing.specs.Compared.{Compares}
 use Rattle.guessing.specs.First.{Tells, Sought}
 use Rattle.guessing.specs.Descended.{Descended}
-use Rattle.guessing.specs.declared.compared.Compared as compared
-use Rattle.guessing.specs.declared.compared.Compared.TheVariants.{Same, Apart}
 use Rattle.guessing.specs.declared.first.First.TheVariants.{Fits, Nothing, Open}
 use Rattle.guessing.proofs.BoundsStored.{one_stored}
 
 -- Before one guess is tried.
-pub record Trying (pass : ℕ → Bool) (masks values : List ℕ) (kept guess : ℕ) : Type 0 where
+pub record Trying (pass : ℕ → Bool) (nogoods : List Nogood) (kept guess : ℕ) : Type 0 where
   pub room : kept ≤ most_kept
   pub below : guess ≤ guesses
-  pub mask_places : length masks ≡ most_kept
-  pub value_places : length values ≡ most_kept
-  pub stored : Stored pass masks values kept
+  pub places : length nogoods ≡ most_kept
+  pub stored : Stored pass (take kept nogoods)
   pub passed : Passed pass 0 guess
 
 -- how many guesses the code takes
@@ -42,28 +41,22 @@ end_of n l = shl_exact {a = 1} 1 n 32 (omega arith) (omega arith) ∙ one-mul (2
 pub end_below : (n : ℕ) → n ≤ max_guessed → 2 ^ n ≤ guesses
 end_below n l = pow_mono {i = n} {j = 16} l
 
-module _ (pass : ℕ → Bool) where
-  -- some nogoods are stored, and no guess before the one to begin with fits
-  pub begins : (masks values : List ℕ) (kept guess : ℕ) → kept ≤ most_kept → length masks ≡ most_kept → length values ≡ most_kept → Stored pass masks values kept → guess ≤ guesses → Passed pass 0 guess → Trying pass masks values kept guess
-  begins masks values kept guess l m v s g p = record { room = l; below = g; mask_places = m; value_places = v; stored = s; passed = p }
+module _ {pass : ℕ → Bool} {nogoods : List Nogood} {kept guess : ℕ} (w : Trying pass nogoods kept guess) where
+  pub go_on : (r : ℕ) → r ≤ guesses → Passed pass guess r → Trying pass nogoods kept r
+  go_on r l p = record { room = w.room; below = l; places = w.places; stored = w.stored; passed = all-passed }
+    where
+      all-passed : Passed pass 0 r
+      all-passed x a m = by_cases (dec_lt x guess) (λ q. w.passed x a q) (λ n. p x (omega arith) m)
 
-  module _ {masks values : List ℕ} {kept guess : ℕ} (w : Trying pass masks values kept guess) where
-    pub go_on : (r : ℕ) → r ≤ guesses → Passed pass guess r → Trying pass masks values kept r
-    go_on r l p = record { room = w.room; below = l; mask_places = w.mask_places; value_places = w.value_places; stored = w.stored; passed = all-passed }
-      where
-        all-passed : Passed pass 0 r
-        all-passed x a m = by_cases (dec_lt x guess) (λ q. w.passed x a q) (λ n. p x (omega arith) m)
-
-    pub one_more : kept < most_kept → guess < guesses → pass guess ≡ false → (m v : ℕ) → Refutes pass m v → Trying pass (set masks kept m) (set values kept v) (kept + 1) (guess + 1)
-    one_more free l e m v refutes =
-        record {
-          room = omega arith;
-          below = omega arith;
-          mask_places = length-set masks kept m ∙ w.mask_places;
-          value_places = length-set values kept v ∙ w.value_places;
-          stored = one_stored pass masks values kept m v (omega arith) (omega arith) w.stored refutes;
-          passed = λ x a q. by_cases (ℕ_discrete x guess) (λ is. subst (λ (n : ℕ). pass n ≡ false) (sym is) e) (λ n. w.passed x a (omega arith));
-        }
+  pub one_more : kept < most_kept → guess < guesses → pass guess ≡ false → (n : Nogood) → Refutes pass n.mask n.value → Trying pass (set nogoods kept n) (kept + 1) (guess + 1)
+  one_more free l e n refutes =
+      record {
+        room = omega arith;
+        below = omega arith;
+        places = length-set nogoods kept n ∙ w.places;
+        stored = one_stored nogoods kept n (omega (arith, w.places)) w.stored refutes;
+        passed = λ x a q. by_cases (ℕ_discrete x guess) (λ is. subst (λ (g : ℕ). pass g ≡ false) (sym is) e) (λ ne. w.passed x a (omega arith));
+      }
 
 -- A guess whose marks are there already.
 pub already_marked : {P : Program} {row base marks : List ℕ} {guess : ℕ} → guess < 2 ^ length row → Derived P row base guess marks → Descended P row base guess guess marks
@@ -71,7 +64,7 @@ already_marked l d = record { onward = omega arith; inside = l; passed = λ x a 
 
 module _ {P : Program} {R row base missing : List ℕ} (b : Base P R row base missing) where
   -- What the comparison with what a guess derives tells of the guess.
-  pub tells : all (λ k. ltb k (max_facts narrow)) row ≡ true → (g : ℕ) (marks : List ℕ) → Derived P row base g marks → (r : compared.Compared) → Compares row g marks r → Tells P row base g r
+  pub tells : all (λ k. ltb k (max_facts narrow)) row ≡ true → (g : ℕ) (marks : List ℕ) → Derived P row base g marks → (r : Option ℕ) → Compares row g marks r → Tells P row base g r
   tells small g marks derived r c =
       record {
         same = λ e. fits-where P (in_force P) row (sure_in P row base) b.row_base.to_guess g (λ j l. sym (derived (fact_at row j) (below j l)) ∙ c.same e j l);
@@ -81,22 +74,22 @@ module _ {P : Program} {R row base missing : List ℕ} (b : Base P R row base mi
       below : (j : ℕ) → j < length row → fact_at row j < max_facts narrow
       below j l = element_below (max_facts narrow) row (length row - suc j) small (omega arith)
 
-  module _ {masks values : List ℕ} {kept g : ℕ} (w : Trying (fits_at P row base) masks values kept g) where
+  -- A guess fits, and none before it.
+  pub fits-first : {g : ℕ} → Passed (fits_at P row base) 0 g → (marks : List ℕ) (r : Option ℕ) → Tells P row base g r → r ≡ None → Derived P row base g marks → Sought P row base Fits marks
+  fits-first {g} passed marks r t same d =
+      record {
+        found = λ _. (g, hunt-first (fits P (in_force P)) row (sure_in P row base) g (t.same same) (λ x m. passed x (omega arith) m), d);
+        none_fits = λ e. absurd (let z : ◌≡◌ {A = ℕ} 0 1 = cc in omega arith);
+        left = λ n e. absurd (let z : ◌≡◌ {A = ℕ} 0 1 = cc in omega arith);
+      }
+
+  module _ {nogoods : List Nogood} {kept g : ℕ} (w : Trying (fits_at P row base) nogoods kept g) where
     -- No guess is left.
     pub ends : (marks : List ℕ) → (1 * 2 ^ length row) % 4294967296 ≤ g → Sought P row base Nothing marks
     ends marks l =
         record {
           found = λ e. absurd (let z : ◌≡◌ {A = ℕ} 0 1 = cc in omega arith);
           none_fits = λ _. hunt-none (fits P (in_force P)) row (sure_in P row base) (λ x m. w.passed x (omega arith) (omega (arith, end_of (length row) b.row_base.few)));
-          left = λ n e. absurd (let z : ◌≡◌ {A = ℕ} 0 1 = cc in omega arith);
-        }
-
-    -- The guess at hand fits.
-    pub fits-first : (marks : List ℕ) (r : compared.Compared) → Tells P row base g r → r ≡ Same → Derived P row base g marks → Sought P row base Fits marks
-    fits-first marks r t same d =
-        record {
-          found = λ _. (g, hunt-first (fits P (in_force P)) row (sure_in P row base) g (t.same same) (λ x m. w.passed x (omega arith) m), d);
-          none_fits = λ e. absurd (let z : ◌≡◌ {A = ℕ} 0 1 = cc in omega arith);
           left = λ n e. absurd (let z : ◌≡◌ {A = ℕ} 0 1 = cc in omega arith);
         }
 
@@ -110,7 +103,7 @@ module _ {P : Program} {R row base missing : List ℕ} (b : Base P R row base mi
         }
 
   -- A place at which a guess is apart is a conflict, ..
-  pub conflict : {g j : ℕ} → g < (1 * 2 ^ length row) % 4294967296 → (r : compared.Compared) → Tells P row base g r → r ≡ Apart j → Conflict P row base g j
+  pub conflict : {g j : ℕ} → g < (1 * 2 ^ length row) % 4294967296 → (r : Option ℕ) → Tells P row base g r → r ≡ Some j → Conflict P row base g j
   conflict {g} {j} l r t e =
       record {
         small = omega (arith, end_of (length row) b.row_base.few, end_below (length row) b.row_base.few);

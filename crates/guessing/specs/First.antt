@@ -1,20 +1,19 @@
 -- Internal: what the first guesses tell.
-use Rattle.std.specs.Prelude.{ℕ, ◌<◌, ◌≤◌, ◌≡◌, true, not, List, length}
+use Rattle.std.specs.Prelude.{ℕ, ◌<◌, ◌≤◌, ◌≡◌, true, not, List, length, Some, None}
+use Rattle.std.specs.Prelude as std
 use Rattle.std.proofs.Math.Option.{Option, none, some}
 use Rattle.theory.specs.Rule.{Program, FactSet, in_force}
 use Rattle.theory.specs.Search.{fits, hunt}
 use Rattle.theory.specs.Guesses.{bit, fact_at, guess_at}
 use Rattle.nogoods.specs.Nogoods.{guesses, Passed}
 use Rattle.guessing.specs.Guessing.{sure_in, derived_by, fits_at, Derived}
-use Rattle.guessing.specs.declared.compared.Compared as compared
-use Rattle.guessing.specs.declared.compared.Compared.TheVariants.{Same, Apart}
 use Rattle.guessing.specs.declared.first.First as first
 use Rattle.guessing.specs.declared.first.First.TheVariants.{Fits, Nothing, Open}
 
 -- What trying a guess tells: it fits, or there is a conflict at a place.
-pub record Tells (P : Program) (row base : List ℕ) (g : ℕ) (answer : compared.Compared) : Type 0 where
-  pub same : answer ≡ Same → fits_at P row base g ≡ true
-  pub apart : (j : ℕ) → answer ≡ Apart j → (j < length row) × (derived_by P row base g (fact_at row j) ≡ not (bit g j))
+pub record Tells (P : Program) (row base : List ℕ) (g : ℕ) (answer : std.Option ℕ) : Type 0 where
+  pub same : answer ≡ None → fits_at P row base g ≡ true
+  pub apart : (j : ℕ) → answer ≡ Some j → (j < length row) × (derived_by P row base g (fact_at row j) ≡ not (bit g j))
 
 -- the first guess that fits, over all of them
 abbrev pub first_fit : Program → List ℕ → List ℕ → Option FactSet

@@ -4,3 +4,4 @@ pub mod Bounds
 pub mod Compared
 pub mod First
 pub mod Descended
+pub mod Props

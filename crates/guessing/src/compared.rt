@@ -7,25 +7,16 @@ ghost use Rattle.guessing.specs.Compared.{Compares};
 use index::cells::LITERALS;
 use nogoods::guess::has_bit;
 
-// Whether the facts of the row that a guess derives are those that are in it, or the highest place where they are not.
-#[derive(Clone, Copy)]
-pub enum Compared {
-    Same,
-    Apart(usize),
-}
-
-// Compares a guess with the facts that are marked.
-pub fn compare(row: &[u16], guess: u32, marks: &[u8; LITERALS]) -> Compared
+// Compares a guess with the facts of the row that are marked: the highest place where they are apart, if there is one.
+pub fn compare(row: &[u16], guess: u32, marks: &[u8; LITERALS]) -> Option<usize>
     requires { (length row.now ≤ max_guessed) × (all (λ k. ltb k (max_facts narrow)) row.now ≡ true) }
     ensures { Compares row.now guess marks.now result }
 {
-    let mut place = row.len();
-    while place > 0 {
-        place -= 1;
-        let fact = row[row.len() - 1 - place] as usize;
-        if (marks[fact] == 1) != has_bit(guess, place) {
-            return Compared::Apart(place);
+    for (i, &fact) in row.iter().enumerate() {
+        let place = row.len() - 1 - i;
+        if (marks[usize::from(fact)] == 1) != has_bit(guess, place) {
+            return Some(place);
         }
     }
-    Compared::Same
+    None
 }

@@ -7,5 +7,6 @@ mod bounds;
 pub mod compared;
 mod descend;
 pub mod first;
+pub mod guesses;
 mod learn;
 mod propagate;

@@ -4,11 +4,10 @@ use mathlib.Core.Path.{◌≡◌, sym}
 use mathlib.Core.List.{List}
 use lib.ListN.{length, take}
 use lib.Seq.{length-take-le}
-use Rattle.input.specs.declared.Input.{Input}
-use Rattle.input.specs.declared.Input.TheVariants.{Bytes}
+use Rattle.std.specs.Prelude.{Result, Ok}
 use Rattle.input.specs.Input.{Inside}
 
-module _ (room : List ℕ) (r : Input) (h : Inside room r) (n : ℕ) (e : r ≡ Bytes n) where
+module _ {E : Type 0} (room : List ℕ) (r : Result ℕ E) (h : Inside room r) (n : ℕ) (e : r ≡ Ok n) where
   pub read_inside : n ≤ length room
   read_inside = rw e at h
 

@@ -1,8 +1,6 @@
 -- Internal: what was read lies inside the room.
-use Rattle.std.specs.Prelude.{ℕ, ◌≤◌, List, length}
-use Rattle.input.specs.declared.Input.{Input}
-use Rattle.input.specs.declared.Input.TheVariants.{Bytes, Failed}
+use Rattle.std.specs.Prelude.{ℕ, ◌≤◌, List, Result, Ok, Err, length}
 
-abbrev pub Inside : List ℕ → Input → Type 0
-Inside room (Bytes n) = n ≤ length room
-Inside room Failed = Unit {0}
+abbrev pub Inside : {E : Type 0} → List ℕ → Result ℕ E → Type 0
+Inside room (Ok n) = n ≤ length room
+Inside room (Err e) = Unit {0}

@@ -1,38 +1,20 @@
 -- Body lengths and values of items, kind by kind.
-use Prim.Native.Nat.{ℕ, suc, ◌+◌, ◌*◌, ◌<◌, ◌≤◌}
+use Prim.Native.Nat.{ℕ, suc, ◌+◌, ◌*◌, ◌≤◌}
 use mathlib.Core.Path.{◌≡◌, refl, ap, ◌∙◌}
-use mathlib.Core.Bool.{Bool, true, false}
 use mathlib.Core.List.{List, [], ◌∷◌}
 use native.Mathlib.Omega.{arith}
-use borrow.Author.Tests.{ne_eqb, eqb-true, eqb-false}
+use borrow.Author.Tests.{ne_eqb}
 use native.Mathlib.Numerals.{add-one}
 use lib.ListN.{length, get_or, take, drop, length-drop}
 use lib.Seq.{drop-cons, drop-drop}
-use lib.Dec.{eqb}
 use Rattle.items.specs.Item.{narrow, facts_kind, opens_kind, premise_kind, constraint_kind, rules_kind, names_kind, step_kind, unread_kind, no_such_kind, body_length, big_endian, step_fact, step_rule}
 
--- k is none of the kinds but perhaps a step's
-pub record NoOther (k : ℕ) : Type 0 where
-  pub facts : k ≡ facts_kind narrow → ⊥
-  pub opens : k ≡ opens_kind narrow → ⊥
-  pub premise : k ≡ premise_kind narrow → ⊥
-  pub constraint : k ≡ constraint_kind narrow → ⊥
-  pub rules : k ≡ rules_kind → ⊥
-  pub names : k ≡ names_kind → ⊥
-  pub unread : k ≡ unread_kind narrow → ⊥
-
-pub unknown : (k : ℕ) → NoOther k → (k ≡ step_kind narrow → ⊥) → body_length narrow k ≡ no_such_kind
+-- a byte that is none of the kinds
+pub unknown : (k : ℕ) → (k ≡ opens_kind narrow → ⊥) → (k ≡ premise_kind narrow → ⊥) → (k ≡ constraint_kind narrow → ⊥) → (k ≡ names_kind → ⊥) → (k ≡ step_kind narrow → ⊥) → (k ≡ unread_kind narrow → ⊥) → (k ≡ facts_kind narrow → ⊥) → (k ≡ rules_kind → ⊥) → body_length narrow k ≡ no_such_kind
 unfolding body_length
-unknown k h s =
+unknown k o p q n s u f r =
     rw
-    (ne_eqb k (facts_kind narrow) h.facts, ne_eqb k (opens_kind narrow) h.opens, ne_eqb k (premise_kind narrow) h.premise, ne_eqb k (constraint_kind narrow) h.constraint, ne_eqb k (unread_kind narrow) h.unread, ne_eqb k rules_kind h.rules, ne_eqb k names_kind h.names, ne_eqb k (step_kind narrow) s)
-
-pub a_step : (k : ℕ) → NoOther k → body_length narrow k < no_such_kind → k ≡ step_kind narrow
-a_step k h small = go (eqb k (step_kind narrow)) refl
-  where
-    go : (b : Bool) → eqb k (step_kind narrow) ≡ b → k ≡ step_kind narrow
-    go true e = eqb-true k (step_kind narrow) e
-    go false e = absurd (omega (arith, unknown k h (eqb-false k (step_kind narrow) e)))
+    (ne_eqb k (facts_kind narrow) f, ne_eqb k (opens_kind narrow) o, ne_eqb k (premise_kind narrow) p, ne_eqb k (constraint_kind narrow) q, ne_eqb k (unread_kind narrow) u, ne_eqb k rules_kind r, ne_eqb k names_kind n, ne_eqb k (step_kind narrow) s)
 
 -- Fact numbers and rule numbers, at a place.
 pub fact-field_at : (s : List ℕ) (at : ℕ) → at + 1 ≤ length s → get_or s at 0 ≡ big_endian (take 1 (drop at s))

@@ -5,3 +5,4 @@ pub mod LengthTable
 pub mod ItemSays
 pub mod ItemBytes
 pub mod PlacedBytes
+pub mod Passed

@@ -4,6 +4,7 @@ use Rattle.std.specs.Prelude.{ℕ, suc, ◌+◌, ◌-◌, ◌*◌, ◌^◌, Bool
 use Rattle.std.proofs.Math.Option.{Option, none, some}
 use Rattle.items.specs.declared.item.FactId.{FactId}
 use Rattle.items.specs.declared.item.RuleId.{RuleId}
+use Rattle.items.specs.declared.item.Kind.{Kind}
 use Rattle.items.specs.declared.item.Item.{Item}
 use Rattle.items.specs.declared.item.Item.TheVariants.{Facts, Opens, Premise, Constraint, Rules, Names, Step, Unread}
 
@@ -87,6 +88,17 @@ names_kind = 0x05
 
 abbrev pub step_kind : Width → ℕ
 step_kind narrow = 0x06
+
+-- The byte that stands for a kind.
+abbrev pub kind_number : Kind → ℕ
+kind_number Kind.Opens = opens_kind narrow
+kind_number Kind.Premise = premise_kind narrow
+kind_number Kind.Constraint = constraint_kind narrow
+kind_number Kind.Names = names_kind
+kind_number Kind.Step = step_kind narrow
+kind_number Kind.Unread = unread_kind narrow
+kind_number Kind.Facts = facts_kind narrow
+kind_number Kind.Rules = rules_kind
 
 -- A mark in the place of a length, where there is no such kind.
 abbrev pub no_such_kind : ℕ

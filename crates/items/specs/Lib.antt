@@ -1,4 +1,5 @@
 -- What is promised.
 pub mod Question
+pub mod Answer
 pub mod Item
 pub mod Write

@@ -2,7 +2,7 @@
 ghost use Rattle.std.specs.Prelude.{◌≡◌};
 ghost use Rattle.items.specs.Item.{narrow, body_length};
 
-use crate::item::{KIND_BYTES, NAMES_KIND, PREMISE_KIND, RULES_KIND, STEP_KIND};
+use crate::item::{KIND_BYTES, Kind};
 
 // How many bytes of body follow a kind: the entry of kind 1F, say, stands in the second row, in its last column. FF is the mark of a kind that there is not.
 const BODY_LENGTHS: [u8; 256] = *b"\
@@ -24,17 +24,17 @@ const BODY_LENGTHS: [u8; 256] = *b"\
     \xFF\xFF\xFF\xFF\xFF\xFF\xFF\xFF\xFF\xFF\xFF\xFF\xFF\xFF\xFF\xFF";
 
 // The bytes of an item: its kind, then the body. Of a premise or a constraint, of a file's last item, of a name in an order, and of a step.
-pub const ITEM_WIDTH: usize = KIND_BYTES + BODY_LENGTHS[PREMISE_KIND as usize] as usize;
+pub const ITEM_WIDTH: usize = KIND_BYTES + BODY_LENGTHS[Kind::Premise as usize] as usize;
 
-pub const LAST_WIDTH: usize = KIND_BYTES + BODY_LENGTHS[RULES_KIND as usize] as usize;
+pub const LAST_WIDTH: usize = KIND_BYTES + BODY_LENGTHS[Kind::Rules as usize] as usize;
 
-pub const NAME_WIDTH: usize = KIND_BYTES + BODY_LENGTHS[NAMES_KIND as usize] as usize;
+pub const NAME_WIDTH: usize = KIND_BYTES + BODY_LENGTHS[Kind::Names as usize] as usize;
 
-pub const STEP_WIDTH: usize = KIND_BYTES + BODY_LENGTHS[STEP_KIND as usize] as usize;
+pub const STEP_WIDTH: usize = KIND_BYTES + BODY_LENGTHS[Kind::Step as usize] as usize;
 
 // The body length of a kind, or the mark.
 pub fn body_length(kind: u8) -> usize
     ensures { result ≡ body_length narrow kind }
 {
-    BODY_LENGTHS[kind as usize] as usize
+    usize::from(BODY_LENGTHS[usize::from(kind)])
 }

@@ -1,7 +1,7 @@
 -- What an answer of the judge means: stable exactly where the set is stable for the file less the listed rules.
 use Prim.Native.Nat.{ℕ}
 use mathlib.Core.Path.{◌≡◌, refl, sym, ap, subst, ◌∙◌}
-use mathlib.Core.Bool.{Bool, true, false, cond}
+use mathlib.Core.Bool.{Bool, true, false}
 use mathlib.Core.List.{List, ◌++◌}
 use mathlib.Core.Logic.{◌↔◌}
 use mathlib.Core.Option.{Option, none, some}
@@ -22,8 +22,7 @@ use Rattle.questions.specs.Questions.{list_questions, set_questions, judge_quest
 use Rattle.questions.specs.Parts.{set_no}
 use Rattle.marking.proofs.MarksPainted.{past_end}
 use Rattle.questions.proofs.OperationAsked.{yes_to_set}
-use Rattle.judge.specs.declared.answer.Judged.{Judged}
-use Rattle.judge.specs.declared.answer.Judged.TheVariants.{Stable, NotStable}
+use Rattle.std.specs.Prelude.{Result, Ok}
 use Rattle.judge.specs.Judged.{unlisted, judged, judged_number, judged_verdict, JudgeMeans}
 use Rattle.judge.proofs.JudgeAnswers.{judge_refused, judge_judged}
 use Rattle.items.proofs.RefusalNumbers.{number-above}
@@ -57,25 +56,21 @@ module _ (file list set : List ℕ) where
     numbered = numbered (judge_no file list set) refl;
     stable_exactly = λ e. (
       λ v. (exact (judge_answered e)).0 (one (is_stable (program_of file) (unlisted (program_of file) list) (has set)) (sym (ap judged_verdict (is e)) ∙ v)),
-      λ m. ap judged_verdict (is e) ∙ ap (λ (b : Bool). judged_verdict (cond b Stable NotStable)) ((exact (judge_answered e)).1 m),
+      λ m. ap judged_verdict (is e) ∙ ap (λ (b : Bool). judged_verdict (Ok b)) ((exact (judge_answered e)).1 m),
     );
   }
     where
-      is : judged_number (judged file list set) ≡ 0 → judged file list set ≡ cond (is_stable (program_of file) (unlisted (program_of file) list) (has set)) Stable NotStable
+      is : judged_number (judged file list set) ≡ 0 → judged file list set ≡ Ok (is_stable (program_of file) (unlisted (program_of file) list) (has set))
       is e = judge_judged file list set (judge_answered e)
 
-      no_number_lem : (b : Bool) → judged_number (cond b Stable NotStable) ≡ 0
-      no_number_lem true = refl
-      no_number_lem false = refl
-
       numbered : (o : Option Refusal) → judge_no file list set ≡ o → judged_number (judged file list set) ≡ no_number (judge_no file list set)
-      numbered none q = ap judged_number (judge_judged file list set q) ∙ no_number_lem (is_stable (program_of file) (unlisted (program_of file) list) (has set)) ∙ sym (ap no_number q)
+      numbered none q = ap judged_number (judge_judged file list set q) ∙ sym (ap no_number q)
       numbered (some r) q = ap judged_number (judge_refused file list set r q) ∙ sym (ap no_number q)
 
-      one : (b : Bool) → judged_verdict (cond b Stable NotStable) ≡ 1 → b ≡ true
+      one : (b : Bool) → judged_verdict (Ok b) ≡ 1 → b ≡ true
       one true v = refl
       one false v = absurd (omega arith)
 
   -- an answer that is the one defined, with its meaning
-  pub answer_means : (r : Judged) → r ≡ judged file list set → (r ≡ judged file list set) × JudgeMeans file list set r
+  pub answer_means : (r : Result Bool Refusal) → r ≡ judged file list set → (r ≡ judged file list set) × JudgeMeans file list set r
   answer_means r e = (e, subst (JudgeMeans file list set) (sym e) judged-means)

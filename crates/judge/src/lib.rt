@@ -3,48 +3,33 @@
 #![tactic(auto)]
 
 ghost use Rattle.std.specs.Prelude.{◌≡◌};
-ghost use Rattle.tables.specs.Layout.{program_in, WellFormed};
+ghost use Rattle.tables.specs.Held.{held};
 ghost use Rattle.judge.specs.Judged.{judged, JudgeMeans};
 ghost use Rattle.judge.specs.JudgedOf.{judged_of};
 
-pub mod answer;
 mod stable;
 
-use answer::Judged;
 use items::item::MAX_RULES;
-use questions::answer::Answer;
-use reader::answer::Asked;
-use tables::layout::{TABLE_CELLS, facts_of};
+use items::refusal::Refusal;
+use tables::layout::Tables;
 
-// Judges a set: the questions of the file, then of the list, then of the set.
-pub fn judge(file: &[u8], list: &[u8], set: &[u8]) -> Judged
+// Judges a set, is it stable: the questions of the file, then of the list, then of the set.
+pub fn judge(file: &[u8], list: &[u8], set: &[u8]) -> Result<bool, Refusal>
     ensures value { result ≡ judged file.now list.now set.now }
     ensures judge_means { JudgeMeans file.now list.now set.now result }
 {
-    let mut tables = [0u16; TABLE_CELLS];
-    match reader::scan::scan(file, &mut tables) {
-        Asked::No(r) => Judged::Refused(r),
-        Asked::Yes(_) => judge_program(&tables, list, set),
-    }
+    let mut tables = Tables::empty();
+    reader::scan::scan(file, &mut tables)?;
+    judge_program(&tables, list, set)
 }
 
 // The questions on the list and on the set, for the program of an accepted file, and then the test. Internal.
-fn judge_program(tables: &[u16; TABLE_CELLS], list: &[u8], set: &[u8]) -> Judged
-    requires { WellFormed tables.now }
-    ensures { result ≡ judged_of (program_in tables.now) list.now set.now }
+fn judge_program(tables: &Tables, list: &[u8], set: &[u8]) -> Result<bool, Refusal>
+    ensures { result ≡ judged_of (held tables.now) list.now set.now }
 {
+    // A row of bytes, since `has` reads it as a set, 1 in and 0 out.
     let mut listed = [0u8; MAX_RULES];
-    let on_list = naming::order::ask_listed(tables, list, &mut listed);
-    if let Answer::No(r) = on_list {
-        return Judged::Refused(r);
-    }
-    let on_set = questions::fact_set::ask_set_of(facts_of(tables), set);
-    if let Answer::No(r) = on_set {
-        return Judged::Refused(r);
-    }
-    if stable::is_stable(tables, &listed, set) {
-        Judged::Stable
-    } else {
-        Judged::NotStable
-    }
+    naming::order::ask_listed(tables, list, &mut listed)?;
+    questions::fact_set::ask_set_of(tables.facts(), set)?;
+    Ok(stable::is_stable(tables, &listed, set))
 }

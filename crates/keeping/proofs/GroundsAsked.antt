@@ -5,6 +5,7 @@ use mathlib.Core.Bool.{Bool, true, false, cond}
 use mathlib.Core.List.{List}
 use mathlib.Core.Option.{Option, none, some}
 use lib.ListN.{length}
+use Rattle.std.specs.Prelude.{Result, Err}
 use Rattle.theory.specs.Rule.{in_force}
 use Rattle.theory.proofs.Keeping.{kept-is, run-traced}
 use Rattle.items.specs.declared.refusal.Refusal.{Refusal}
@@ -68,8 +69,8 @@ module _ (file order : List ℕ) (fact : ℕ) (facts rules steps : List ℕ) whe
   answered : (o : GroundsOutcome) → o ≡ outcome → (o ≡ outcome) × GroundsNumbers file order fact asked o.answer
   answered o e = (e, rw e grounds-numbers)
 
-  pub answered_no : (r : Refusal) → run_no file order (length facts) (length rules) (length steps) ≡ some r → (grounds_refused r facts rules steps ≡ outcome) × GroundsNumbers file order fact asked (grounds_refused r facts rules steps).answer
-  answered_no r e = answered (grounds_refused r facts rules steps) (run-refused r e)
+  pub answered_no : (a : Result ℕ Refusal) (r : Refusal) → a ≡ Err r → run_no file order (length facts) (length rules) (length steps) ≡ some r → (◌≡◌ {A = GroundsOutcome} (record { answer = a; fact_marks = facts; rule_marks = rules; steps = steps }) outcome) × GroundsNumbers file order fact asked a
+  answered_no a r p e = answered _ (rw p (run-refused r e))
 
   -- what was told of the program in the tables
   pub answered_told : {T : List ℕ} (o : GroundsOutcome) → o ≡ grounds_told (program_in T) (run_in T order) fact facts rules steps → Tabled file T → ◌≡◌ {A = Option Refusal} (run_no file order (length facts) (length rules) (length steps)) none → (o ≡ outcome) × GroundsNumbers file order fact asked o.answer

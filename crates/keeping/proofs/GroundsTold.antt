@@ -6,10 +6,10 @@ use mathlib.Core.List.{List}
 use mathlib.Core.Logic.{⊎_elim}
 use native.Mathlib.Omega.{arith}
 use borrow.Author.Tests.{ltb-true, ltb-false}
-use lib.ListN.{length, take, length-map}
-use lib.Seq.{length-take-le}
+use lib.ListN.{length, get_or, take, length-map}
+use lib.Seq.{length-take-le, get_or-take}
 use lib.Dec.{ltb}
-use Rattle.theory.specs.Rule.{Program, FactSet, in_force}
+use Rattle.theory.specs.Rule.{Program, FactSet, in_force, count}
 use Rattle.theory.specs.Derive.{step_by}
 use Rattle.theory.specs.Run.{Stand, run, marks_of_facts, marks_of_rules}
 use Rattle.theory.specs.Stable.{facts_of}
@@ -23,7 +23,7 @@ use Rattle.items.specs.Write.{over}
 use Rattle.marking.proofs.MarksPainted.{past_end}
 use Rattle.closure.specs.Steps.{step_bytes}
 use Rattle.stage.specs.Memory.{Holds}
-use Rattle.keeping.specs.declared.answer.Grounds.TheVariants.{Given}
+use Rattle.std.specs.Prelude.{Ok}
 use Rattle.kept_steps.specs.Keep.{steps_by}
 use Rattle.keeping.specs.Outcome.{GroundsOutcome, grounds_written, grounds_refused}
 use Rattle.keeping.specs.Told.{grounds_told}
@@ -32,6 +32,12 @@ use Rattle.keeping.specs.Told.{grounds_told}
 pub marked-small : (marks : List ℕ) (f : ℕ) → length marks ≡ max_facts narrow → has marks f ≡ true → f < max_facts narrow
 marked-small marks f l t =
     ⊎_elim (λ h. ltb-true f _ h) (λ h. never t (past_end marks f (omega (arith, l, ltb-false f (max_facts narrow) h)))) (either (ltb f (max_facts narrow)))
+
+-- the first numbers of a row of rules are rules
+pub front-known : (P : Program) (row : List ℕ) (m : ℕ) → m ≤ length row → ((k : ℕ) → k < m → get_or row k 0 < count P) → (k : ℕ) → k < length (take m row) → get_or (take m row) k 0 < count P
+front-known P row m inside known k h =
+    let below : k < m = omega (arith, length-take-le m row inside) in
+    rw (get_or-take m row k 0 below) (known k below)
 
 -- the memory holds a run
 module _ {P : Program} (order : List ℕ) {marks fired : List ℕ} {n : ℕ} (few : P.facts < max_facts narrow) (h : Holds P (run P (in_force P) order) marks fired n) where
@@ -63,7 +69,7 @@ module _ {P : Program} (order : List ℕ) {marks fired : List ℕ} {n : ℕ} (fe
     counted : m ≡ length (grounds_of P fact ran.trace)
     counted = sym (length-take-le m row inside) ∙ sym (length-map (take m row) (step_by P)) ∙ ap length same_steps
 
-    pub told-given : (facts rules steps facts' rules' steps' : List ℕ) → facts' ≡ over (marks_of_facts P ran) facts → rules' ≡ over (marks_of_rules P (in_force P) ran) rules → steps' ≡ over (step_bytes narrow (steps_by P (take m row))) steps → ◌≡◌ {A = GroundsOutcome} (record { answer = Given m; fact_marks = facts'; rule_marks = rules'; steps = steps' }) (grounds_told P ran fact facts rules steps)
+    pub told-given : (facts rules steps facts' rules' steps' : List ℕ) → facts' ≡ over (marks_of_facts P ran) facts → rules' ≡ over (marks_of_rules P (in_force P) ran) rules → steps' ≡ over (step_bytes narrow (steps_by P (take m row))) steps → ◌≡◌ {A = GroundsOutcome} (record { answer = Ok m; fact_marks = facts'; rule_marks = rules'; steps = steps' }) (grounds_told P ran fact facts rules steps)
     unfolding grounds_told grounds_written
     told-given facts rules steps facts' rules' steps' a b c =
         let d : ran.derived fact ≡ true = sym (marked-derived fact) ∙ t in

@@ -6,16 +6,15 @@ use mathlib.Core.List.{List, [], ◌∷◌, map}
 use mathlib.Core.Logic.{⊎_elim}
 use native.Mathlib.Omega.{arith}
 use borrow.Author.Tests.{eqb-true}
-use lib.ListN.{length, get_or, set, replicate}
+use lib.ListN.{length, get_or, drop, set, replicate}
 use lib.Dec.{eqb}
+use Rattle.std.proofs.lemmas.List.{drop_more, drop_all}
 use Rattle.theory.specs.Rule.{all, mem, Program, adjoin, rule, Step}
 use Rattle.theory.specs.Stable.{step_at, facts_of, used_rule}
 use Rattle.theory.specs.Keeping.{StepSet, Back, Kept, Traced}
 use Rattle.theory.proofs.Bools.{either, never, and_left, and_right, and_both, or_left, or_right, or_cases, or-false}
 use Rattle.theory.proofs.Lists.{eqb-self, all-elem, all_of}
 use Rattle.items.specs.Item.{narrow, max_facts, has}
-use Rattle.tables.specs.Layout.{span}
-use Rattle.tables.proofs.PartsSpanned.{span-cons, span-end}
 use Rattle.marking.proofs.MarksPainted.{has-set, unmarked}
 use Rattle.kept_steps.specs.Keep.{steps_by, place_of, Placed, Keeps}
 use Rattle.kept_steps.proofs.StepsPlaced.{step-at, step-inside, premise_placed, fact-placed}
@@ -106,25 +105,17 @@ pub new_kept : {P : Program} (rules : List ℕ) {places : List ℕ} (marks : Lis
 new_kept {P} rules marks {k = k} r p l few u =
     step-new r p (step-inside P rules k l) (rw (step-at P rules k l, ← has-set marks k (omega arith)) u)
 
--- Keeping the steps of some facts of a row of facts, from one place up to another: what is to come gives what the whole gives.
-pub record Asking (P : Program) (row : List Step) (places : List ℕ) (fact : ℕ → ℕ) (from end : ℕ) (marks₀ marks : List ℕ) (j : ℕ) : Type 0 where
-  pub reached : from ≤ j
-  pub inside : j ≤ end
+-- Keeping the steps of the facts of a list: those from place k on give what all give from the start.
+pub record Asking (P : Program) (row : List Step) (places own : List ℕ) (marks₀ marks : List ℕ) (k : ℕ) : Type 0 where
   pub cells : length marks ≡ max_facts narrow
-  pub to-come : (M : StepSet) → Keeps P row (has marks) (map (place_of places) (span fact j end)) M → Keeps P row (has marks₀) (map (place_of places) (span fact from end)) M
+  pub to-come : (M : StepSet) → Keeps P row (has marks) (map (place_of places) (drop k own)) M → Keeps P row (has marks₀) (map (place_of places) own) M
 
-pub none_kept : (P : Program) (row : List Step) (places : List ℕ) (fact : ℕ → ℕ) (from end : ℕ) (marks : List ℕ) → from ≤ end → length marks ≡ max_facts narrow → Asking P row places fact from end marks marks from
-none_kept P row places fact from end marks l e = record { reached = omega arith; inside = l; cells = e; to-come = λ M u. u }
+pub none_kept : (P : Program) (row : List Step) (places own marks : List ℕ) → length marks ≡ max_facts narrow → Asking P row places own marks marks 0
+none_kept P row places own marks e = record { cells = e; to-come = λ M u. u }
 
-module _ {P : Program} {row : List Step} {places : List ℕ} {fact : ℕ → ℕ} {from end : ℕ} {marks₀ marks : List ℕ} {j : ℕ} (w : Asking P row places fact from end marks₀ marks j) where
-  pub one_kept : (next : List ℕ) → j < end → length next ≡ max_facts narrow → Keeps P row (has marks) (place_of places (fact j) ∷ []) (has next) → Asking P row places fact from end marks₀ next (j + 1)
-  one_kept next l e u =
-      record {
-        reached = omega (arith, w.reached);
-        inside = omega arith;
-        cells = e;
-        to-come = λ M v. w.to-come M (rw (span-cons fact j end l) (one_then u v));
-      }
+module _ {P : Program} {row : List Step} {places own : List ℕ} {marks₀ marks : List ℕ} {k : ℕ} (w : Asking P row places own marks₀ marks k) where
+  pub one_kept : (next : List ℕ) → k < length own → length next ≡ max_facts narrow → Keeps P row (has marks) (place_of places (get_or own k 0) ∷ []) (has next) → Asking P row places own marks₀ next (k + 1)
+  one_kept next l e u = record { cells = e; to-come = λ M v. w.to-come M (rw (drop_more own k 0 l) (one_then u v)) }
 
-  pub all-kept : end ≤ j → Keeps P row (has marks₀) (map (place_of places) (span fact from end)) (has marks)
-  all-kept l = w.to-come (has marks) (rw (span-end fact j end l) (none_asked (has marks)))
+  pub all-kept : length own ≤ k → Keeps P row (has marks₀) (map (place_of places) own) (has marks)
+  all-kept l = w.to-come (has marks) (rw (drop_all k own l) (none_asked (has marks)))

@@ -14,12 +14,11 @@ use Rattle.theory.specs.Derive.{step_by}
 use Rattle.theory.specs.Stable.{step_at, facts_of, used_rule}
 use Rattle.theory.specs.Keeping.{Traced}
 use Rattle.theory.proofs.Bools.{either}
-use Rattle.theory.proofs.Lists.{all-elem}
+use Rattle.theory.proofs.Lists.{all-elem, get_or-mem}
 use Rattle.theory.proofs.Keeping.{fact-before, fact-place}
 use Rattle.items.specs.Item.{narrow, max_facts}
-use Rattle.tables.specs.Layout.{program_in, Spanned, WellFormed}
+use Rattle.tables.specs.Layout.{program_in, WellFormed}
 use Rattle.tables.proofs.ProgramHeld.{facts_below, conclusion_below}
-use Rattle.tables.proofs.PartsSpanned.{in_span}
 use Rattle.kept_steps.specs.Keep.{steps_by, place_of, Placed}
 
 steps-length : (P : Program) (rules : List ℕ) → length (steps_by P rules) ≡ length rules
@@ -66,19 +65,16 @@ own-few {T} w rules r f m =
 pub own-placed : {P : Program} (rules places : List ℕ) (f : ℕ) → Traced P (steps_by P rules) → Placed (steps_by P rules) places → facts_of (steps_by P rules) f ≡ true → place_of places f < length rules
 own-placed {P} rules places f r p m = rw (steps-length P rules) at (fact-placed r p f m).0
 
--- The step of an element of the part that the premises span stands before the step of the rule.
-pub span-placed : {P : Program} (rules : List ℕ) {places : List ℕ} {facts : ℕ} {fact : ℕ → ℕ} {from end : ℕ} (k j : ℕ) → Traced P (steps_by P rules) → Placed (steps_by P rules) places → k < length rules → Spanned facts fact (rule P (get_or rules k 0)).premises from end → from ≤ j → j < end → place_of places (fact j) < k
-span-placed {P} rules {fact = fact} {from} {end} k j r p l s low high =
-    (premise_placed r p k (step-inside P rules k l) (fact j) (rw (step-at P rules k l, s.is) (in_span fact from end j low high))).0
+-- The step of a premise, by its place among the premises, stands before the step of the rule.
+pub premise-before : {P : Program} (rules : List ℕ) {places own : List ℕ} (k j : ℕ) → Traced P (steps_by P rules) → Placed (steps_by P rules) places → k < length rules → own ≡ (rule P (get_or rules k 0)).premises → j < length own → place_of places (get_or own j 0) < k
+premise-before {P} rules {own = own} k j r p l e h =
+    (premise_placed r p k (step-inside P rules k l) (get_or own j 0) (rw (step-at P rules k l, ← e) (get_or-mem own j h))).0
 
 -- The facts of the first k steps have their places.
 pub record Placing (P : Program) (rules places : List ℕ) (k : ℕ) : Type 0 where
   pub reached : k ≤ length rules
   pub cells : length places ≡ max_facts narrow
   pub so_far : (j : ℕ) → j < k → place_of places (rule P (get_or rules j 0)).conclusion ≡ j
-
-pub none_placed : (P : Program) (rules places : List ℕ) → length places ≡ max_facts narrow → Placing P rules places 0
-none_placed P rules places e = record { reached = omega arith; cells = e; so_far = λ j l. absurd (omega arith) }
 
 module _ {P : Program} {rules places : List ℕ} {k : ℕ} (r : Traced P (steps_by P rules)) (w : Placing P rules places k) where
   pub one_placed : k < length rules → (rule P (get_or rules k 0)).conclusion < max_facts narrow → Placing P rules (set places (rule P (get_or rules k 0)).conclusion k) (k + 1)

@@ -7,7 +7,7 @@ use native.Mathlib.Omega.{arith}
 use native.Mathlib.Numerals.{add-one}
 use borrow.Author.Tests.{lt-ltb, ltb-true}
 use lib.ListN.{length, get_or, take, set, length-set}
-use lib.Seq.{take-suc, take_all, take-suc-set, length-take-le, get_or-take}
+use lib.Seq.{take-suc, take-suc-set, length-take-le, get_or-take}
 use lib.Dec.{ltb}
 use Rattle.theory.specs.Rule.{all, Program, count}
 use Rattle.theory.specs.Derive.{step_by}
@@ -53,30 +53,23 @@ pub record Retaining (K : ℕ → Bool) (row out : List ℕ) (n k : ℕ) : Type 
   pub cells : length out ≡ max_facts narrow
   pub same : take n out ≡ select K (take k row)
 
-pub none_retained : (K : ℕ → Bool) (row out : List ℕ) → length out ≡ max_facts narrow → Retaining K row out 0 0
-none_retained K row out e = record { reached = omega arith; fewer = omega arith; cells = e; same = refl }
+module _ {K : ℕ → Bool} {row out : List ℕ} {n k : ℕ} (w : Retaining K row out n k) (l : k < length row) where
+  pub one_retained : length row ≤ max_facts narrow → K k ≡ true → Retaining K row (set out n (get_or row k 0)) (n + 1) (k + 1)
+  one_retained few t =
+      record {
+        reached = omega arith;
+        fewer = omega (arith, w.fewer);
+        cells = length-set out n (get_or row k 0) ∙ w.cells;
+        same =
+            ap (λ (m : ℕ). take m (set out n (get_or row k 0))) (add-one n)
+            ∙ take-suc-set out n (get_or row k 0) (omega (arith, w.fewer, w.cells))
+            ∙ ap (λ (front : List ℕ). front ++ (get_or row k 0 ∷ [])) w.same
+            ∙ sym (next-in K row k l t);
+      }
 
-module _ {K : ℕ → Bool} {row out : List ℕ} {n k : ℕ} (w : Retaining K row out n k) where
-  pub all_retained : length row ≤ k → take n out ≡ select K row
-  all_retained l = w.same ∙ ap (select K) (take_all k row l)
-
-  module _ (l : k < length row) where
-    pub one_retained : length row ≤ max_facts narrow → K k ≡ true → Retaining K row (set out n (get_or row k 0)) (n + 1) (k + 1)
-    one_retained few t =
-        record {
-          reached = omega arith;
-          fewer = omega (arith, w.fewer);
-          cells = length-set out n (get_or row k 0) ∙ w.cells;
-          same =
-              ap (λ (m : ℕ). take m (set out n (get_or row k 0))) (add-one n)
-              ∙ take-suc-set out n (get_or row k 0) (omega (arith, w.fewer, w.cells))
-              ∙ ap (λ (front : List ℕ). front ++ (get_or row k 0 ∷ [])) w.same
-              ∙ sym (next-in K row k l t);
-        }
-
-    pub not-retained : K k ≡ false → Retaining K row out n (k + 1)
-    not-retained t =
-        record { reached = omega arith; fewer = omega (arith, w.fewer); cells = w.cells; same = w.same ∙ sym (next-out K row k l t) }
+  pub not-retained : K k ≡ false → Retaining K row out n (k + 1)
+  not-retained t =
+      record { reached = omega arith; fewer = omega (arith, w.fewer); cells = w.cells; same = w.same ∙ sym (next-out K row k l t) }
 
 select-map : {A : Type 0} (g : ℕ → A) (K : ℕ → Bool) (xs : List ℕ) → map g (select K xs) ≡ select K (map g xs)
 select-map g K [] = refl

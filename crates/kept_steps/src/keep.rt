@@ -4,44 +4,39 @@ ghost use Rattle.theory.specs.Rule.{count as count_of, rule as rule_of};
 ghost use Rattle.theory.specs.Stable.{facts_of};
 ghost use Rattle.theory.specs.Keeping.{Traced, select, grounds_of};
 ghost use Rattle.items.specs.Item.{narrow, max_facts, has};
-ghost use Rattle.tables.specs.Layout.{program_in, WellFormed};
+ghost use Rattle.tables.specs.Held.{held};
 ghost use Rattle.kept_steps.specs.Keep.{steps_by, place_of, Placed, MayKeep, Keeps};
 
 use items::item::{FactId, MAX_FACTS, RuleId};
-use tables::layout::TABLE_CELLS;
-use tables::own::{premise_at, premise_span};
+use tables::layout::{Tables, wide};
 
 // The mark of a step that is kept.
+// A number and no enum: the row is read as a set by `has`, in the form of a set of facts, 1 in and 0 out.
 const KEPT: u8 = 1;
 
 // For each fact of a row of steps, the place of its step.
-fn place_steps(tables: &[u16; TABLE_CELLS], row: &[u16], places: &mut [u16; MAX_FACTS])
-    requires well_formed { WellFormed tables.now }
+fn place_steps(tables: &Tables, row: &[u16], places: &mut [u16; MAX_FACTS])
     requires row_len_bound { (length row.now ≤ max_facts narrow) × (length places.old ≡ max_facts narrow) }
-    requires traced { Traced (program_in tables.now) (steps_by (program_in tables.now) row.now) }
-    ensures { Placed (steps_by (program_in tables.now) row.now) places.new }
+    requires traced { Traced (held tables.now) (steps_by (held tables.now) row.now) }
+    ensures { Placed (steps_by (held tables.now) row.now) places.new }
 {
-    let mut k: usize = 0;
-    while k < row.len() {
-        let fact = tables::rule::conclusion(tables, RuleId(row[k]));
-        let number = fact.0 as usize;
-        places[number] = k as u16;
-        k += 1;
+    for (k, &rule) in row.iter().enumerate() {
+        let fact = tables.conclusion(RuleId(rule));
+        places[usize::from(fact.0)] = k as u16;
     }
 }
 
 // Keeps the step at a place, and with it the steps of its rule's premises, and so on back. The premises of a rule are facts of earlier steps.
 #[cycle(keep_premises_keep_step)]
 fn keep_step(
-    tables: &[u16; TABLE_CELLS],
+    tables: &Tables,
     row: &[u16],
     places: &[u16; MAX_FACTS],
     k: usize,
     kept: &mut [u8; MAX_FACTS],
 )
-    requires well_formed { WellFormed tables.now }
-    requires may_keep { MayKeep (program_in tables.now) row.now places.now kept.old k }
-    ensures keeps { Keeps (program_in tables.now) (steps_by (program_in tables.now) row.now) (has kept.old) (k ∷ []) (has kept.new) }
+    requires may_keep { MayKeep (held tables.now) row.now places.now kept.old k }
+    ensures keeps { Keeps (held tables.now) (steps_by (held tables.now) row.now) (has kept.old) (k ∷ []) (has kept.new) }
     ensures kept_len { length kept.new ≡ max_facts narrow }
 {
     kept[k] = KEPT;
@@ -51,62 +46,49 @@ fn keep_step(
 // Keeps the step of each premise of the rule of the step at a place, where it is not kept yet.
 #[cycle(keep_premises_keep_step)]
 fn keep_premises(
-    tables: &[u16; TABLE_CELLS],
+    tables: &Tables,
     row: &[u16],
     places: &[u16; MAX_FACTS],
     k: usize,
     kept: &mut [u8; MAX_FACTS],
 )
-    requires well_formed { WellFormed tables.now }
-    requires may_keep { MayKeep (program_in tables.now) row.now places.now kept.old k }
-    ensures keeps { Keeps (program_in tables.now) (steps_by (program_in tables.now) row.now) (has kept.old) (map (place_of places.now) (rule_of (program_in tables.now) (get_or row.now k 0)).premises) (has kept.new) }
+    requires may_keep { MayKeep (held tables.now) row.now places.now kept.old k }
+    ensures keeps { Keeps (held tables.now) (steps_by (held tables.now) row.now) (has kept.old) (map (place_of places.now) (rule_of (held tables.now) (get_or row.now k 0)).premises) (has kept.new) }
     ensures kept_len { length kept.new ≡ max_facts narrow }
 {
-    let own = premise_span(tables, RuleId(row[k]));
-    let end = own.end;
-    let mut place = own.from;
-    while place < end {
-        let fact = premise_at(tables, place);
-        let earlier = places[fact] as usize;
+    for &fact in tables.premises(RuleId(row[k])) {
+        let earlier = places[wide(fact)] as usize;
         if kept[earlier] != KEPT {
             keep_step(tables, row, places, earlier, kept);
         }
-        place += 1;
     }
 }
 
 // Writes the rules of the kept steps of a row, in their order, to the front of another, and answers how many they are.
+// The other row has a fixed length, since there is no heap: the answer tells how much of it counts.
 fn retain(row: &[u16], kept: &[u8; MAX_FACTS], out: &mut [u16; MAX_FACTS]) -> usize
     requires { (length row.now ≤ max_facts narrow) × (length kept.now ≡ max_facts narrow) × (length out.old ≡ max_facts narrow) }
     ensures out_after { take result out.new ≡ select (has kept.now) row.now }
     ensures upper_bound { (result ≤ length row.now) × (length out.new ≡ max_facts narrow) }
 {
     let mut n: usize = 0;
-    let mut k: usize = 0;
-    while k < row.len() {
+    for (k, &rule) in row.iter().enumerate() {
         if kept[k] == KEPT {
-            out[n] = row[k];
+            out[n] = rule;
             n += 1;
         }
-        k += 1;
     }
     n
 }
 
 // Writes the rules of the steps that are kept for a fact of the row, in their order, to the front of another row, and answers how many they are.
-pub fn keep_grounds(
-    tables: &[u16; TABLE_CELLS],
-    row: &[u16],
-    fact: FactId,
-    out: &mut [u16; MAX_FACTS],
-) -> usize
-    requires well_formed { WellFormed tables.now }
+pub fn keep_grounds(tables: &Tables, row: &[u16], fact: FactId, out: &mut [u16; MAX_FACTS]) -> usize
     requires row_len_bound { (length row.now ≤ max_facts narrow) × (length out.old ≡ max_facts narrow) }
-    requires traced { Traced (program_in tables.now) (steps_by (program_in tables.now) row.now) }
-    requires fact_value { facts_of (steps_by (program_in tables.now) row.now) fact.0 ≡ true }
-    ensures out_after { steps_by (program_in tables.now) (take result out.new) ≡ grounds_of (program_in tables.now) fact.0 (steps_by (program_in tables.now) row.now) }
+    requires traced { Traced (held tables.now) (steps_by (held tables.now) row.now) }
+    requires fact_value { facts_of (steps_by (held tables.now) row.now) fact.0 ≡ true }
+    ensures out_after { steps_by (held tables.now) (take result out.new) ≡ grounds_of (held tables.now) fact.0 (steps_by (held tables.now) row.now) }
     ensures upper_bound { (result ≤ length row.now) × (length out.new ≡ max_facts narrow) }
-    ensures by_index { (k : ℕ) → k < result → get_or out.new k 0 < count_of (program_in tables.now) }
+    ensures by_index { (k : ℕ) → k < result → get_or out.new k 0 < count_of (held tables.now) }
 {
     let mut places = [0u16; MAX_FACTS];
     let mut kept = [0u8; MAX_FACTS];

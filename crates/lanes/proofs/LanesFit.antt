@@ -20,7 +20,7 @@ use Rattle.bits.specs.Flags.{word_bits}
 use Rattle.bits.proofs.WordBits.{lowest_set, lower_clear}
 use Rattle.lanes.specs.Lanes.{every_lane, lane_words, word_of, lane_in}
 use Rattle.lanes.specs.Fit.{agrees, FirstFit}
-use Rattle.lanes.specs.declared.fit.Lane.TheVariants.{At, Nothing}
+use Rattle.std.specs.Prelude.{Option, Some, None}
 use Rattle.lanes.proofs.LanePatterns.{every-lane}
 
 and_assoc : (a b c : Bool) → (a && b) && c ≡ a && (b && c)
@@ -66,7 +66,7 @@ module _ {row derived outs : List ℕ} {word fits n : ℕ} (f : Fitting row deri
       ∙ f.same t l
 
 -- an answer is not both
-not_at : {A : Type 0} (l : ℕ) → Nothing ≡ At l → A
+not_at : {A : Type 0} (l : ℕ) → ◌≡◌ {A = Option ℕ} None (Some l) → A
 not_at l e = let z : ◌≡◌ {A = ℕ} 0 1 = cc in absurd (omega arith)
 
 -- No lane of the first words fits.
@@ -88,7 +88,7 @@ module _ {row derived outs : List ℕ} {w : ℕ} (u : Unfit row derived outs w) 
               (either (eqb v w));
         }
 
-    pub first_found : w < lane_words → (b : ℕ) → b ≡ count_trailing_zeros word_bits fits → b < word_bits → FirstFit row derived outs (At (w * word_bits + b))
+    pub first_found : w < lane_words → (b : ℕ) → b ≡ count_trailing_zeros word_bits fits → b < word_bits → FirstFit row derived outs (Some (w * word_bits + b))
     first_found h b lowest small =
         record {
           inside = λ l e. let is : w * word_bits + b ≡ l = cc in omega arith;
@@ -103,7 +103,7 @@ module _ {row derived outs : List ℕ} {w : ℕ} (u : Unfit row derived outs w) 
         lower : (t : ℕ) → t < b → agrees row derived outs w t ≡ false
         lower t l = sym (is t (omega arith)) ∙ lower_clear word_bits fits t (rw (← lowest) l)
 
-        before : (l : ℕ) → At (w * word_bits + b) ≡ At l → (v t : ℕ) → v < lane_words → t < word_bits → v * word_bits + t < l → agrees row derived outs v t ≡ false
+        before : (l : ℕ) → Some (w * word_bits + b) ≡ Some l → (v t : ℕ) → v < lane_words → t < word_bits → v * word_bits + t < l → agrees row derived outs v t ≡ false
         before l e v t hv ht lt =
             let place : w * word_bits + b ≡ l = cc in
             ⊎_elim
@@ -111,7 +111,7 @@ module _ {row derived outs : List ℕ} {w : ℕ} (u : Unfit row derived outs w) 
             (λ q. let ne : v ≡ w → ⊥ = eqb-false v w q in u.none v t (omega arith) ht)
             (either (eqb v w))
 
-  pub none_found : lane_words ≤ w → FirstFit row derived outs Nothing
+  pub none_found : lane_words ≤ w → FirstFit row derived outs None
   none_found h =
       record {
         inside = λ l e. not_at l e;

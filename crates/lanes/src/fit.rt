@@ -11,13 +11,7 @@ use crate::words::{EVERY_LANE, LANE_CELLS, LANE_WORDS};
 use bits::row::WORD_BITS;
 use bits::word::lowest_bit;
 use items::item::MAX_FACTS;
-
-// The first lane of a block that fits, or that none does.
-#[derive(Clone, Copy)]
-pub enum Lane {
-    At(usize),
-    Nothing,
-}
+use marking::marks::IN;
 
 // The lanes of one word in which each fact of the row is derived exactly where it is not held out.
 fn fit_word(row: &[u16], derived: &[u64; LANE_CELLS], outs: &[u64; LANE_CELLS], word: usize) -> u64
@@ -25,29 +19,29 @@ fn fit_word(row: &[u16], derived: &[u64; LANE_CELLS], outs: &[u64; LANE_CELLS], 
     ensures { (t : ℕ) → t < word_bits → bit result t ≡ agrees row.now derived.now outs.now word t }
 {
     let mut fits = EVERY_LANE;
-    let mut n: usize = 0;
-    while n < row.len() {
-        let at = row[n] as usize * LANE_WORDS + word;
+    for &fact in row {
+        let at = fact as usize * LANE_WORDS + word;
         fits &= derived[at] ^ outs[at];
-        n += 1;
     }
     fits
 }
 
 // The first lane whose guess fits.
-pub fn first_fit(row: &[u16], derived: &[u64; LANE_CELLS], outs: &[u64; LANE_CELLS]) -> Lane
+pub fn first_fit(
+    row: &[u16],
+    derived: &[u64; LANE_CELLS],
+    outs: &[u64; LANE_CELLS],
+) -> Option<usize>
     requires { all (λ k. ltb k (max_facts narrow)) row.now ≡ true }
     ensures { FirstFit row.now derived.now outs.now result }
 {
-    let mut w: usize = 0;
-    while w < LANE_WORDS {
+    for w in 0..LANE_WORDS {
         let fits = fit_word(row, derived, outs, w);
         if fits != 0 {
-            return Lane::At(w * WORD_BITS + lowest_bit(fits));
+            return Some(w * WORD_BITS + lowest_bit(fits));
         }
-        w += 1;
     }
-    Lane::Nothing
+    None
 }
 
 // Is a lane set in a word?
@@ -58,21 +52,19 @@ fn has_lane(word: u64, lane: usize) -> bool
     (word >> lane) % 2 == 1
 }
 
-// Marks the facts that a lane derives.
-pub fn mark_lane(derived: &[u64; LANE_CELLS], lane: usize, found: &mut [u8; MAX_FACTS])
-    requires { (lane < lane_count) × (length found.old ≡ max_facts narrow) }
-    ensures found_len { length found.new ≡ max_facts narrow }
-    ensures by_index { (f : ℕ) → f < max_facts narrow → has found.new f ≡ lane_in derived.now (lane / word_bits) (lane % word_bits) f }
+// The marks of the facts that a lane derives.
+pub fn mark_lane(derived: &[u64; LANE_CELLS], lane: usize) -> [u8; MAX_FACTS]
+    requires { lane < lane_count }
+    ensures found_len { length result ≡ max_facts narrow }
+    ensures by_index { (f : ℕ) → f < max_facts narrow → has result f ≡ lane_in derived.now (lane / word_bits) (lane % word_bits) f }
 {
     let word = lane / WORD_BITS;
     let bit = lane % WORD_BITS;
-    let mut fact: usize = 0;
-    while fact < MAX_FACTS {
+    let mut found = [0u8; MAX_FACTS];
+    for fact in 0..MAX_FACTS {
         if has_lane(derived[fact * LANE_WORDS + word], bit) {
-            found[fact] = 1;
-        } else {
-            found[fact] = 0;
+            found[fact] = IN;
         }
-        fact += 1;
     }
+    found
 }

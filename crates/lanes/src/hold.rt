@@ -40,10 +40,8 @@ fn hold_fact(outs: &mut [u64; LANE_CELLS], fact: usize, block: usize, place: usi
 {
     let mut own = [0u64; LANE_WORDS];
     let first = block * LANE_WORDS;
-    let mut w: usize = 0;
-    while w < LANE_WORDS {
+    for w in 0..LANE_WORDS {
         own[w] = guess_word(first + w, place) ^ EVERY_LANE;
-        w += 1;
     }
     put(outs, fact, &own);
 }
@@ -53,11 +51,9 @@ pub fn hold_block(row: &[u16], block: usize, outs: &mut [u64; LANE_CELLS])
     requires { (length row.now ≤ max_guessed) × (all (λ k. ltb k (max_facts narrow)) row.now ≡ true) × NoRepeat row.now × (block < blocks) }
     ensures { BlockHeld row.now block outs.old outs.new }
 {
-    let mut place: usize = 0;
-    while place < row.len() {
+    for place in 0..row.len() {
         let fact = row[row.len() - 1 - place] as usize;
         hold_fact(outs, fact, block, place);
-        place += 1;
     }
 }
 
@@ -66,16 +62,12 @@ pub fn hold_base(base: &[u8; LITERALS], outs: &mut [u64; LANE_CELLS])
     requires { length outs.old ≡ lane_cells }
     ensures { BaseHeld base.now outs.new }
 {
-    let none = [0u64; LANE_WORDS];
-    let every = [EVERY_LANE; LANE_WORDS];
-    let mut fact: usize = 0;
-    while fact < MAX_FACTS {
-        if base[MAX_FACTS + fact] == 1 {
-            put(outs, fact, &every);
-            fact += 1;
-            continue;
-        }
-        put(outs, fact, &none);
-        fact += 1;
+    for fact in 0..MAX_FACTS {
+        let word = if base[MAX_FACTS + fact] == 1 {
+            EVERY_LANE
+        } else {
+            0
+        };
+        put(outs, fact, &[word; LANE_WORDS]);
     }
 }

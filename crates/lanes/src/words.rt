@@ -23,11 +23,7 @@ pub fn put(words: &mut [u64; LANE_CELLS], fact: usize, own: &[u64; LANE_WORDS])
     ensures { Put fact own.now words.old words.new }
 {
     let from = fact * LANE_WORDS;
-    let mut w: usize = 0;
-    while w < LANE_WORDS {
-        words[from + w] = own[w];
-        w += 1;
-    }
+    words[from..from + LANE_WORDS].copy_from_slice(own);
 }
 
 // Keeps the lanes that a fact has too.
@@ -36,27 +32,24 @@ pub fn meet(words: &[u64; LANE_CELLS], fact: usize, body: &mut [u64; LANE_WORDS]
     ensures { Met fact words.now body.old body.new }
 {
     let from = fact * LANE_WORDS;
-    let mut w: usize = 0;
-    while w < LANE_WORDS {
+    for w in 0..LANE_WORDS {
         body[w] &= words[from + w];
-        w += 1;
     }
 }
 
 // Gives a fact the lanes of a body. Were some new?
+// The bool answers that question itself: nothing else is handed out with it.
 pub fn join(words: &mut [u64; LANE_CELLS], fact: usize, body: &[u64; LANE_WORDS]) -> bool
     requires { fact < max_facts narrow }
     ensures { Joined fact body.now words.old words.new result }
 {
     let from = fact * LANE_WORDS;
     let mut new: u64 = 0;
-    let mut w: usize = 0;
-    while w < LANE_WORDS {
+    for w in 0..LANE_WORDS {
         let before = words[from + w];
         let after = before | body[w];
         words[from + w] = after;
         new |= before ^ after;
-        w += 1;
     }
     new != 0
 }

@@ -2,12 +2,13 @@
 use Prim.Native.Nat.{ℕ, ◌*◌, ◌≤◌, ◌<◌}
 use native.Mathlib.Omega.{arith}
 use mathlib.Core.Path.{◌≡◌, sym, ap, ◌∙◌, fun_ext}
-use mathlib.Core.Bool.{Bool, true, false}
+use mathlib.Core.Bool.{true, false}
 use mathlib.Core.List.{List}
 use mathlib.Core.Option.{Option, none, some}
 use borrow.Author.Tests.{le-leb, lt-leb, leb-true}
 use lib.ListN.{length}
 use lib.Dec.{leb}
+use Rattle.std.specs.Prelude.{Ok, Err}
 use Rattle.theory.specs.Rule.{Program, in_force, constraint_fact}
 use Rattle.theory.specs.Conditions.{Bounded}
 use Rattle.theory.specs.Layers.{LeastRanks, is_layered, layered_order, ranks_of}
@@ -19,7 +20,6 @@ use Rattle.items.specs.declared.refusal.Refusal.TheVariants.{OrderShort, NotLaye
 use Rattle.items.specs.Item.{name_width}
 use Rattle.items.specs.Write.{over}
 use Rattle.tables.specs.Layout.{program_in}
-use Rattle.reader.specs.declared.answer.Asked.TheVariants as asked
 use Rattle.reader.specs.declared.answer.FileCounts.{FileCounts}
 use Rattle.reader.specs.Questions.{program_of, file_questions, file_no, exceptions}
 use Rattle.reader.specs.Asked.{counts_of, file_asked}
@@ -27,7 +27,6 @@ use Rattle.reader.proofs.Accepted.{all_asked}
 use Rattle.items.proofs.FirstNo.{both_yes}
 use Rattle.questions.specs.Questions.{naming, layered_questions, layered_no}
 use Rattle.questions.proofs.OperationAsked.{Passed, file_refused, file_accepted}
-use Rattle.layers.specs.declared.answer.Layered.TheVariants.{Ordered}
 use Rattle.layers.specs.Outcome.{LayeredOutcome, ordered_by, refused_with, layered_outcome}
 use Rattle.layers.specs.Tabled.{layered_of}
 
@@ -40,7 +39,7 @@ module _ (file order : List ℕ) where
   unfolding layered_outcome
   layered_ordered e = sym (rw (e, layered_outcome))
 
-  pub file-no : (r : Refusal) → file_asked file ≡ asked.No r → refused_with r order ≡ layered_outcome file order
+  pub file-no : (r : Refusal) → file_asked file ≡ Err r → refused_with r order ≡ layered_outcome file order
   unfolding layered_questions
   file-no r e = layered_refused r (file_refused file _ r e)
 
@@ -83,11 +82,9 @@ module _ (P : Program) (order : List ℕ) (counts : FileCounts) (e : counts ≡ 
     pub fits : name_width * exceptions P ≤ length order
     fits = omega (arith, named)
 
-    pub not-layered : (r : Bool) → r ≡ is_layered P (in_force P) → r ≡ false → refused_with NotLayered order ≡ layered_of P order
+    pub not-layered : is_layered P (in_force P) ≡ false → refused_with NotLayered order ≡ layered_of P order
     unfolding layered_of
-    not-layered r q f =
-        let n : is_layered P (in_force P) ≡ false = sym q ∙ f in
-        sym (rw (le-leb (name_width * exceptions P) (length order) fits, n, layered_of))
+    not-layered n = sym (rw (le-leb (name_width * exceptions P) (length order) fits, n, layered_of))
 
     -- the ranks that were found are the least, so the order that was written is that of the definition
     module _ (b : Bounded P) (yes-layered : is_layered P (in_force P) ≡ true) (rank : ℕ → ℕ) (least : LeastRanks P (in_force P) rank) where
@@ -104,9 +101,9 @@ module _ (P : Program) (order : List ℕ) (counts : FileCounts) (e : counts ≡ 
       unfolding exceptions
       counted = named ∙ (sym (rank_length P (in_force P) rank few_ranks) ∙ ap length same_order)
 
-      pub ordered : (after : List ℕ) → after ≡ over (naming (order_by_rank P (in_force P) rank)) order → ◌≡◌ {A = LayeredOutcome} (record { answer = Ordered counts.exceptions; order = after }) (layered_of P order)
+      pub ordered : (after : List ℕ) → after ≡ over (naming (order_by_rank P (in_force P) rank)) order → ◌≡◌ {A = LayeredOutcome} (record { answer = Ok counts.exceptions; order = after }) (layered_of P order)
       unfolding layered_of ordered_by
       ordered after w =
-          ap (λ (n : ℕ). record { answer = Ordered n; order = after }) counted
-          ∙ (ap (λ (bytes : List ℕ). record { answer = Ordered (length (layered_order P (in_force P))); order = bytes }) (w ∙ ap (λ (row : List ℕ). over (naming row) order) same_order)
+          ap (λ (n : ℕ). record { answer = Ok n; order = after }) counted
+          ∙ (ap (λ (bytes : List ℕ). record { answer = Ok (length (layered_order P (in_force P))); order = bytes }) (w ∙ ap (λ (row : List ℕ). over (naming row) order) same_order)
           ∙ sym (rw (le-leb (name_width * exceptions P) (length order) fits, yes-layered, layered_of)))

@@ -1,30 +1,28 @@
 -- What asking for the order by rank answers and leaves in the buffer lent to it (document 02, wish 4).
-use Rattle.std.specs.Prelude.{ℕ, ◌*◌, ◌≡◌, List, length, take}
+use Rattle.std.specs.Prelude.{ℕ, ◌*◌, ◌≡◌, List, length, take, Result, Ok, Err}
 use Rattle.std.proofs.Math.Option.{Option, none, some}
 use Rattle.theory.specs.Rule.{in_force}
 use Rattle.theory.specs.Layers.{LeastRanks, Cycle, ByRank, layered_order}
 use Rattle.items.specs.declared.refusal.Refusal.{Refusal}
-use Rattle.items.specs.Question as refusal
 use Rattle.items.specs.Question.{no_number}
+use Rattle.items.specs.Answer.{answer_number, count_in}
 use Rattle.items.specs.Item.{name_width}
 use Rattle.items.specs.Write.{over}
 use Rattle.reader.specs.Questions.{program_of}
 use Rattle.questions.specs.Questions.{named_in, naming, layered_no}
-use Rattle.layers.specs.declared.answer.Layered.{Layered}
-use Rattle.layers.specs.declared.answer.Layered.TheVariants.{Ordered, Refused}
 
 -- The answer, and the buffer.
 pub record LayeredOutcome : Type 0 where
-  pub answer : Layered
+  pub answer : Result ℕ Refusal
   pub order : List ℕ
 
 -- The order by rank is written over the front of the buffer, and its rules are counted.
 unfoldable pub ordered_by : List ℕ → List ℕ → LayeredOutcome
-ordered_by row order = record { answer = Ordered (length row); order = over (naming row) order }
+ordered_by row order = record { answer = Ok (length row); order = over (naming row) order }
 
 -- A refusal alters no byte.
 abbrev pub refused_with : Refusal → List ℕ → LayeredOutcome
-refused_with r order = record { answer = Refused r; order = order }
+refused_with r order = record { answer = Err r; order = order }
 
 -- What the operation answers and leaves.
 unfoldable pub layered_outcome : List ℕ → List ℕ → LayeredOutcome
@@ -35,13 +33,11 @@ layered_outcome file order =
     ]
 
 -- The answer's number, 0 where there is a result, and its count, 0 on a refusal.
-abbrev pub layered_number : Layered → ℕ
-layered_number (Ordered rules) = 0
-layered_number (Refused r) = refusal.number r
+abbrev pub layered_number : Result ℕ Refusal → ℕ
+layered_number r = answer_number r
 
-abbrev pub layered_count : Layered → ℕ
-layered_count (Ordered rules) = rules
-layered_count (Refused r) = 0
+abbrev pub layered_count : Result ℕ Refusal → ℕ
+layered_count r = count_in r
 
 -- The rules that the order names, as many as are counted.
 abbrev pub named_rules : LayeredOutcome → List ℕ

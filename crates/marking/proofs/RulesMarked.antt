@@ -1,52 +1,49 @@
 -- Marks set element by element, and rule by rule, and counted.
-use Prim.Native.Nat.{ℕ, ◌+◌, ◌-◌, ◌≤◌, ◌<◌}
+use Prim.Native.Nat.{ℕ, zero, suc, ◌+◌, ◌-◌, ◌≤◌, ◌<◌}
 use mathlib.Core.Path.{◌≡◌, refl, sym, ap, ap₂, ◌∙◌}
-use mathlib.Core.Bool.{Bool, true, false, not, ◌&&◌, ◌||◌}
-use mathlib.Core.List.{List}
+use mathlib.Core.Bool.{Bool, true, false, cond, not, ◌&&◌, ◌||◌}
+use mathlib.Core.List.{List, [], ◌∷◌}
 use mathlib.Core.Logic.{⊎_elim}
 use native.Mathlib.Omega.{arith}
+use native.Mathlib.Nat.{add-zero}
 use borrow.Author.Tests.{lt-ltb, le-ltb, ltb-true, eq-eqb, eqb-true, eqb-false}
-use lib.ListN.{length, set, replicate, length-set}
+use lib.ListN.{length, get_or, drop, take, set, replicate, length-set}
 use lib.Dec.{eqb, ltb}
+use Rattle.std.specs.List.{count_by}
+use Rattle.std.proofs.lemmas.List.Sums.{sum_by-cons}
 use Rattle.theory.specs.Rule.{mem, any, range, up_to, how_many, Program, in_force, null, count, rule, plain, exception, constraint_fact, plain_rules}
 use Rattle.theory.proofs.Bools.{either, and-true, and-false, and_left, and_right, and_both, both_ways, false_of, or-none}
 use Rattle.theory.proofs.Lists.{range_all, range_cons, range-end, how_many-ext, mem-up_to}
 use Rattle.theory.proofs.Withheld.{plain-rules}
 use Rattle.items.specs.Item.{max_rules, has}
-use Rattle.tables.specs.Layout.{span, program_in, Spanned, WellFormed}
+use Rattle.std.proofs.lemmas.List.{drop_more, drop_all}
+use Rattle.tables.specs.Layout.{program_in, WellFormed}
 use Rattle.marking.specs.Marks.{paint_as, paint}
 use Rattle.tables.proofs.ProgramHeld.{rules-below}
 use Rattle.marking.proofs.MarksPainted.{both_tests, no_test, same_test, one_mark, painted, has-paint, length-paint}
-use Rattle.tables.proofs.PartsSpanned.{span-cons, span-end}
 
--- Marking the elements of a part: those to come from here give what all give from the start.
-pub record MarkingOwn (elements : List ℕ) (row : ℕ → ℕ) (from end v : ℕ) (before now : List ℕ) (j : ℕ) : Type 0 where
-  pub reached : from ≤ j
-  pub inside : j ≤ end
+-- Marking the elements of a list: those from place k on give what all give from the start.
+pub record MarkingOwn (own : List ℕ) (v : ℕ) (before now : List ℕ) (k : ℕ) : Type 0 where
   pub places : length now ≡ length before
-  pub same : paint_as v (λ k. mem k elements) before ≡ paint_as v (λ k. mem k (span row j end)) now
+  pub same : paint_as v (λ x. mem x own) before ≡ paint_as v (λ x. mem x (drop k own)) now
 
-pub none_marked : {facts : ℕ} {row : ℕ → ℕ} {elements : List ℕ} {from end : ℕ} (v : ℕ) (before : List ℕ) → Spanned facts row elements from end → MarkingOwn elements row from end v before before from
-none_marked v before s =
-    record { reached = omega arith; inside = s.low; places = refl; same = ap (λ (l : List ℕ). paint_as v (λ k. mem k l) before) s.is }
+pub none_marked : (own : List ℕ) (v : ℕ) (before : List ℕ) → MarkingOwn own v before before 0
+none_marked own v before = record { places = refl; same = refl }
 
-module _ {elements : List ℕ} {row : ℕ → ℕ} {from end v : ℕ} {before now : List ℕ} {j : ℕ} (w : MarkingOwn elements row from end v before now j) where
-  all-marked : end ≤ j → now ≡ paint_as v (λ k. mem k elements) before
-  all-marked h = sym (w.same ∙ ap (λ (l : List ℕ). paint_as v (λ k. mem k l) now) (span-end row j end h) ∙ no_test v 0 now)
+module _ {own : List ℕ} {v : ℕ} {before now : List ℕ} {k : ℕ} (w : MarkingOwn own v before now k) where
+  pub all-marked : length own ≤ k → (elements : List ℕ) → ((x : ℕ) → mem x own ≡ mem x elements) → now ≡ paint_as v (λ x. mem x elements) before
+  all-marked h elements e =
+      sym (w.same ∙ ap (λ (l : List ℕ). paint_as v (λ x. mem x l) now) (drop_all k own h) ∙ no_test v 0 now)
+      ∙ same_test v (λ x. mem x own) (λ x. mem x elements) before e
 
-  pub own-marked : end ≤ j → (own : List ℕ) → own ≡ elements → now ≡ paint_as v (λ k. mem k own) before
-  own-marked h own e = rw e (all-marked h)
-
-  pub one_marked : j < end → MarkingOwn elements row from end v before (set now (row j) v) (j + 1)
+  pub one_marked : k < length own → MarkingOwn own v before (set now (get_or own k 0) v) (k + 1)
   one_marked h =
       record {
-        reached = omega (arith, w.reached);
-        inside = omega arith;
-        places = length-set now (row j) v ∙ w.places;
+        places = length-set now (get_or own k 0) v ∙ w.places;
         same =
-            w.same ∙ ap (λ (l : List ℕ). paint_as v (λ k. mem k l) now) (span-cons row j end h)
-            ∙ both_tests v (λ k. eqb k (row j)) (λ k. mem k (span row (j + 1) end)) now
-            ∙ ap (paint_as v (λ k. mem k (span row (j + 1) end))) (sym (one_mark v now (row j)));
+            w.same ∙ ap (λ (l : List ℕ). paint_as v (λ x. mem x l) now) (drop_more own k 0 h)
+            ∙ both_tests v (λ x. eqb x (get_or own k 0)) (λ x. mem x (drop (k + 1) own)) now
+            ∙ ap (paint_as v (λ x. mem x (drop (k + 1) own))) (sym (one_mark v now (get_or own k 0)));
       }
 
 -- the constraints of the rules in force from rule i on
@@ -173,3 +170,20 @@ plain-mask {T} w =
   where
     beyond : {i n : ℕ} → max_rules ≤ i → i < n → n ≤ max_rules → ⊥
     beyond a b c = omega arith
+
+-- As many of the first marks show a fact in as there are such facts.
+counted_from : (p q : ℕ → Bool) (i n : ℕ) (xs : List ℕ) → n ≤ length xs → ((j : ℕ) → p (i + j) ≡ q (get_or xs j 0)) → count_by q (take n xs) ≡ how_many p (range i n)
+counted_from p q i zero xs few h = refl
+counted_from p q i (suc n) [] few h = absurd (omega arith)
+counted_from p q i (suc n) (x ∷ xs) few h = sum_by-cons _ x (take n xs) ∙ first (p i) (q x) (ap p (sym (add-zero i)) ∙ h 0) (counted_from p q (suc i) n xs (omega arith) later)
+  where
+    first : (b d : Bool) → b ≡ d → {k m : ℕ} → k ≡ m → cond d 1 0 + k ≡ cond b (suc m) m
+    first true d e s = rw (← e) (omega arith)
+    first false d e s = rw (← e) (omega arith)
+
+    later : (j : ℕ) → p (suc i + j) ≡ q (get_or xs j 0)
+    later j = let next : suc i + j ≡ i + suc j = omega arith in ap p next ∙ h (suc j)
+
+pub counted : (marks : List ℕ) (n : ℕ) → n ≤ length marks → count_by (λ x. eqb x 1) (take n marks) ≡ how_many (has marks) (up_to n)
+unfolding has
+counted marks n few = counted_from (has marks) (λ x. eqb x 1) 0 n marks few (λ j. let same : 0 + j ≡ j = omega arith in ap (has marks) same)

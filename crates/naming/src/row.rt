@@ -14,19 +14,14 @@ pub fn order_row(order: &[u8], row: &mut [u16; MAX_RULES]) -> usize
     ensures value { result ≡ length (named_in order.now) }
     ensures row_len_2 { length row.new ≡ max_rules }
 {
-    let mut cursor = Cursor {
-        at: 0,
-        row: Row::Order,
-    };
+    let mut cursor = Cursor::start(Row::Order);
     let mut n: usize = 0;
-    loop {
-        let Read::Found(item, next) = cursor.next_name(order) else {
-            return n;
-        };
+    while let Read::Found(item, next) = cursor.next_name(order) {
         cursor = next;
         if let Item::Names(rule) = item {
             row[n] = rule.0;
             n += 1;
         }
     }
+    n
 }

@@ -21,13 +21,11 @@ pub fn write_names(
     ensures { Put (naming (places_marked mark marks.now count)) from out.old result out.new }
 {
     let mut at = from;
-    let mut i: usize = 0;
-    while i < count {
+    for i in 0..count {
         if marks[i] == mark {
             items::write::write_rule_item(out, at, RuleId(i as u16));
             at += NAME_WIDTH;
         }
-        i += 1;
     }
     at
 }

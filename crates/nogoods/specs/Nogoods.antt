@@ -1,6 +1,7 @@
 -- Internal: guesses that are known to fail, whatever they are tested for.
-use Rattle.std.specs.Prelude.{ℕ, ◌<◌, ◌≤◌, ◌≡◌, Bool, false, List, get_or}
+use Rattle.std.specs.Prelude.{ℕ, ◌<◌, ◌≤◌, ◌≡◌, Bool, false, List, All}
 use Rattle.std.specs.Int.Bits.{bit_and}
+use Rattle.nogoods.specs.declared.nogood.Nogood.{Nogood}
 
 -- Every guess is below this: a bit for each of the facts that are guessed at most.
 abbrev pub guesses : ℕ
@@ -18,6 +19,6 @@ Passed pass a b = (x : ℕ) → a ≤ x → x < b → pass x ≡ false
 abbrev pub Refutes : (ℕ → Bool) → ℕ → ℕ → Type 0
 Refutes pass mask value = (x : ℕ) → x < guesses → bit_and x mask ≡ value → pass x ≡ false
 
--- The first entries of the two rows are nogoods.
-abbrev pub Stored : (ℕ → Bool) → List ℕ → List ℕ → ℕ → Type 0
-Stored pass masks values kept = (i : ℕ) → i < kept → Refutes pass (get_or masks i 0) (get_or values i 0)
+-- All of them are nogoods.
+abbrev pub Stored : (ℕ → Bool) → List Nogood → Type 0
+Stored pass nogoods = All (λ n. Refutes pass n.mask n.value) nogoods

@@ -6,20 +6,19 @@ ghost use Rattle.items.specs.Item.{name_width, has};
 ghost use Rattle.items.specs.Write.{over};
 ghost use Rattle.reader.specs.Questions.{exceptions};
 ghost use Rattle.questions.specs.Questions.{naming};
-ghost use Rattle.tables.specs.Layout.{program_in, WellFormed};
+ghost use Rattle.tables.specs.Held.{held};
 
 use crate::by_key::write_by_key;
 use crate::groups::{GROUPS, groups_of};
 use items::item::MAX_FACTS;
-use tables::layout::{TABLE_CELLS, rules_of};
+use tables::layout::Tables;
 
 // Writes the order for a set to the front of the buffer: the exception rules group by group, each group ascending. Answers its
 // length.
-pub fn write_order(tables: &[u16; TABLE_CELLS], set: &[u8; MAX_FACTS], order: &mut [u8]) -> usize
-    requires well_formed { WellFormed tables.now }
-    requires tables_in_bounds { name_width * exceptions (program_in tables.now) ≤ length order.old }
-    ensures { (order.new ≡ over (naming (order_for (program_in tables.now) (in_force (program_in tables.now)) (has set.now))) order.old) × (result ≡ length (naming (order_for (program_in tables.now) (in_force (program_in tables.now)) (has set.now)))) }
+pub fn write_order(tables: &Tables, set: &[u8; MAX_FACTS], order: &mut [u8]) -> usize
+    requires tables_in_bounds { name_width * exceptions (held tables.now) ≤ length order.old }
+    ensures { (order.new ≡ over (naming (order_for (held tables.now) (in_force (held tables.now)) (has set.now))) order.old) × (result ≡ length (naming (order_for (held tables.now) (in_force (held tables.now)) (has set.now)))) }
 {
     let groups = groups_of(tables, set);
-    write_by_key(&groups, rules_of(tables), GROUPS, order)
+    write_by_key(&groups, tables.rules(), GROUPS, order)
 }

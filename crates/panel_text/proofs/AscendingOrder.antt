@@ -13,17 +13,14 @@ use Rattle.theory.proofs.Bools.{and_right, and_both}
 use Rattle.theory.proofs.Lists.{all_of, mem-keep, mem-up_to, up_to-mem, keep_same}
 use Rattle.items.specs.declared.refusal.Refusal.{Refusal}
 use Rattle.items.specs.Item.{narrow, step_width, max_facts, max_rules}
-use Rattle.reader.specs.Questions.{program_of, file_no}
 use Rattle.tables.specs.Layout.{program_in, WellFormed}
 use Rattle.marking.specs.Marks.{paint}
 use Rattle.tables.proofs.ProgramHeld.{rules-below}
 use Rattle.marking.proofs.MarksPainted.{unpainted}
 use Rattle.marking.proofs.RulesMarked.{plain_at}
-use Rattle.reader.proofs.Accepted.{accepted_file, rules_few}
-use Rattle.questions.specs.Questions.{order_questions, order_no, buffer_questions, run_questions, buffers_no, run_no, naming}
+use Rattle.questions.specs.Questions.{order_questions, order_no, buffer_questions, buffers_no, naming}
 use Rattle.questions.specs.Parts.{tabled_no}
 use Rattle.items.proofs.FirstNo.{all_yes}
-use Rattle.questions.proofs.OperationAsked.{file_accepted}
 use Rattle.questions.proofs.Orders.{keep-once, order-yes}
 use Rattle.panel_lines.specs.Text.{ascending}
 use Rattle.theory.specs.Places.{places_marked}
@@ -63,8 +60,3 @@ ascending-runs P f r =
     all_yes (order_questions (exception P) (count P) (naming (ascending P))) (buffer_questions narrow P (max_facts narrow) max_rules (max_facts narrow * step_width narrow))
     (ascending-yes (exception P) (count P))
     (buffers_yes P f r)
-
-pub run-yes : (s : List ℕ) → (program_of s).facts < max_facts narrow → ◌≡◌ {A = Option Refusal} (file_no s) none → ◌≡◌ {A = Option Refusal} (run_no s (naming (ascending (program_of s))) (max_facts narrow) max_rules (max_facts narrow * step_width narrow)) none
-unfolding run_questions
-run-yes s few a =
-    file_accepted s _ a ∙ ascending-runs (program_of s) (omega (arith, few)) (rules_few (accepted_file s a))

@@ -5,7 +5,6 @@ use native.Mathlib.Nat.{add-zero, suc-mul}
 use mathlib.Core.Path.{◌≡◌, ◌∙◌}
 use mathlib.Core.Bool.{Bool, true, false, cond}
 use mathlib.Core.List.{List, [], ◌∷◌}
-use mathlib.Core.Option.{Option, none}
 use borrow.Author.Tests.{eq-eqb, ne_eqb}
 use lib.ListN.{length, replicate, length-append, length-replicate}
 use lib.Dec.{eqb}
@@ -14,13 +13,10 @@ use Rattle.theory.specs.Conditions.{Bounded}
 use Rattle.theory.specs.Run.{Stand, run, stage_count, step_count}
 use Rattle.theory.proofs.Grounds.{Grounds}
 use Rattle.theory.proofs.Run.{granted, run_sound}
-use Rattle.items.specs.declared.refusal.Refusal.{Refusal}
 use Rattle.items.specs.Item.{narrow, name_width, max_facts, max_rules}
-use Rattle.tables.proofs.ProgramHeld.{facts_below}
-use Rattle.reader.specs.Questions.{program_of, file_no}
-use Rattle.reader.specs.Scanned.{Tabled}
+use Rattle.tables.specs.Layout.{program_in, WellFormed}
+use Rattle.tables.proofs.ProgramHeld.{facts_below, rules-below}
 use Rattle.items.specs.Write.{rule_item}
-use Rattle.reader.proofs.Accepted.{accepted_file, rules_few, bounded}
 use Rattle.run.proofs.FewSteps.{Paced, run-paced}
 use Rattle.questions.specs.Questions.{each, naming}
 use Rattle.panel_lines.specs.Text.{newline, spaced, field, line, head_line, step_line, rejected_facts, aside_rules, run_text, ascending, most_spaced, most_field, most_line, most_step, most_head, text_room}
@@ -81,13 +77,6 @@ ascending-fits P r =
       inside = omega (arith, order-length (exception P) (count P), r, length-replicate {A = ℕ} (max_rules * name_width) 0);
     }
 
-pub order_fits : (s : List ℕ) → ◌≡◌ {A = Option Refusal} (file_no s) none → Fits (naming (ascending (program_of s))) 0 (replicate (max_rules * name_width) 0)
-order_fits s a = ascending-fits (program_of s) (rules_few (accepted_file s a))
-
--- The tables of an accepted file hold few facts.
-pub few_tabled : {s T : List ℕ} → Tabled s T → (program_of s).facts < max_facts narrow
-few_tabled t = rw t.program at (facts_below t.well_formed)
-
 -- The lines of steps that a run may take.
 module _ (P : Program) (b : Bounded P) (f : P.facts < max_facts narrow) (r : count P ≤ max_rules) where
   steps-length : (ok : Mask) (row : List Step) (S : FactSet) → Grounds P ok S row → length (each step_line row) ≤ length row * most_step narrow
@@ -118,8 +107,6 @@ module _ (P : Program) (b : Bounded P) (f : P.facts < max_facts narrow) (r : cou
       let rules : length (each (line 0x41) (aside_rules P s)) ≤ count P * most_line narrow = kept-length (line 0x41) (most_line narrow) _ 0 (count P) (λ i l. line-length 0x41 i (omega arith)) in
       simp length-append (omega (arith, head, steps, facts, rules))
 
--- The text of every accepted file has room.
-pub text_fits : (s : List ℕ) → (program_of s).facts < max_facts narrow → ◌≡◌ {A = Option Refusal} (file_no s) none → (order : List ℕ) → length (run_text (program_of s) (run (program_of s) (in_force (program_of s)) order)) ≤ text_room narrow
-text_fits s few a order =
-    let t = accepted_file s a in
-    text_length (program_of s) (bounded t) few (rules_few t) order
+-- The text of a program in the tables has room.
+pub text_fits : {T : List ℕ} → WellFormed T → (order : List ℕ) → length (run_text (program_in T) (run (program_in T) (in_force (program_in T)) order)) ≤ text_room narrow
+text_fits {T} w order = text_length (program_in T) w.in_bounds (facts_below w) (rules-below w) order

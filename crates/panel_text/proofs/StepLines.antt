@@ -1,17 +1,18 @@
 -- A line written for each step of a row, item by item.
 use Prim.Native.Nat.{ℕ}
-use mathlib.Core.Path.{◌≡◌, ap}
+use mathlib.Core.Path.{◌≡◌, refl, ap}
 use mathlib.Core.List.{List, ◌++◌}
-use Rattle.items.specs.declared.refusal.Refusal.{Refusal}
 use Rattle.items.specs.declared.item.FactId.{FactId}
 use Rattle.items.specs.declared.item.RuleId.{RuleId}
 use Rattle.items.specs.declared.item.Item.{Item}
 use Rattle.items.specs.declared.item.Item.TheVariants.{Step}
 use Rattle.cursors.specs.declared.cursor.Cursor.{Cursor}
-use Rattle.cursors.specs.declared.cursor.Read.TheVariants.{Found, Refused, Ended}
+use Rattle.cursors.specs.declared.cursor.Read.{Read}
+use Rattle.cursors.specs.declared.cursor.Read.TheVariants.{Found}
 use Rattle.cursors.specs.Cursor.{next_at}
-use Rattle.questions.proofs.Rows.{steps_from, NotStep, no-step_left, steps-ended, other_item, step-read}
-use Rattle.questions.specs.Questions.{each, step_of, row_of}
+use Rattle.cursors.proofs.NoItemRead.{NotFound, nothing_read}
+use Rattle.questions.proofs.Rows.{steps_from, NotStep, other_item, step-read}
+use Rattle.questions.specs.Questions.{each, step_of, steps_of, row_of}
 use Rattle.panel_lines.specs.Text.{step_line}
 use Rattle.questions.specs.Put.{Fits, Put}
 use Rattle.questions.proofs.BytesPut.{Putting, ended, nothing_put, next_fits, one_put}
@@ -24,14 +25,11 @@ to_come row c = each step_line (steps_from row c)
 abbrev pub Stepping : List ℕ → ℕ → List ℕ → Cursor → ℕ → List ℕ → Type 0
 Stepping row from before c at now = Putting (each step_line (row_of row)) from before (to_come row c) at now
 
-module _ (row : List ℕ) (from : ℕ) (before : List ℕ) (c : Cursor) (at : ℕ) (now : List ℕ) (w : Stepping row from before c at now) (d : Cursor) where
-  pub refused-put : (r : Refusal) → next_at row c ≡ Refused r d → Put (each step_line (row_of row)) from before at now
-  refused-put r e = ended w (ap (each step_line) (no-step_left row c d r e))
+module _ (row : List ℕ) (from : ℕ) (before : List ℕ) (c : Cursor) (at : ℕ) (now : List ℕ) (w : Stepping row from before c at now) where
+  pub all-put : (r : Read) → next_at row c ≡ r → NotFound r → Put (each step_line (row_of row)) from before at now
+  all-put r e k = ended w (ap (each step_line) (nothing_read steps_of (λ fault. refl) row c r e k))
 
-  pub ended-put : next_at row c ≡ Ended d → Put (each step_line (row_of row)) from before at now
-  ended-put e = ended w (ap (each step_line) (steps-ended row c d e))
-
-  module _ (i : Item) (e : next_at row c ≡ Found i d) where
+  module _ (d : Cursor) (i : Item) (e : next_at row c ≡ Found i d) where
     pub other_passed : NotStep i → Stepping row from before d at now
     other_passed k = nothing_put w (to_come row d) (ap (each step_line) (other_item row c d i e k))
 

@@ -2,12 +2,13 @@
 use Prim.Native.Nat.{ℕ, ◌+◌, ◌-◌, ◌≤◌, ◌<◌}
 use mathlib.Core.Path.{◌≡◌, refl, sym, ap, ap₂, subst, ◌∙◌, fun_ext}
 use mathlib.Core.Bool.{Bool, true, false, not, ◌&&◌, ◌||◌}
-use mathlib.Core.List.{List, [], ◌∷◌}
+use mathlib.Core.List.{List, ◌∷◌}
 use native.Mathlib.Omega.{arith}
 use native.Mathlib.Numerals.{add-one}
 use borrow.Author.Tests.{eq-eqb, eqb-true, ltb-true}
-use lib.ListN.{length, get_or}
-use lib.Seq.{slice, slice-cons, slice_empty}
+use lib.ListN.{length, get_or, drop}
+use lib.Seq.{drop-cons}
+use Rattle.std.proofs.lemmas.List.{drop_all}
 use lib.Dec.{eqb, ltb}
 use Rattle.theory.specs.Rule.{all, mem, Program, FactSet, Sub, adjoin, count, rule}
 use Rattle.theory.specs.Conditions.{Bounded}
@@ -20,7 +21,7 @@ use Rattle.items.specs.Item.{narrow, max_facts, max_rules}
 use Rattle.bits.specs.Flags.{digit, Flags}
 use Rattle.bits.specs.Matrix.{Matrix}
 use Rattle.premises.specs.Premises.{Places, premises_at, asks_at, lacking, roused, Asked, Counted}
-use Rattle.premises.specs.Waking.{less_at, woken_at, Lowered, Span}
+use Rattle.premises.specs.Waking.{less_at, woken_at, Lowered, RulesAlone}
 use Rattle.premises.proofs.RowRoused.{roused-none}
 use Rattle.premises.proofs.PremisesCounted.{lacks_none, none_lacks, asked-lacking, unasked_lacking}
 
@@ -96,41 +97,38 @@ pub record Standing (P : Program) (R : Places) (S : FactSet) (p : ℕ → Bool) 
   pub woken : Flags (roused P R S set p) awake
 
 -- The rules before `at` have entered.
-pub record Waking (P : Program) (fired : List ℕ) (from to : ℕ) (asks missing₀ awake₀ missing awake : List ℕ) (at : ℕ) : Type 0 where
-  pub inside : at ≤ to
-  pub known : all (λ i. ltb i (count P)) (slice at to fired) ≡ true
-  pub any : (R : Places) (S : FactSet) (p : ℕ → Bool) → Asked P R asks → Counted P R S missing₀ → Flags p awake₀ → Fresh P S (slice from to fired) → Standing P R S p (slice from to fired) (slice at to fired) missing awake
+pub record Waking (P : Program) (fired asks missing₀ awake₀ missing awake : List ℕ) (at : ℕ) : Type 0 where
+  pub known : all (λ i. ltb i (count P)) (drop at fired) ≡ true
+  pub any : (R : Places) (S : FactSet) (p : ℕ → Bool) → Asked P R asks → Counted P R S missing₀ → Flags p awake₀ → Fresh P S fired → Standing P R S p fired (drop at fired) missing awake
 
-pub none_entered : {P : Program} {fired : List ℕ} {from to : ℕ} → Span P fired from to → (asks missing awake : List ℕ) → Waking P fired from to asks missing awake missing awake from
-none_entered {P} {fired} {from} {to} s asks missing awake =
+pub none_entered : {P : Program} {fired : List ℕ} → RulesAlone P fired → (asks missing awake : List ℕ) → Waking P fired asks missing awake missing awake 0
+none_entered {P} s asks missing awake =
     record {
-      inside = s.low;
       known = s.known;
       any = λ R S p a c f r. record { set = S; grows = λ g t. t; fresh = r; same = refl; counted = c; woken = subst (λ (q : ℕ → Bool). Flags q awake) (fun_ext (λ k. sym (roused-none P R S p k))) f };
     }
 
-module _ {P : Program} (b : Bounded P) {fired : List ℕ} {from to : ℕ} (s : Span P fired from to) {asks missing₀ awake₀ missing awake : List ℕ} {at : ℕ} (w : Waking P fired from to asks missing₀ awake₀ missing awake at) where
-  module _ (h : at < to) where
-    next-is : slice at to fired ≡ get_or fired at 0 ∷ slice (at + 1) to fired
-    next-is = rw (add-one at) (slice-cons at to fired 0 h (omega (arith, s.places, s.high)))
+module _ {P : Program} (b : Bounded P) {fired asks missing₀ awake₀ missing awake : List ℕ} {at : ℕ} (w : Waking P fired asks missing₀ awake₀ missing awake at) where
+  module _ (h : at < length fired) where
+    next-is : drop at fired ≡ get_or fired at 0 ∷ drop (at + 1) fired
+    next-is = rw (add-one at) (drop-cons fired at 0 h)
 
-    next_known : ltb (get_or fired at 0) (count P) && all (λ i. ltb i (count P)) (slice (at + 1) to fired) ≡ true
+    next_known : ltb (get_or fired at 0) (count P) && all (λ i. ltb i (count P)) (drop (at + 1) fired) ≡ true
     next_known = subst (λ (is : List ℕ). all (λ i. ltb i (count P)) is ≡ true) next-is w.known
 
     pub rule_known : get_or fired at 0 < count P
     rule_known = ltb-true (get_or fired at 0) (count P) (and_left (ltb (get_or fired at 0) (count P)) _ next_known)
 
-    pub one_entered : (f : ℕ) → f ≡ (rule P (get_or fired at 0)).conclusion → {missing' awake' : List ℕ} → f < max_facts narrow → Enters f asks missing awake missing' awake' → Waking P fired from to asks missing₀ awake₀ missing' awake' (at + 1)
+    pub one_entered : (f : ℕ) → f ≡ (rule P (get_or fired at 0)).conclusion → {missing' awake' : List ℕ} → f < max_facts narrow → Enters f asks missing awake missing' awake' → Waking P fired asks missing₀ awake₀ missing' awake' (at + 1)
     one_entered f f-is {missing'} {awake'} small entered =
         record {
-          inside = omega arith;
           known = and_right (ltb (get_or fired at 0) (count P)) _ next_known;
           any = λ R S p a c g r. step R S p a (w.any R S p a c g r);
         }
       where
-        step : (R : Places) (S : FactSet) (p : ℕ → Bool) → Asked P R asks → Standing P R S p (slice from to fired) (slice at to fired) missing awake → Standing P R S p (slice from to fired) (slice (at + 1) to fired) missing' awake'
+        step : (R : Places) (S : FactSet) (p : ℕ → Bool) → Asked P R asks → Standing P R S p fired (drop at fired) missing awake → Standing P R S p fired (drop (at + 1) fired) missing' awake'
         step R S p a t =
-            let fresh : Fresh P t.set (get_or fired at 0 ∷ slice (at + 1) to fired) = subst (λ (is : List ℕ). Fresh P t.set is) next-is t.fresh in
+            let fresh : Fresh P t.set (get_or fired at 0 ∷ drop (at + 1) fired) = subst (λ (is : List ℕ). Fresh P t.set is) next-is t.fresh in
             let out : t.set f ≡ false = ap t.set f-is ∙ fresh.1 in
             let lowered : Lowered (asks_at P R f) (roused P R S t.set p) missing missing' awake' = entered (max_facts narrow) (asks_at P R) (roused P R S t.set p) small a.matrix t.woken t.counted.places in
             let same_set : adjoin t.set f ≡ conclude P t.set (get_or fired at 0) = ap (adjoin t.set) f-is in
@@ -143,13 +141,10 @@ module _ {P : Program} (b : Bounded P) {fired : List ℕ} {from to : ℕ} (s : S
               woken = subst (λ (T : FactSet). Flags (roused P R S T p) awake') same_set (fact-rouses b t.grows p t.counted f out lowered);
             }
 
-  pub all-entered : to ≤ at → (R : Places) (S : FactSet) (p : ℕ → Bool) → Asked P R asks → Counted P R S missing₀ → Flags p awake₀ → Fresh P S (slice from to fired) → Counted P R (after (conclude P) S (slice from to fired)) missing × Flags (roused P R S (after (conclude P) S (slice from to fired)) p) awake
+  pub all-entered : length fired ≤ at → (R : Places) (S : FactSet) (p : ℕ → Bool) → Asked P R asks → Counted P R S missing₀ → Flags p awake₀ → Fresh P S fired → Counted P R (after (conclude P) S fired) missing × Flags (roused P R S (after (conclude P) S fired) p) awake
   all-entered h R S p a c g r = ended (w.any R S p a c g r)
     where
-      none_left : slice at to fired ≡ []
-      none_left = let is-end : at ≡ to = omega (arith, w.inside) in ap (λ (n : ℕ). slice n to fired) is-end ∙ slice_empty to fired
-
-      ended : Standing P R S p (slice from to fired) (slice at to fired) missing awake → Counted P R (after (conclude P) S (slice from to fired)) missing × Flags (roused P R S (after (conclude P) S (slice from to fired)) p) awake
+      ended : Standing P R S p fired (drop at fired) missing awake → Counted P R (after (conclude P) S fired) missing × Flags (roused P R S (after (conclude P) S fired) p) awake
       ended t =
-          let last : t.set ≡ after (conclude P) S (slice from to fired) = sym (ap (after (conclude P) t.set) none_left) ∙ t.same in
+          let last : t.set ≡ after (conclude P) S fired = sym (ap (after (conclude P) t.set) (drop_all at fired h)) ∙ t.same in
           (subst (λ (T : FactSet). Counted P R T missing) last t.counted, subst (λ (T : FactSet). Flags (roused P R S T p) awake) last t.woken)

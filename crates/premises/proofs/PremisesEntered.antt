@@ -8,14 +8,14 @@ use native.Mathlib.Omega.{arith}
 use native.Mathlib.Nat.{add-zero, zero-add}
 use borrow.Author.Tests.{eqb-true}
 use lib.Dec.{eqb}
+use lib.ListN.{length, get_or, take}
 use Rattle.theory.specs.Rule.{mem, how_many, up_to, adjoin}
 use Rattle.theory.proofs.Bools.{either, never, or_left, or_right, or-none, and-true}
 use Rattle.theory.proofs.Lists.{eqb-self, mem-append, how_many-ext}
 use Rattle.theory.proofs.Counted.{none_counted, counted_more}
 use Rattle.bits.specs.Flags.{row_words}
 use Rattle.bits.specs.Matrix.{Matrix, adjoin_in, SameFrom}
-use Rattle.tables.specs.Layout.{span}
-use Rattle.tables.proofs.PartsSpanned.{span_more, span-end}
+use Rattle.std.proofs.lemmas.List.{take_more, take_all}
 use Rattle.premises.specs.Filling.{adjoin_each, Entered}
 
 mem-snoc : (f : ℕ) (xs : List ℕ) (x : ℕ) → mem f (xs ++ (x ∷ [])) ≡ eqb f x || mem f xs
@@ -78,73 +78,71 @@ repeat_entered {keys} {bound} {q} {place} {xs} {asks} w x m =
       counted = w.counted ∙ how_many-ext (λ f. mem f xs) (λ f. mem f (xs ++ (x ∷ []))) (up_to bound) (λ f _. mem-repeated x xs m f);
     }
 
--- The elements of the row before `at` are marked, beside what was marked before. The words from `behind` on stay.
-pub record Entering (most behind : ℕ) (row : ℕ → ℕ) (place from end : ℕ) (asks₀ asks : List ℕ) (distinct at : ℕ) : Type 0 where
-  pub reached : from ≤ at
-  pub inside : at ≤ end
-  pub few : distinct + from ≤ at
+-- The elements of a list before `at` are marked, beside what was marked before. The words from `behind` on stay.
+pub record Entering (most behind : ℕ) (own : List ℕ) (place : ℕ) (asks₀ asks : List ℕ) (distinct at : ℕ) : Type 0 where
+  pub few : distinct ≤ at
   pub kept : SameFrom behind asks₀ asks
-  pub entered : (keys bound : ℕ) (q : ℕ → ℕ → Bool) (xs : List ℕ) (before : ℕ) → most ≤ bound → bound ≤ keys → ((j : ℕ) → q (row j) place ≡ false) → Entered keys bound q place xs asks₀ before → Entered keys bound q place (xs ++ span row from at) asks (before + distinct)
+  pub entered : (keys bound : ℕ) (q : ℕ → ℕ → Bool) (xs : List ℕ) (before : ℕ) → most ≤ bound → bound ≤ keys → ((j : ℕ) → q (get_or own j 0) place ≡ false) → Entered keys bound q place xs asks₀ before → Entered keys bound q place (xs ++ take at own) asks (before + distinct)
 
-pub none_entered : {row : ℕ → ℕ} {from end : ℕ} (most behind : ℕ) → from ≤ end → (place : ℕ) (asks : List ℕ) → Entering most behind row place from end asks asks 0 from
-none_entered {row} {from} {end} most behind low place asks =
+pub none_entered : (most behind : ℕ) (own : List ℕ) (place : ℕ) (asks : List ℕ) → Entering most behind own place asks asks 0 0
+none_entered most behind own place asks =
     record {
-      reached = omega arith;
-      inside = low;
       few = omega arith;
       kept = record { places = refl; words = λ k h. refl };
-      entered = λ keys bound q xs before b k out e. rw (nothing_yet, append-nil xs, add-zero before) e;
+      entered = λ keys bound q xs before b k out e. rw (append-nil xs, add-zero before) e;
     }
-  where
-    nothing_yet : span row from from ≡ []
-    nothing_yet = span-end row from from (omega arith)
 
-module _ {most behind : ℕ} {row : ℕ → ℕ} {place from end : ℕ} {asks₀ asks : List ℕ} {distinct at : ℕ} (w : Entering most behind row place from end asks₀ asks distinct at) where
+module _ {most behind : ℕ} {own : List ℕ} {place : ℕ} {asks₀ asks : List ℕ} {distinct at : ℕ} (w : Entering most behind own place asks₀ asks distinct at) (h : at < length own) (x : ℕ) (x-is : x ≡ get_or own at 0) where
   -- the elements with the one at the place
-  joined : (xs : List ℕ) (x : ℕ) → x ≡ row at → xs ++ span row from at ++ (x ∷ []) ≡ xs ++ span row from (at + 1)
-  joined xs x x-is = append_assoc xs (span row from at) (x ∷ []) ∙ ap (λ (ys : List ℕ). xs ++ ys) (ap (λ (y : ℕ). span row from at ++ (y ∷ [])) x-is ∙ sym (span_more row from at w.reached))
+  joined : (xs : List ℕ) → xs ++ take at own ++ (x ∷ []) ≡ xs ++ take (at + 1) own
+  joined xs = append_assoc xs (take at own) (x ∷ []) ∙ ap (λ (ys : List ℕ). xs ++ ys) (ap (λ (y : ℕ). take at own ++ (y ∷ [])) x-is ∙ sym (take_more own at 0 h))
 
-  pub passed_in : (x : ℕ) → x ≡ row at → mem x (span row from (at + 1)) ≡ true
-  passed_in x x-is = ap (mem x) (span_more row from at w.reached) ∙ mem-snoc x (span row from at) (row at) ∙ or_left _ _ (ap (eqb x) (sym x-is) ∙ eqb-self x)
+  pub passed_in : mem x (take (at + 1) own) ≡ true
+  passed_in = ap (mem x) (take_more own at 0 h) ∙ mem-snoc x (take at own) (get_or own at 0) ∙ or_left _ _ (ap (eqb x) (sym x-is) ∙ eqb-self x)
 
   -- It was marked before.
-  pub one_repeated : at < end → (x : ℕ) → x ≡ row at → mem x (span row from at) ≡ true → Entering most behind row place from end asks₀ asks distinct (at + 1)
-  one_repeated h x x-is m =
+  pub one_repeated : mem x (take at own) ≡ true → Entering most behind own place asks₀ asks distinct (at + 1)
+  one_repeated m =
       record {
-        reached = omega (arith, w.reached);
-        inside = omega arith;
         few = omega (arith, w.few);
         kept = w.kept;
-        entered = λ keys bound q xs before b k out e. subst (λ (ys : List ℕ). Entered keys bound q place ys asks (before + distinct)) (joined xs x x-is) (repeat_entered (w.entered keys bound q xs before b k out e) x (mem-append x xs (span row from at) ∙ or_right (mem x xs) _ m));
+        entered = λ keys bound q xs before b k out e. subst (λ (ys : List ℕ). Entered keys bound q place ys asks (before + distinct)) (joined xs) (repeat_entered (w.entered keys bound q xs before b k out e) x (mem-append x xs (take at own) ∙ or_right (mem x xs) _ m));
       }
 
-  module _ (h : at < end) (x : ℕ) (x-is : x ≡ row at) (small : x < most) (front : x * row_words + row_words ≤ behind) (asks' : List ℕ) (new : Bool) (marked : Marks x place asks asks' new) (stays : SameFrom (x * row_words + row_words) asks asks') where
-    next : (distinct' : ℕ) → distinct' ≤ distinct + 1 → (new ≡ true → distinct' ≡ distinct + 1) → (new ≡ false → distinct' ≡ distinct) → Entering most behind row place from end asks₀ asks' distinct' (at + 1)
+  module _ (small : x < most) (front : x * row_words + row_words ≤ behind) (asks' : List ℕ) (new : Bool) (marked : Marks x place asks asks' new) (stays : SameFrom (x * row_words + row_words) asks asks') where
+    next : (distinct' : ℕ) → distinct' ≤ distinct + 1 → (new ≡ true → distinct' ≡ distinct + 1) → (new ≡ false → distinct' ≡ distinct) → Entering most behind own place asks₀ asks' distinct' (at + 1)
     next distinct' most-new more same =
         record {
-          reached = omega (arith, w.reached);
-          inside = omega arith;
           few = omega (arith, w.few);
           kept = record { places = stays.places ∙ w.kept.places; words = λ k l. stays.words k (omega arith) ∙ w.kept.words k l };
           entered = λ keys bound q xs before b k out e. grown keys bound q xs before b k out (w.entered keys bound q xs before b k out e);
         }
       where
-        grown : (keys bound : ℕ) (q : ℕ → ℕ → Bool) (xs : List ℕ) (before : ℕ) → most ≤ bound → bound ≤ keys → ((j : ℕ) → q (row j) place ≡ false) → Entered keys bound q place (xs ++ span row from at) asks (before + distinct) → Entered keys bound q place (xs ++ span row from (at + 1)) asks' (before + distinct')
+        grown : (keys bound : ℕ) (q : ℕ → ℕ → Bool) (xs : List ℕ) (before : ℕ) → most ≤ bound → bound ≤ keys → ((j : ℕ) → q (get_or own j 0) place ≡ false) → Entered keys bound q place (xs ++ take at own) asks (before + distinct) → Entered keys bound q place (xs ++ take (at + 1) own) asks' (before + distinct')
         grown keys bound q xs before b k out e =
             subst (λ (ys : List ℕ). Entered keys bound q place ys asks' (before + distinct'))
-            (joined xs x x-is)
+            (joined xs)
             (one_entered e x (ap (λ (y : ℕ). q y place) x-is ∙ out at) (omega arith) k asks' new marked (before + distinct') (λ t. omega (arith, more t)) (λ f. omega (arith, same f)))
 
-    pub one_new : new ≡ true → Entering most behind row place from end asks₀ asks' (distinct + 1) (at + 1)
+    pub one_new : new ≡ true → Entering most behind own place asks₀ asks' (distinct + 1) (at + 1)
     one_new e = next (distinct + 1) (omega arith) (λ _. refl) (λ f. never e f)
 
-    pub one_again : new ≡ false → Entering most behind row place from end asks₀ asks' distinct (at + 1)
+    pub one_again : new ≡ false → Entering most behind own place asks₀ asks' distinct (at + 1)
     one_again e = next distinct (omega arith) (λ t. never t e) (λ _. refl)
 
-  pub all-entered : end ≤ at → (elements : List ℕ) → elements ≡ span row from end → (keys bound : ℕ) (q : ℕ → ℕ → Bool) (xs : List ℕ) (before : ℕ) → most ≤ bound → bound ≤ keys → ((j : ℕ) → q (row j) place ≡ false) → Entered keys bound q place xs asks₀ before → Entered keys bound q place (xs ++ elements) asks (before + distinct)
-  all-entered h elements e keys bound q xs before b k out i =
-      let is-end : at ≡ end = omega (arith, w.inside) in
-      subst (λ (ys : List ℕ). Entered keys bound q place (xs ++ ys) asks (before + distinct)) (ap (span row from) is-end ∙ sym e) (w.entered keys bound q xs before b k out i)
+-- What is entered is told by the elements alone, whichever comes first.
+pub same_entered : {keys bound : ℕ} {q : ℕ → ℕ → Bool} {place : ℕ} {xs ys asks : List ℕ} {distinct : ℕ} → ((f : ℕ) → mem f xs ≡ mem f ys) → Entered keys bound q place xs asks distinct → Entered keys bound q place ys asks distinct
+same_entered {keys} {bound} {q} {place} {xs} {ys} {asks} same w =
+    record {
+      matrix = subst (λ (r : ℕ → ℕ → Bool). Matrix keys r asks) (fun_ext (λ f. fun_ext (λ k. ap (λ (b : Bool). b && eqb k place || q f k) (same f)))) w.matrix;
+      counted = w.counted ∙ how_many-ext (λ f. mem f xs) (λ f. mem f ys) (up_to bound) (λ f _. same f);
+    }
+
+module _ {most behind : ℕ} {own : List ℕ} {place : ℕ} {asks₀ asks : List ℕ} {distinct at : ℕ} (w : Entering most behind own place asks₀ asks distinct at) where
+  pub all-entered : length own ≤ at → (elements : List ℕ) → ((f : ℕ) → mem f own ≡ mem f elements) → (keys bound : ℕ) (q : ℕ → ℕ → Bool) (xs : List ℕ) (before : ℕ) → most ≤ bound → bound ≤ keys → ((j : ℕ) → q (get_or own j 0) place ≡ false) → Entered keys bound q place xs asks₀ before → Entered keys bound q place (xs ++ elements) asks (before + distinct)
+  all-entered h elements same keys bound q xs before b k out i =
+      same_entered (λ f. mem-append f xs own ∙ ap (λ (c : Bool). mem f xs || c) (same f) ∙ sym (mem-append f xs elements))
+      (subst (λ (ys : List ℕ). Entered keys bound q place (xs ++ ys) asks (before + distinct)) (take_all at own h) (w.entered keys bound q xs before b k out i))
 
 -- Nothing is marked at a place yet.
 pub first-entered : {keys bound : ℕ} {q : ℕ → ℕ → Bool} {place : ℕ} {xs asks₀ asks : List ℕ} {distinct : ℕ} → Matrix keys q asks₀ → (Entered keys bound q place [] asks₀ 0 → Entered keys bound q place ([] ++ xs) asks (0 + distinct)) → Entered keys bound q place xs asks distinct

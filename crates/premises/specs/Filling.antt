@@ -1,16 +1,15 @@
 -- Internal: what is known while rules are indexed, and what one rule adds.
-use Rattle.std.specs.Prelude.{ℕ, ◌<◌, ◌≤◌, ◌≡◌, Bool, true, false, ◌&&◌, ◌||◌, List, length, get_or, take, eqb, ltb}
+use Rattle.std.specs.Prelude.{ℕ, ◌<◌, ◌≤◌, ◌≡◌, Bool, true, false, ◌&&◌, ◌||◌, List, length, get_or, eqb, ltb}
 use Rattle.theory.specs.Rule.{all, mem, how_many, up_to, nothing, Program, count}
 use Rattle.items.specs.Item.{narrow, max_facts, max_rules}
 use Rattle.bits.specs.Flags.{Flags}
 use Rattle.bits.specs.Matrix.{Matrix}
 use Rattle.premises.specs.Premises.{Places, asks_at, lacking, ripe}
 
--- The first numbers of a list are rules of the program.
-pub record Listed (P : Program) (row : List ℕ) (names : ℕ) : Type 0 where
-  pub places : length row ≡ max_rules
-  pub few : names ≤ max_rules
-  pub known : all (λ i. ltb i (count P)) (take names row) ≡ true
+-- The numbers of a list, no more than there may be rules, are rules of the program.
+pub record Listed (P : Program) (row : List ℕ) : Type 0 where
+  pub few : length row ≤ max_rules
+  pub known : all (λ i. ltb i (count P)) row ≡ true
 
 -- The index before it is filled: no place is marked. Behind the rows of the facts there may be more.
 pub record Blank (asks missing awake : List ℕ) : Type 0 where

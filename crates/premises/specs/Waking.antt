@@ -1,8 +1,7 @@
 -- Internal: the rules that ask a fact lack one premise less.
-use Rattle.std.specs.Prelude.{ℕ, ◌+◌, ◌-◌, ◌*◌, ◌≤◌, ◌≡◌, Bool, true, not, ◌&&◌, ◌||◌, List, length, get_or, eqb, ltb}
-use Rattle.std.proofs.Math.Seq.{slice}
+use Rattle.std.specs.Prelude.{ℕ, ◌+◌, ◌-◌, ◌*◌, ◌≡◌, Bool, true, not, ◌&&◌, ◌||◌, List, length, get_or, eqb, ltb}
 use Rattle.theory.specs.Rule.{all, Program, count}
-use Rattle.items.specs.Item.{narrow, max_facts, max_rules}
+use Rattle.items.specs.Item.{max_rules}
 use Rattle.bits.specs.Flags.{word_bits, digit, Flags}
 
 -- the count of place k, less one where it is one of the places
@@ -25,9 +24,6 @@ from_word at p k = not (ltb k (at * word_bits)) && p k
 abbrev pub in_word : ℕ → (ℕ → Bool) → ℕ → Bool
 in_word at p k = ltb k (at * word_bits + word_bits) && from_word at p k
 
--- From one place of the list up to another there stand rules of the program.
-pub record Span (P : Program) (fired : List ℕ) (from to : ℕ) : Type 0 where
-  pub places : length fired ≡ max_facts narrow
-  pub low : from ≤ to
-  pub high : to ≤ max_facts narrow
-  pub known : all (λ i. ltb i (count P)) (slice from to fired) ≡ true
+-- The numbers of a list are rules of the program.
+pub record RulesAlone (P : Program) (fired : List ℕ) : Type 0 where
+  pub known : all (λ i. ltb i (count P)) fired ≡ true

@@ -1,32 +1,27 @@
 // Facts enter the set, and rules wake. Internal.
 ghost use Rattle.std.specs.Prelude.{ℕ, ◌+◌, ◌-◌, ◌*◌, ◌<◌, ◌≤◌, ◌≡◌, Bool, length};
-ghost use Rattle.std.proofs.Math.Seq.{slice};
 ghost use Rattle.theory.specs.Rule.{nothing, FactSet};
 ghost use Rattle.theory.specs.Walk.{after};
 ghost use Rattle.theory.specs.Derive.{conclude, Fresh};
 ghost use Rattle.items.specs.Item.{max_rules, has};
 ghost use Rattle.bits.specs.Flags.{word_bits, row_words, word as word_of, Flags};
 ghost use Rattle.bits.specs.Matrix.{matrix_words, Matrix};
-ghost use Rattle.tables.specs.Layout.{program_in, WellFormed};
+ghost use Rattle.tables.specs.Held.{held};
 ghost use Rattle.premises.specs.Premises.{Places, Asked, Counted, ripe, roused};
-ghost use Rattle.premises.specs.Waking.{Lowered, in_word, Span};
+ghost use Rattle.premises.specs.Waking.{Lowered, in_word, RulesAlone};
 
 use bits::matrix::MATRIX_WORDS;
 use bits::row::{ROW_WORDS, WORD_BITS, mark};
 use bits::word::{lowest_bit, without_lowest};
 use items::item::{MAX_FACTS, MAX_RULES, RuleId};
 use marking::marks::IN;
-use tables::layout::{TABLE_CELLS, facts_of};
-use tables::rule::conclusion;
+use tables::layout::Tables;
 
 // A count less one. No count that is lowered is 0, but the check asks nothing of the counts this way.
 fn one_less(count: u16) -> u16
     ensures { result ≡ count - 1 }
 {
-    if count == 0 {
-        return 0;
-    }
-    count - 1
+    count.saturating_sub(1)
 }
 
 // Takes each rule out of a word of a row and lowers its count by one; those that reach 0 wake.
@@ -58,54 +53,46 @@ pub fn enter(
     ensures { (keys : ℕ) (q : ℕ → ℕ → Bool) (w : ℕ → Bool) → fact < keys → Matrix keys q asks.now → Flags w awake.old → length missing.old ≡ max_rules → Lowered (q fact) w missing.old missing.new awake.new }
 {
     let from = fact * ROW_WORDS;
-    let mut at: usize = 0;
-    while at < ROW_WORDS {
-        lower(asks[from + at], at, missing, awake);
-        at += 1;
+    for (at, &word) in asks[from..from + ROW_WORDS].iter().enumerate() {
+        lower(word, at, missing, awake);
     }
 }
 
-// Enters the conclusions of the rules that stand in a list from one place up to another.
+// Enters the conclusions of the rules of a list.
 pub fn wake(
-    tables: &[u16; TABLE_CELLS],
+    tables: &Tables,
     asks: &[u64; MATRIX_WORDS],
-    fired: &[u16; MAX_FACTS],
-    from: usize,
-    to: usize,
+    fired: &[u16],
     missing: &mut [u16; MAX_RULES],
     awake: &mut [u64; ROW_WORDS],
 )
-    requires { WellFormed tables.now × Span (program_in tables.now) fired.now from to }
-    ensures { (R : Places) (S : FactSet) (p : ℕ → Bool) → Asked (program_in tables.now) R asks.now → Counted (program_in tables.now) R S missing.old → Flags p awake.old → Fresh (program_in tables.now) S (slice from to fired.now) → Counted (program_in tables.now) R (after (conclude (program_in tables.now)) S (slice from to fired.now)) missing.new × Flags (roused (program_in tables.now) R S (after (conclude (program_in tables.now)) S (slice from to fired.now)) p) awake.new }
+    requires { RulesAlone (held tables.now) fired.now }
+    ensures { (R : Places) (S : FactSet) (p : ℕ → Bool) → Asked (held tables.now) R asks.now → Counted (held tables.now) R S missing.old → Flags p awake.old → Fresh (held tables.now) S fired.now → Counted (held tables.now) R (after (conclude (held tables.now)) S fired.now) missing.new × Flags (roused (held tables.now) R S (after (conclude (held tables.now)) S fired.now) p) awake.new }
 {
-    let mut at = from;
-    while at < to {
-        let rule = fired[at];
-        let fact = conclusion(tables, RuleId(rule));
-        let number = fact.0 as usize;
+    for &rule in fired {
+        let fact = tables.conclusion(RuleId(rule));
+        let number = usize::from(fact.0);
         enter(asks, number, missing, awake);
-        at += 1;
     }
 }
 
 // Enters the facts of a set.
 pub fn enter_set(
-    tables: &[u16; TABLE_CELLS],
+    tables: &Tables,
     asks: &[u64],
     set: &[u8; MAX_FACTS],
     missing: &mut [u16; MAX_RULES],
     awake: &mut [u64; ROW_WORDS],
 )
-    requires { WellFormed tables.now × (matrix_words ≤ length asks.now) }
-    ensures { (R : Places) → Asked (program_in tables.now) R asks.now → Counted (program_in tables.now) R nothing missing.old → Flags (ripe (program_in tables.now) R nothing) awake.old → Counted (program_in tables.now) R (has set.now) missing.new × Flags (ripe (program_in tables.now) R (has set.now)) awake.new }
+    requires { matrix_words ≤ length asks.now }
+    ensures { (R : Places) → Asked (held tables.now) R asks.now → Counted (held tables.now) R nothing missing.old → Flags (ripe (held tables.now) R nothing) awake.old → Counted (held tables.now) R (has set.now) missing.new × Flags (ripe (held tables.now) R (has set.now)) awake.new }
 {
-    let facts = facts_of(tables);
-    let mut f: usize = 0;
-    while f < facts {
-        let inside = set[f] == IN;
+    let facts = tables.facts();
+    let marks = &set[..facts];
+    for (f, &mark) in marks.iter().enumerate() {
+        let inside = mark == IN;
         if inside {
             enter(asks, f, missing, awake);
         }
-        f += 1;
     }
 }

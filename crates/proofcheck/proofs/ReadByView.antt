@@ -14,7 +14,7 @@ use Rattle.theory.proofs.Lists.{all-mono}
 use Rattle.items.specs.declared.item.FactId.{FactId}
 use Rattle.items.specs.Item.{narrow, asks_in, asks_out, max_facts, has}
 use Rattle.cursors.specs.Cursor.{items_at, body_at}
-use Rattle.tables.specs.Layout.{program_in, WellFormed}
+use Rattle.tables.specs.Layout.{program_in}
 use Rattle.tables.proofs.ProgramHeld.{facts_below}
 use Rattle.reader.specs.Questions.{premises_of, constraints_of, program_of}
 use Rattle.reader.specs.Scanned.{Tabled}
@@ -30,13 +30,13 @@ use Rattle.proofcheck.proofs.JoinedSets.{joined-first}
 use Rattle.proofcheck.proofs.BarMarks.{bar_set, bar_keeps_facts}
 
 -- a rule of the file is one of the tables
-pub held : {s T : List ℕ} {i : ℕ} → Tabled s T → i < count (program_of s) → WellFormed T × (i < count (program_in T))
-held t h = (t.well_formed, omega (arith, ap count t.program, h))
+pub in_tables : {s T : List ℕ} {i : ℕ} → Tabled s T → i < count (program_of s) → i < count (program_in T)
+in_tables t h = omega (arith, ap count t.program, h)
 
 constraints-fit : {s T : List ℕ} {i : ℕ} → Tabled s T → i < count (program_of s) → marks_fit (rule (program_of s) i).constraints ≡ true
 constraints-fit {s} {T} {i} t h =
     all-mono (λ f. ltb f (program_in T).facts) (λ f. ltb f (max_facts narrow)) (rule (program_of s) i).constraints wider
-    (ap (λ (P : Program). all (λ f. ltb f (program_in T).facts) (rule P i).constraints) (sym t.program) ∙ t.well_formed.in_bounds.constraints_below i (held t h).1)
+    (ap (λ (P : Program). all (λ f. ltb f (program_in T).facts) (rule P i).constraints) (sym t.program) ∙ t.well_formed.in_bounds.constraints_below i (in_tables t h))
   where
     wider : (f : ℕ) → ltb f (program_in T).facts ≡ true → ltb f (max_facts narrow) ≡ true
     wider f e = lt-ltb f (max_facts narrow) (omega (arith, ltb-true f (program_in T).facts e, facts_below t.well_formed))

@@ -1,5 +1,5 @@
 -- Internal: a rule asked item after item of its view.
-use Rattle.std.specs.Prelude.{ℕ, ◌<◌, ◌≡◌, Bool, true, false, cond, not, ◌&&◌, ◌||◌, List, length, set, ltb}
+use Rattle.std.specs.Prelude.{ℕ, ◌<◌, ◌≡◌, Bool, true, cond, not, ◌&&◌, List, length, set, ltb}
 use Rattle.theory.specs.Rule.{all, Rule, FactSet}
 use Rattle.items.specs.declared.item.FactId.{FactId}
 use Rattle.items.specs.Item.{narrow, max_facts, has}
@@ -7,10 +7,8 @@ use Rattle.cursors.specs.Cursor.{items_at, body_at}
 use Rattle.reader.specs.Questions.{premises_of, constraints_of}
 use Rattle.marking.specs.Marks.{barred}
 use Rattle.view.specs.declared.range.Own.{Own}
-use Rattle.view.specs.declared.range.Own.TheVariants.{Premise, Constraint, Ended}
-use Rattle.view.specs.declared.range.Taken.{Taken}
+use Rattle.view.specs.declared.range.Own.TheVariants.{Premise, Constraint}
 use Rattle.view.specs.View.{end_at}
-use Rattle.proofcheck.specs.declared.own.Told.{Told}
 use Rattle.proofcheck.specs.Steps.{rule_fits, RuleMarked}
 
 -- The premises and constraints that stand from a place of a file on, as those of a rule.
@@ -27,35 +25,24 @@ pub record MayView (s : List ℕ) (at end : ℕ) (marks : List ℕ) : Type 0 whe
   pub ends : end ≡ end_at s at
   pub below : marks_fit (constraints_of (items_at s (body_at at))) ≡ true
 
--- The item that is taken has a mark where it is a constraint.
-pub record MayAsk (t : Taken) (marks : List ℕ) : Type 0 where
+-- The item has a mark where it is a constraint.
+pub record MayAsk (o : Own) (marks : List ℕ) : Type 0 where
   pub size : length marks ≡ max_facts narrow
-  pub below : (f : FactId) → t.item ≡ Constraint f → f.0 < max_facts narrow
+  pub below : (f : FactId) → o ≡ Constraint f → f.0 < max_facts narrow
 
 -- A premise is in S; a constraint is outside S and outside M.
 abbrev pub item_fits : FactSet → FactSet → Own → Bool
 item_fits M S (Premise f) = S f.0
 item_fits M S (Constraint f) = not (S f.0) && not (M f.0)
-item_fits M S Ended = true
 
--- No item is left.
-abbrev pub none_left : Own → Bool
-none_left (Premise f) = false
-none_left (Constraint f) = false
-none_left Ended = true
-
--- What an item tells, and the marks after it: a constraint that fits is barred.
-abbrev pub told_of : FactSet → FactSet → Taken → Told
-told_of M S t = record { over = none_left t.item || not (item_fits M S t.item); fits = item_fits M S t.item; rest = t.rest }
-
+-- The marks after an item: a constraint that fits is barred.
 abbrev pub barred_by : Bool → Own → List ℕ → List ℕ
 barred_by fits (Premise f) marks = marks
 barred_by fits (Constraint f) marks = cond fits (set marks f.0 barred) marks
-barred_by fits Ended marks = marks
 
 -- An item is asked: S is the facts marked, `after` the marks then.
-abbrev pub ItemAnswered : FactSet → List ℕ → Taken → Told → List ℕ → Type 0
-ItemAnswered M marks t told after = (told ≡ told_of M (has marks) t) × (after ≡ barred_by (item_fits M (has marks) t.item) t.item marks)
+abbrev pub ItemAnswered : FactSet → List ℕ → Own → Bool → List ℕ → Type 0
+ItemAnswered M marks o fits after = (fits ≡ item_fits M (has marks) o) × (after ≡ barred_by (item_fits M (has marks) o) o marks)
 
 -- A rule is asked: whether it fits, and where it does, its constraints are barred.
 abbrev pub Fitted : FactSet → Rule → List ℕ → Bool → List ℕ → Type 0

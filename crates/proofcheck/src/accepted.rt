@@ -9,20 +9,13 @@ ghost use Rattle.reader.specs.Scanned.{Tabled};
 ghost use Rattle.questions.specs.Questions.{row_of};
 ghost use Rattle.proofcheck.specs.Checked.{checked};
 
-use crate::answer::Checked;
 use items::item::{FactId, MAX_FACTS};
-use questions::answer::Answer;
-use tables::layout::{TABLE_CELLS, facts_of};
+use items::refusal::Refusal;
+use tables::layout::Tables;
 
 // Is the row a proof of the fact that the set admits?
-fn is_proof(
-    file: &[u8],
-    tables: &[u16; TABLE_CELLS],
-    set: &[u8],
-    fact: FactId,
-    proof: &[u8],
-) -> bool
-    requires { Tabled file.now tables.now }
+fn is_proof(file: &[u8], tables: &Tables, set: &[u8], fact: FactId, proof: &[u8]) -> bool
+    requires { Tabled file.now tables.now.cells }
     ensures { result ≡ is_proof (program_of file.now) (in_force (program_of file.now)) (has set.now) (row_of proof.now) fact.0 }
 {
     let mut marks = [0u8; MAX_FACTS];
@@ -32,26 +25,16 @@ fn is_proof(
 // The questions of the set, then of the asked fact and the row; then the check.
 pub fn check_accepted(
     file: &[u8],
-    tables: &[u16; TABLE_CELLS],
+    tables: &Tables,
     set: &[u8],
     fact: u32,
     proof: &[u8],
-) -> Checked
-    requires { (file_no file.now ≡ none) × Tabled file.now tables.now }
+) -> Result<bool, Refusal>
+    requires { (file_no file.now ≡ none) × Tabled file.now tables.now.cells }
     ensures { result ≡ checked file.now set.now fact proof.now }
 {
-    let facts = facts_of(tables);
-    let of_set = questions::fact_set::ask_set_of(facts, set);
-    if let Answer::No(r) = of_set {
-        return Checked::Refused(r);
-    }
-    let of_row = questions::row::ask_row_of(facts, fact, proof);
-    if let Answer::No(r) = of_row {
-        return Checked::Refused(r);
-    }
-    if is_proof(file, tables, set, FactId(fact as u16), proof) {
-        Checked::Yes
-    } else {
-        Checked::No
-    }
+    let facts = tables.facts();
+    questions::fact_set::ask_set_of(facts, set)?;
+    questions::row::ask_row_of(facts, fact, proof)?;
+    Ok(is_proof(file, tables, set, FactId(fact as u16), proof))
 }

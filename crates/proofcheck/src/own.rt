@@ -10,56 +10,28 @@ ghost use Rattle.proofcheck.specs.Viewed.{rule_ahead, MayView, MayAsk, ItemAnswe
 use items::item::{MAX_FACTS, RuleId};
 use marking::marks::BARRED;
 use questions::fact_set::in_set;
-use tables::layout::TABLE_CELLS;
-use view::range::{Own, Taken};
+use tables::layout::Tables;
+use view::range::Own;
 
-// What an item tells: whether the rule is decided, whether it fits so far, and where what is left of its view begins.
-#[derive(Clone, Copy)]
-pub struct Told {
-    pub over: bool,
-    pub fits: bool,
-    pub rest: usize,
-}
-
-// A premise is to be among the marked facts, a constraint outside them and outside the set: then it is marked.
-fn ask_item(taken: Taken, set: &[u8], marks: &mut [u8; MAX_FACTS]) -> Told
-    requires { MayAsk taken marks.old }
-    ensures { ItemAnswered (has set.now) marks.old taken result marks.new }
+// Does an item fit? A premise is to be among the marked facts, a constraint outside them and outside the set: then it is marked.
+fn ask_item(item: Own, set: &[u8], marks: &mut [u8; MAX_FACTS]) -> bool
+    requires { MayAsk item marks.old }
+    ensures { ItemAnswered (has set.now) marks.old item result marks.new }
 {
-    let rest = taken.rest;
-    let item = taken.item;
     match item {
-        Own::Premise(f) => {
-            let fits = in_set(marks, f);
-            let over = !fits;
-            Told { over, fits, rest }
-        }
+        Own::Premise(f) => in_set(marks, f),
         Own::Constraint(f) => {
             let number = f.0 as usize;
-            let refused = Told {
-                over: true,
-                fits: false,
-                rest,
-            };
             let before = marks[number] == 1;
             if before {
-                return refused;
+                return false;
             }
             if in_set(set, f) {
-                return refused;
+                return false;
             }
             marks[number] = BARRED;
-            Told {
-                over: false,
-                fits: true,
-                rest,
-            }
+            true
         }
-        Own::Ended => Told {
-            over: true,
-            fits: true,
-            rest,
-        },
     }
 }
 
@@ -70,26 +42,24 @@ fn view_fits(file: &[u8], at: usize, end: usize, set: &[u8], marks: &mut [u8; MA
     ensures { Fitted (has set.now) (rule_ahead file.now at) marks.old result marks.new }
 {
     let mut view = view::view_of(file, at, end);
-    loop {
-        let taken = view::next_item(view);
-        let told = ask_item(taken, set, marks);
-        if told.over {
-            return told.fits;
-        } else {
-            view.at = told.rest;
+    while let Some(taken) = view::next_item(view) {
+        if !ask_item(taken.item, set, marks) {
+            return false;
         }
+        view.at = taken.rest;
     }
+    true
 }
 
 // Are the premises of the rule among the marked facts, and its constraints outside them and outside the set? Its constraints are marked.
 pub fn rule_fits(
     file: &[u8],
-    tables: &[u16; TABLE_CELLS],
+    tables: &Tables,
     rule: RuleId,
     set: &[u8],
     marks: &mut [u8; MAX_FACTS],
 ) -> bool
-    requires tabled { Tabled file.now tables.now × (rule.0 < count (program_of file.now)) }
+    requires tabled { Tabled file.now tables.now.cells × (rule.0 < count (program_of file.now)) }
     requires marks_len { length marks.old ≡ max_facts narrow }
     ensures value { result ≡ rule_fits (has set.now) (has marks.old) (rule_of (program_of file.now) rule.0) }
     ensures rule_marked { result ≡ true → RuleMarked (rule_of (program_of file.now) rule.0) marks.old marks.new }

@@ -12,32 +12,31 @@ ghost use Rattle.proofcheck.specs.Steps.{step_fits, StepMarked, Unmarked};
 use cursors::cursor::{Cursor, Read, Row};
 use items::item::{FactId, Item, MAX_FACTS, RuleId};
 use marking::marks::BARRED;
-use tables::layout::{TABLE_CELLS, rules_of};
-use tables::rule::{conclusion, is_withheld};
+use tables::layout::Tables;
 
 // Does the step hold after those before it, and no constraint so far meet a fact so far or the set? Its fact is marked.
 fn step_fits(
     file: &[u8],
-    tables: &[u16; TABLE_CELLS],
+    tables: &Tables,
     fact: FactId,
     rule: RuleId,
     set: &[u8],
     marks: &mut [u8; MAX_FACTS],
 ) -> bool
-    requires tabled { Tabled file.now tables.now }
+    requires tabled { Tabled file.now tables.now.cells }
     requires marks_len { length marks.old ≡ max_facts narrow }
     ensures value { result ≡ step_fits (program_of file.now) (has set.now) (has marks.old) (barred_in marks.old) (record { fact = fact.0; by = rule.0 }) }
     ensures step_marked { result ≡ true → StepMarked (program_of file.now) (record { fact = fact.0; by = rule.0 }) marks.old marks.new }
 {
-    if rules_of(tables) <= rule.0 as usize {
+    if tables.rules() <= rule.0 as usize {
         return false;
     }
     // A row with a step by a withheld rule "is no proof".
-    if is_withheld(tables, rule) {
+    if tables.is_withheld(rule) {
         return false;
     }
-    let concluded = conclusion(tables, rule);
-    if concluded.0 != fact.0 {
+    let concluded = tables.conclusion(rule);
+    if concluded != fact {
         return false;
     }
     let number = fact.0 as usize;
@@ -54,35 +53,26 @@ fn step_fits(
 // Is the row a proof of the fact that the set admits? An empty row has no last step.
 pub fn row_proves(
     file: &[u8],
-    tables: &[u16; TABLE_CELLS],
+    tables: &Tables,
     set: &[u8],
     fact: FactId,
     proof: &[u8],
     marks: &mut [u8; MAX_FACTS],
 ) -> bool
-    requires tabled { Tabled file.now tables.now }
+    requires tabled { Tabled file.now tables.now.cells }
     requires unmarked { Unmarked marks.old }
     ensures { result ≡ is_proof (program_of file.now) (in_force (program_of file.now)) (has set.now) (row_of proof.now) fact.0 }
 {
     let mut ends = false;
-    let mut cursor = Cursor {
-        at: 0,
-        row: Row::Steps,
-    };
-    loop {
-        match cursor.next_step(proof) {
-            Read::Found(item, next) => {
-                if let Item::Step(f, rule) = item {
-                    if !step_fits(file, tables, f, rule, set, marks) {
-                        return false;
-                    }
-                    ends = f.0 == fact.0;
-                }
-                cursor = next;
+    let mut cursor = Cursor::start(Row::Steps);
+    while let Read::Found(item, next) = cursor.next_step(proof) {
+        if let Item::Step(f, rule) = item {
+            if !step_fits(file, tables, f, rule, set, marks) {
+                return false;
             }
-            _ => {
-                return ends;
-            }
+            ends = f == fact;
         }
+        cursor = next;
     }
+    ends
 }

@@ -17,8 +17,7 @@ use Rattle.items.specs.declared.item.FactId.{FactId}
 use Rattle.items.specs.Item.{narrow, max_facts, fact_id, max_rules, has}
 use Rattle.bits.specs.Flags.{Flags, without, lowest_of, Taken}
 use Rattle.bits.specs.Matrix.{Matrix}
-use Rattle.bits.specs.declared.row.Lowest.{Lowest}
-use Rattle.bits.specs.declared.row.Lowest.TheVariants.{At, Nothing}
+use Rattle.std.specs.Prelude.{Option, Some, None}
 use Rattle.bits.proofs.RowTaken.{lowest-is, nothing_left, none_kept, lowest-kept}
 use Rattle.tables.specs.Layout.{program_in, WellFormed}
 use Rattle.tables.proofs.ProgramHeld.{facts_below, conclusion_below}
@@ -168,14 +167,14 @@ pub record Telling (P : Program) (on : Mask) (left marks missing stack : List �
 pub none_told : {P : Program} {R left marks missing stack : List ℕ} {top : ℕ} (x : Indexed P R) (l : ℕ) → ((keys : ℕ) (q : ℕ → ℕ → Bool) → l < keys → Matrix keys q R → Flags (q l) left) → l < literals → Spreading P (on_in R) every_rule (askers P (on_in R) l) marks missing stack top → Telling P (on_in R) left marks missing stack top
 none_told {P} {R} x l row h s = record { p = asks P (on_in R) l; flags = row literals (asks P (on_in R)) h x.rows; known = asker_known P (on_in R) l; spreading = s }
 
-module _ {P : Program} {on : Mask} {left marks missing stack : List ℕ} {top : ℕ} (w : Telling P on left marks missing stack top) {r : Lowest} {left' : List ℕ} (takes : (p : ℕ → Bool) → Flags p left → Taken p r left') where
+module _ {P : Program} {on : Mask} {left marks missing stack : List ℕ} {top : ℕ} (w : Telling P on left marks missing stack top) {r : Option ℕ} {left' : List ℕ} (takes : (p : ℕ → Bool) → Flags p left → Taken p r left') where
   -- None is left.
-  pub all_told : r ≡ Nothing → Between P on marks missing stack top
+  pub all_told : r ≡ None → Between P on marks missing stack top
   all_told e =
       subst (λ (rules : List ℕ). Spreading P on every_rule rules marks missing stack top)
       (none_kept w.p (nothing_left w.flags ((takes w.p w.flags).none_left e)) (up_to (count P))) w.spreading
 
-  module _ (few : count P ≤ max_rules) (i : ℕ) (e : r ≡ At i) where
+  module _ (few : count P ≤ max_rules) (i : ℕ) (e : r ≡ Some i) where
     abbrev missing' : List ℕ
     missing' = set missing i (get_or missing i 0 - 1)
 

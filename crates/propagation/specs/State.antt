@@ -7,14 +7,7 @@ use Rattle.theory.specs.Rule.{all, mem, how_many, Program, Mask, FactSet, adjoin
 use Rattle.theory.specs.Conditions.{Bounded, every_rule}
 use Rattle.theory.specs.Stable.{reduct}
 use Rattle.items.specs.Item.{narrow, max_facts, max_rules, has}
-use Rattle.tables.specs.Layout.{program_in, WellFormed}
 use Rattle.index.specs.Literal.{outside, literals, literal_count, lacking}
-use Rattle.index.specs.Index.{Indexed}
-
--- What is known beforehand: the tables hold a program, and the index is that of its rules.
-pub record Ready (T R : List ℕ) : Type 0 where
-  pub well_formed : WellFormed T
-  pub indexed : Indexed (program_in T) R
 
 -- the byte of a literal that waits
 abbrev pub waiting : ℕ

@@ -18,13 +18,7 @@ use Rattle.items.specs.Question.{first_no}
 use Rattle.items.proofs.ItemSays.{Tagged, by_tags, unsaid}
 use Rattle.cursors.proofs.Items.{found, not_found}
 use Rattle.questions.specs.Questions.{names_of}
-
--- An order, a list or a proof row ends past its last whole item.
-abbrev pub Ends : Row → Type 0
-Ends Opening = ⊥
-Ends Body = ⊥
-Ends Order = Unit {0}
-Ends Steps = Unit {0}
+use Rattle.questions.specs.Parts.{Ends}
 
 -- A read finds an item of a known form, or none.
 module _ (s : List ℕ) (c d : Cursor) where

@@ -16,7 +16,7 @@ use Rattle.cursors.specs.declared.cursor.Cursor.{Cursor}
 use Rattle.items.specs.Question.{first_no}
 use Rattle.cursors.specs.Cursor.{items_at}
 use Rattle.items.proofs.FirstNo.{first-no, first-yes}
-use Rattle.questions.specs.declared.answer.Answer.TheVariants.{Yes, No}
+use Rattle.std.specs.Prelude.{Ok, Err}
 use Rattle.items.specs.Item.{has}
 use Rattle.questions.specs.Questions.{names_of, name_questions, names_questions}
 use Rattle.questions.specs.Answer.{answer_of}
@@ -33,11 +33,11 @@ module _ (known seen : ℕ → Bool) (r : ℕ) where
   first-named k n = rw (k, n)
 
 -- An answer tells the first no.
-pub said_yes : (o : Option Refusal) → Yes ≡ answer_of o → o ≡ none
+pub said_yes : (o : Option Refusal) → Ok tt ≡ answer_of o → o ≡ none
 said_yes none e = refl
 said_yes (some r) e = absurd (let z : ◌≡◌ {A = ℕ} 0 1 = cc in omega arith)
 
-pub said_no : (o : Option Refusal) (r : Refusal) → No r ≡ answer_of o → o ≡ some r
+pub said_no : (o : Option Refusal) (r : Refusal) → Err r ≡ answer_of o → o ≡ some r
 said_no none r e = absurd (let z : ◌≡◌ {A = ℕ} 0 1 = cc in omega arith)
 said_no (some q) r e = cc
 
@@ -47,7 +47,7 @@ pub record Naming (known : ℕ → Bool) (before ids marks : List ℕ) (s : List
   pub names_kept : (i : ℕ) → has marks i || mem i (names_of (items_at s c)) ≡ has before i || mem i ids
 
 module _ (known : ℕ → Bool) (before ids marks s : List ℕ) (c : Cursor) (w : Naming known before ids marks s c) where
-  pub all_asked : names_of (items_at s c) ≡ [] → (Yes ≡ answer_of (first_no (names_questions known (has before) ids))) × ((i : ℕ) → has marks i ≡ has before i || mem i ids)
+  pub all_asked : names_of (items_at s c) ≡ [] → (Ok tt ≡ answer_of (first_no (names_questions known (has before) ids))) × ((i : ℕ) → has marks i ≡ has before i || mem i ids)
   all_asked e =
       (sym (ap answer_of (w.same ∙ ap (λ (rs : List ℕ). first_no (names_questions known (has marks) rs)) e)), λ i. sym (or-none (has marks i)) ∙ ap (λ (l : List ℕ). has marks i || mem i l) (sym e) ∙ w.names_kept i)
 
@@ -59,7 +59,7 @@ module _ (known : ℕ → Bool) (before ids marks s : List ℕ) (c : Cursor) (w 
       }
 
   module _ (r : ℕ) (d : Cursor) (e : names_of (items_at s c) ≡ r ∷ names_of (items_at s d)) where
-    pub a_no : (x : Refusal) → first_no (name_questions known (has marks) r) ≡ some x → No x ≡ answer_of (first_no (names_questions known (has before) ids))
+    pub a_no : (x : Refusal) → first_no (name_questions known (has marks) r) ≡ some x → Err x ≡ answer_of (first_no (names_questions known (has before) ids))
     a_no x q =
         let here : first_no (names_questions known (has marks) (r ∷ names_of (items_at s d))) ≡ some x = first-no (name_questions known (has marks) r) (names_questions known (adjoin (has marks) r) (names_of (items_at s d))) x q in
         sym (ap answer_of (w.same ∙ ap (λ (rs : List ℕ). first_no (names_questions known (has marks) rs)) e ∙ here))

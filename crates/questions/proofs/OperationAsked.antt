@@ -15,7 +15,6 @@ use Rattle.items.specs.declared.refusal.Refusal.{Refusal}
 use Rattle.items.specs.declared.refusal.Refusal.TheVariants.{NotRuleItems, NotAllNamed, WrongSetLength, NotZeroOrOne, NotStepItems, AskedFactTooHigh, FactMarksShort, RuleMarksShort, StepsShort}
 use Rattle.cursors.specs.Cursor.{items_at, order_start, steps_start}
 use Rattle.reader.specs.declared.answer.FileCounts.{FileCounts}
-use Rattle.reader.specs.declared.answer.Asked.TheVariants as asked
 use Rattle.items.specs.Item.{narrow, step_width, max_rules, has}
 use Rattle.reader.specs.Questions.{program_of, file_questions, file_no}
 use Rattle.items.specs.Question.{Question, first_no, no_number}
@@ -25,17 +24,17 @@ use Rattle.reader.specs.Scanned.{Tabled, Scanned}
 use Rattle.items.proofs.FirstNo.{first-no, first-yes, both_yes}
 use Rattle.reader.proofs.Accepted.{all_asked}
 use Rattle.reader.proofs.FileAsked.{file-no, file_yes}
-use Rattle.questions.specs.declared.answer.Answer.{Answer}
-use Rattle.questions.specs.declared.answer.Answer.TheVariants.{Yes, No}
+use Rattle.std.specs.Prelude.{Result, Ok, Err, ⊤}
 use Rattle.questions.specs.Questions.{whole, named_in, name_questions, names_questions, all_named_question, list_questions, order_questions, zero_or_one, set_questions, row_questions, order_no, buffer_questions, buffers_no, ask_list_questions, ask_order_questions, ask_set_questions, ask_row_questions}
 use Rattle.questions.specs.Parts.{list_no, set_no, row_no}
-use Rattle.questions.specs.Answer.{answer_of, answer_number, AnswerNumbers}
+use Rattle.items.specs.Answer.{answer_number}
+use Rattle.questions.specs.Answer.{answer_of, AnswerNumbers}
 use Rattle.questions.specs.Named.{AllNamed, Listed}
 use Rattle.marking.proofs.MarksPainted.{unmarked}
 use Rattle.questions.proofs.NamesAsked.{said_yes, said_no}
 
 -- An answer that is the one defined, in numbers.
-pub answer_numbered : (qs : List Question) (r : Answer) → r ≡ answer_of (first_no qs) → (r ≡ answer_of (first_no qs)) × AnswerNumbers qs r
+pub answer_numbered : (qs : List Question) (r : Result ⊤ Refusal) → r ≡ answer_of (first_no qs) → (r ≡ answer_of (first_no qs)) × AnswerNumbers qs r
 answer_numbered qs r e = (e, record { numbered = ap answer_number e ∙ go (first_no qs) })
   where
     go : (o : Option Refusal) → answer_number (answer_of o) ≡ no_number o
@@ -43,7 +42,7 @@ answer_numbered qs r e = (e, record { numbered = ap answer_number e ∙ go (firs
     go (some q) = refl
 
 module _ (s : List ℕ) (rest : List Question) where
-  pub file_refused : (r : Refusal) → file_asked s ≡ asked.No r → first_no (file_questions s ++ rest) ≡ some r
+  pub file_refused : (r : Refusal) → file_asked s ≡ Err r → first_no (file_questions s ++ rest) ≡ some r
   file_refused r e = first-no (file_questions s) rest r (file-no s r e)
 
   pub file_accepted : ◌≡◌ {A = Option Refusal} (file_no s) none → first_no (file_questions s ++ rest) ≡ first_no rest
@@ -54,7 +53,7 @@ pub record Passed (s T : List ℕ) : Type 0 where
   pub accepted : ◌≡◌ {A = Option Refusal} (file_no s) none
   pub tabled : Tabled s T
 
-pub scan_passed : (s T : List ℕ) (counts : FileCounts) → file_asked s ≡ asked.Yes counts → Scanned s T → Passed s T
+pub scan_passed : (s T : List ℕ) (counts : FileCounts) → file_asked s ≡ Ok counts → Scanned s T → Passed s T
 scan_passed s T counts e h =
     let y = (file_yes s counts e).accepted in
     record { accepted = y; tabled = h y }
@@ -100,10 +99,10 @@ module _ (known : ℕ → Bool) (row : List ℕ) where
   list_refused n r e = first-no (list_questions known row) _ r e
 
   -- 14 is asked where the answer to the list is yes
-  pub order-refused : (n : ℕ) (r : Refusal) → No r ≡ answer_of (list_no known row) → No r ≡ answer_of (order_no known n row)
+  pub order-refused : (n : ℕ) (r : Refusal) → Err r ≡ answer_of (list_no known row) → Err r ≡ answer_of (order_no known n row)
   order-refused n r e = sym (ap answer_of (list_refused n r (said_no (list_no known row) r e)))
 
-  pub order-answered : (n : ℕ) (named : List ℕ) (answer : Answer) (b : Bool) → answer ≡ answer_of (list_no known row) → Yes ≡ answer → Listed row named answer → b ≡ all (λ i. not (known i) || has named i) (up_to n) → answer_of (cond b none (some NotAllNamed)) ≡ answer_of (order_no known n row)
+  pub order-answered : (n : ℕ) (named : List ℕ) (answer : Result ⊤ Refusal) (b : Bool) → answer ≡ answer_of (list_no known row) → Ok tt ≡ answer → Listed row named answer → b ≡ all (λ i. not (known i) || has named i) (up_to n) → answer_of (cond b none (some NotAllNamed)) ≡ answer_of (order_no known n row)
   unfolding order_questions
   order-answered n named answer b a q m e = sym (rw (first-yes (list_questions known row) (all_named_question known n row ∷ []) (said_yes (list_no known row) (q ∙ a)), ← same))
     where
@@ -118,13 +117,13 @@ module _ (row before : List ℕ) (z : ◌≡◌ {A = List ℕ} before (replicate
   none_seen : has before ≡ nothing
   none_seen = ap has z ∙ unmarked max_rules
 
-  pub list_answered : (known : ℕ → Bool) → whole (items_at row order_start) ≡ true → (answer : Answer) → answer ≡ answer_of (first_no (names_questions known (has before) (named_in row))) → answer ≡ answer_of (list_no known row)
+  pub list_answered : (known : ℕ → Bool) → whole (items_at row order_start) ≡ true → (answer : Result ⊤ Refusal) → answer ≡ answer_of (first_no (names_questions known (has before) (named_in row))) → answer ≡ answer_of (list_no known row)
   unfolding list_questions
   list_answered known w answer a = a ∙ ap (λ (seen : ℕ → Bool). answer_of (first_no (names_questions known seen (named_in row)))) none_seen ∙ rw w
 
-  pub all_listed : (now : List ℕ) (answer : Answer) → AllNamed (named_in row) before now answer → Listed row now answer
-  all_listed now Yes m = fun_ext (λ i. m i ∙ ap (λ (seen : ℕ → Bool). seen i || mem i (named_in row)) none_seen)
-  all_listed now (No r) m = m
+  pub all_listed : (now : List ℕ) (answer : Result ⊤ Refusal) → AllNamed (named_in row) before now answer → Listed row now answer
+  all_listed now (Ok u) m = fun_ext (λ i. m i ∙ ap (λ (seen : ℕ → Bool). seen i || mem i (named_in row)) none_seen)
+  all_listed now (Err r) m = m
 
 -- The ways of the questions on the buffers.
 module _ (P : Program) (facts rules steps : ℕ) where
@@ -148,11 +147,11 @@ module _ (P : Program) (facts rules steps : ℕ) where
 
 -- The ways of the questions on an order, with others behind them.
 module _ (P : Program) (order : List ℕ) (rest : List Question) where
-  pub order-no : (r : Refusal) → No r ≡ answer_of (order_no (exception P) (count P) order) → No r ≡ answer_of (first_no (order_questions (exception P) (count P) order ++ rest))
+  pub order-no : (r : Refusal) → Err r ≡ answer_of (order_no (exception P) (count P) order) → Err r ≡ answer_of (first_no (order_questions (exception P) (count P) order ++ rest))
   order-no r e =
       sym (ap answer_of (first-no (order_questions (exception P) (count P) order) rest r (said_no (order_no (exception P) (count P) order) r e)))
 
-  pub order-yes : Yes ≡ answer_of (order_no (exception P) (count P) order) → (answer : Answer) → answer ≡ answer_of (first_no rest) → answer ≡ answer_of (first_no (order_questions (exception P) (count P) order ++ rest))
+  pub order-yes : Ok tt ≡ answer_of (order_no (exception P) (count P) order) → (answer : Result ⊤ Refusal) → answer ≡ answer_of (first_no rest) → answer ≡ answer_of (first_no (order_questions (exception P) (count P) order ++ rest))
   order-yes e answer q =
       q ∙ sym (ap answer_of (first-yes (order_questions (exception P) (count P) order) rest (said_yes (order_no (exception P) (count P) order) e)))
 

@@ -1,14 +1,16 @@
 -- Rows of 0 and 1 as sets.
 use Prim.Native.Nat.{ℕ, zero, suc, ◌≤◌, ◌<◌}
-use mathlib.Core.Path.{◌≡◌, refl}
-use mathlib.Core.Bool.{true}
+use mathlib.Core.Path.{◌≡◌, refl, sym}
+use mathlib.Core.Bool.{Bool, true, false}
 use mathlib.Core.List.{List, [], ◌∷◌}
 use native.Mathlib.Omega.{arith}
-use borrow.Author.Tests.{leb-true}
+use borrow.Author.Tests.{leb-true, le-leb, lt-leb}
+use Rattle.std.specs.Bool.{MatchBool}
+use Rattle.std.specs.List.{AllWithin, HoldsAt}
 use lib.ListN.{length, get_or, set, replicate}
 use lib.Seq.{ext_get_or}
 use lib.Dec.{eqb, leb}
-use Rattle.theory.proofs.Bools.{and_left, and_right, and_both}
+use Rattle.theory.proofs.Bools.{and_left, and_right, and_both, and-false}
 use Rattle.theory.proofs.Lists.{all-elem, get_or-mem}
 use Rattle.items.specs.Item.{has}
 use Rattle.questions.specs.Questions.{zero_or_one}
@@ -39,3 +41,17 @@ pub bits_marked : (l : List ℕ) (n : ℕ) → zero_or_one l ≡ true → zero_o
 bits_marked [] n z = refl
 bits_marked (x ∷ l) zero z = and_right (leb x 1) (zero_or_one l) z
 bits_marked (x ∷ l) (suc n) z = and_both (and_left (leb x 1) (zero_or_one l) z) (bits_marked l n (and_right (leb x 1) (zero_or_one l) z))
+
+-- What a test of every byte tells.
+small_all : (s : List ℕ) → AllWithin (λ x. x ≤ 1) s 0 (length s) → zero_or_one s ≡ true
+small_all [] h = refl
+small_all (x ∷ s) h = and_both (le-leb x 1 (h 0 0 (omega arith) (omega arith))) (small_all s (λ k d _ l. h (suc k) d (omega arith) (omega arith)))
+
+large_one : (s : List ℕ) (k : ℕ) → k < length s → 1 < get_or s k 0 → zero_or_one s ≡ false
+large_one [] k l h = absurd (omega arith)
+large_one (x ∷ s) zero l h = rw (lt-leb x 1 h)
+large_one (x ∷ s) (suc k) l h = rw (large_one s k (omega arith) h) (and-false (leb x 1))
+
+pub bytes_tested : (b : Bool) (s : List ℕ) → MatchBool b (AllWithin (λ x. x ≤ 1) s 0 (length s)) ((k : ℕ) × (k < length s) × HoldsAt (λ x. 1 < x) s k) → b ≡ zero_or_one s
+bytes_tested true s h = sym (small_all s h)
+bytes_tested false s h = sym (large_one s h.0 h.1 (h.2 0))

@@ -1,11 +1,20 @@
--- The first no to a part of the questions: only code and proofs use these.
+-- The rows that end past their last whole item, and the first no to a part of the questions: only code and proofs use these.
 use Rattle.std.specs.Prelude.{ℕ, Bool, List, ◌++◌}
 use Rattle.std.proofs.Math.Option.{Option}
 use Rattle.theory.specs.Rule.{Program, count, exception}
 use Rattle.items.specs.declared.refusal.Refusal.{Refusal}
+use Rattle.cursors.specs.declared.cursor.Row.{Row}
+use Rattle.cursors.specs.declared.cursor.Row.TheVariants.{Opening, Body, Order, Steps}
 use Rattle.items.specs.Item.{narrow}
 use Rattle.items.specs.Question.{first_no}
 use Rattle.questions.specs.Questions.{list_questions, set_questions, row_questions, order_questions, buffer_questions, both_questions, limit_questions, early_questions}
+
+-- An order, a list or a proof row ends past its last whole item.
+abbrev pub Ends : Row → Type 0
+Ends Opening = ⊥
+Ends Body = ⊥
+Ends Order = Unit {0}
+Ends Steps = Unit {0}
 
 -- A list of rules, a fact set, a proof row.
 abbrev pub list_no : (ℕ → Bool) → List ℕ → Option Refusal

@@ -6,60 +6,45 @@ ghost use Rattle.questions.specs.Questions.{ask_set_questions, zero_or_one};
 ghost use Rattle.questions.specs.Parts.{set_no};
 ghost use Rattle.questions.specs.Answer.{answer_of, AnswerNumbers};
 
-use crate::answer::Answer;
 use items::item::FactId;
 use items::refusal::Refusal;
-use reader::answer::Asked;
-use tables::layout::TABLE_CELLS;
+use tables::layout::Tables;
 
 // Is the fact in the set? No fact past the end of the bytes is. Internal.
 pub fn in_set(set: &[u8], fact: FactId) -> bool
     ensures { result ≡ has set.now fact.0 }
 {
     let number = fact.0 as usize;
-    if number < set.len() {
-        set[number] == 1
-    } else {
-        false
-    }
+    number < set.len() && set[number] == 1
 }
 
 // Is every byte 0 or 1? Internal.
 fn zero_or_one(set: &[u8]) -> bool
     ensures { result ≡ zero_or_one set.now }
 {
-    let mut i = 0;
-    while i < set.len() {
-        if 1 < set[i] {
-            return false;
-        }
-        i += 1;
-    }
-    true
+    set.iter().all(|&byte| byte <= 1)
 }
 
 // Questions 21 and 22, for a file with this count of facts. Internal.
-pub fn ask_set_of(facts: usize, set: &[u8]) -> Answer
+pub fn ask_set_of(facts: usize, set: &[u8]) -> Result<(), Refusal>
     ensures { result ≡ answer_of (set_no facts set.now) }
 {
     if set.len() != facts {
-        return Answer::No(Refusal::WrongSetLength);
+        return Err(Refusal::WrongSetLength);
     }
     if zero_or_one(set) {
-        Answer::Yes
+        Ok(())
     } else {
-        Answer::No(Refusal::NotZeroOrOne)
+        Err(Refusal::NotZeroOrOne)
     }
 }
 
 // The questions of the file, then 21 and 22 of the set.
-pub fn ask_set(file: &[u8], set: &[u8]) -> Answer
+pub fn ask_set(file: &[u8], set: &[u8]) -> Result<(), Refusal>
     ensures value { result ≡ answer_of (first_no (ask_set_questions file.now set.now)) }
     ensures answer_numbers { AnswerNumbers (ask_set_questions file.now set.now) result }
 {
-    let mut tables = [0u16; TABLE_CELLS];
-    match reader::scan::scan(file, &mut tables) {
-        Asked::No(r) => Answer::No(r),
-        Asked::Yes(counts) => ask_set_of(counts.facts as usize, set),
-    }
+    let mut tables = Tables::empty();
+    let counts = reader::scan::scan(file, &mut tables)?;
+    ask_set_of(counts.facts as usize, set)
 }

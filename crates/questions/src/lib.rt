@@ -2,7 +2,7 @@
 
 #![tactic(auto)]
 
-pub mod answer;
 pub mod buffers;
 pub mod fact_set;
 pub mod row;
+pub mod whole;

@@ -6,7 +6,7 @@ use mathlib.Core.List.{List, []}
 use native.Mathlib.Omega.{arith}
 use mathlib.Core.Option.{none, some}
 use borrow.Author.Tests.{eqb-true, eqb-false, leb-true, leb-false}
-use lib.ListN.{length, set, drop, length-replicate}
+use lib.ListN.{length, set, drop}
 use lib.Dec.{eqb, leb}
 use Rattle.items.specs.declared.refusal.Refusal.{Refusal}
 use Rattle.items.specs.declared.refusal.Refusal.TheVariants.{FactTooHigh, UnreadAfterRule}
@@ -21,12 +21,12 @@ use Rattle.items.specs.Item.{narrow, max_facts, max_rules, max_rule_items, max_b
 use Rattle.cursors.specs.Cursor.{next_at, items_at}
 use Rattle.cursors.proofs.Items.{ReadAt, found, none_left}
 use Rattle.theory.specs.Rule.{FactSet}
-use Rattle.tables.specs.Layout.{own_from, table_cells, last_cell, unread_in}
-use Rattle.reader.specs.declared.answer.Asked.TheVariants.{Yes}
+use Rattle.tables.specs.Layout.{own_from, last_cell, unread_in}
+use Rattle.tables.proofs.EmptyHeld.{empty_well_formed}
+use Rattle.std.specs.Prelude.{Ok, Err, Some, None}
 use Rattle.reader.specs.declared.step.Progress.{Progress}
-use Rattle.reader.specs.declared.step.Step.TheVariants.{On, Ended, Refused}
 use Rattle.reader.specs.Asked.{asked_of, counts_of}
-use Rattle.reader.specs.BodyScanned.{program_from, body_no, Cleared, Unmarked}
+use Rattle.reader.specs.BodyScanned.{program_from, body_no, BodyScanned, Cleared, Unmarked}
 use Rattle.reader.specs.Scanning.{none_allowed, Late, late_no, Along, Counting, Scanning, Answered, counts_read, Stepped, Room}
 use Rattle.reader.specs.Questions.{fresh, rules_of}
 use Rattle.stores.specs.Stores.{with_rule, with_counts, with_unread, withholding, unread_mark, is_unread, with_mark}
@@ -44,24 +44,29 @@ nothing-scanned facts s c T marks body cleared zeros =
       own = 0;
       left = λ h. absurd (h refl);
       verdict = not-begun s c facts body;
-      tables = none_stored s c T (ap length cleared.zeros ∙ length-replicate {A = ℕ} table_cells 0);
+      tables = none_stored s c T cleared;
       counts = none_counted facts s c (unread_in T facts) (none_unread facts cleared) zeros;
       withheld = none_held facts s c cleared;
     }
+
+-- Before the counts are stored the tables hold a program, and a no to a question is the answer.
+module _ {facts : ℕ} {s : List ℕ} {c₀ c : Cursor} {T marks : List ℕ} {p : Progress} (w : Scanning facts s c₀ T marks c p) where
+  pub answered_no : {r : Refusal} → body_no facts s c₀ ≡ some r → Answered facts s c₀ T (Err r)
+  answered_no e = let no = said_no _ e in (no.0, no.1, empty_well_formed T w.tables.no_facts w.tables.no_rules)
 
 -- How an item leaves the scan: in one of three ways.
 another_way : {A : Type 0} → ◌≡◌ {A = ℕ} 0 1 → A
 another_way z = absurd (omega arith)
 
 module _ {facts : ℕ} {s : List ℕ} {c₀ : Cursor} {T marks : List ℕ} {d : Cursor} {p : Progress} where
-  pub goes_on : {q : Progress} → (q.rules ≡ 0 → ⊥) → Scanning facts s c₀ T marks d q → Stepped facts s c₀ T marks d p (On q)
+  pub goes_on : {q : Progress} → (q.rules ≡ 0 → ⊥) → Scanning facts s c₀ T marks d q → Stepped facts s c₀ T marks d p (Ok (Some q))
   goes_on {q} some_rule w = record { on = λ q' e. let is : q ≡ q' = cc in subst (Scanning facts s c₀ T marks d) is w; opened = λ q' e z. let is : q ≡ q' = cc in some_rule (ap (λ (x : Progress). x.rules) is ∙ z); ended = λ e. another_way cc; refused = λ n e. another_way cc }
 
-  pub ends : Answered facts s c₀ T (Yes (counts_read facts marks p)) → Stepped facts s c₀ T marks d p Ended
+  pub ends : Answered facts s c₀ T (Ok (counts_read facts marks p)) → Stepped facts s c₀ T marks d p (Ok None)
   ends w = record { on = λ q e. another_way cc; opened = λ q e. another_way cc; ended = λ _. w; refused = λ n e. another_way cc }
 
-  pub refuses : {r : Refusal} → body_no facts s c₀ ≡ some r → Stepped facts s c₀ T marks d p (Refused r)
-  refuses {r} said = record { on = λ q e. another_way cc; opened = λ q e. another_way cc; ended = λ e. another_way cc; refused = λ n e. let is : r ≡ n = cc in said_no _ (said ∙ ap some is) }
+  pub refuses : {r : Refusal} {c : Cursor} → Scanning facts s c₀ T marks c p → body_no facts s c₀ ≡ some r → Stepped facts s c₀ T marks d p (Err r)
+  refuses {r} w said = record { on = λ q e. another_way cc; opened = λ q e. another_way cc; ended = λ e. another_way cc; refused = λ n e. let is : r ≡ n = cc in answered_no w (said ∙ ap some is) }
 
 -- an item that was read, once its kind is known
 pub found_as : {r : Read} {d : Cursor} {i j : Item} → r ≡ Found i d → i ≡ j → r ≡ Found j d
@@ -187,15 +192,18 @@ module _ {facts : ℕ} {s : List ℕ} {c₀ : Cursor} {T marks : List ℕ} {c : 
         same_unread = held-unread small (omega (arith, some_opened)) held ∙ kept-unread small stored
 
   module _ (small : facts < max_facts narrow) where
-    pub body-scanned : {k : ℕ} {d : Cursor} → ReadAt s c (Rules k) d → k ≡ p.rules → length s ≤ d.at → (T' : List ℕ) → T' ≡ with_counts T facts k p.filled p.barred → Answered facts s c₀ T' (Yes (counts_read facts marks p))
+    pub body-scanned : {k : ℕ} {d : Cursor} → ReadAt s c (Rules k) d → k ≡ p.rules → length s ≤ d.at → (T' : List ℕ) → T' ≡ with_counts T facts k p.filled p.barred → Answered facts s c₀ T' (Ok (counts_read facts marks p))
     body-scanned {k} {d} r right ended T' t =
-        (ap₂ asked_of (sym yes_all) same_counts, λ h. rw (t, right) (all-stored w.tables r ends small (body-bounded (program_from facts s c₀).unread (good_body (fresh facts) (items_at s c₀) h)) w.withheld))
+        (ap₂ asked_of (sym yes_all) same_counts, scanned_all, (scanned_all yes_all).well_formed)
       where
         yes_all : body_no facts s c₀ ≡ none
         yes_all = all_yes w.verdict r right ended
 
         ends : items_at s d ≡ []
         ends = none_left s d ended
+
+        scanned_all : BodyScanned facts s c₀ T'
+        scanned_all h = rw (t, right) (all-stored w.tables r ends small (body-bounded (program_from facts s c₀).unread (good_body (fresh facts) (items_at s c₀) h)) w.withheld)
 
         same_unread : unread_in T facts ≡ (program_from facts s c₀).unread
         same_unread =

@@ -11,7 +11,6 @@ pub mod Accepted
 pub mod UnreadFacts
 pub mod RuleLengths
 pub mod BodyRead
-pub mod UnreadLate
 pub mod AnswerNumbers
 pub mod FileAsked
 pub mod Examples

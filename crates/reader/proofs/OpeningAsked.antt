@@ -1,6 +1,6 @@
 -- The first questions on a file: its length, and its first item.
 use Prim.Native.Nat.{ℕ, ◌<◌, ◌≤◌}
-use mathlib.Core.Path.{◌≡◌, sym, ap, ap₂, subst, ◌∙◌}
+use mathlib.Core.Path.{◌≡◌, refl, sym, ap, ap₂, subst, ◌∙◌}
 use mathlib.Core.List.{List, [], ◌∷◌}
 use mathlib.Core.Logic.{⊎_elim}
 use mathlib.Core.Option.{Option, some}
@@ -13,16 +13,19 @@ use Rattle.items.specs.declared.item.Item.{Item}
 use Rattle.items.specs.declared.item.Item.TheVariants.{Facts}
 use Rattle.cursors.specs.declared.cursor.Cursor.{Cursor}
 use Rattle.cursors.specs.declared.cursor.Fault.TheVariants.{NoByte}
-use Rattle.cursors.specs.declared.cursor.Read.TheVariants.{Refused, Ended}
+use Rattle.cursors.specs.declared.cursor.Read.{Read}
+use Rattle.cursors.specs.declared.cursor.Read.TheVariants.{Refused}
 use Rattle.items.specs.Question.{first_no}
 use Rattle.cursors.specs.Cursor.{Token, item, bad, next_at, items_at, file_start}
 use Rattle.items.specs.Item.{max_bytes}
-use Rattle.reader.specs.declared.answer.Asked.{Asked}
+use Rattle.std.specs.Prelude.{Result}
+use Rattle.reader.specs.declared.answer.FileCounts.{FileCounts}
 use Rattle.reader.specs.Questions.{rules_of, behind_rules, unread_of, fact_count, program_of, opening_questions, file_questions, file_no}
 use Rattle.reader.specs.Asked.{asked_of, counts_of, file_asked}
 use Rattle.reader.specs.Scanned.{Tabled, Scanned}
 use Rattle.reader.specs.BodyScanned.{program_from, body_no, BodyTabled, BodyScanned}
-use Rattle.cursors.proofs.Items.{ReadAt, NoItemAt, not_found, row-ended}
+use Rattle.cursors.proofs.Items.{ReadAt, NoItemAt, not_found}
+use Rattle.cursors.proofs.NoItemRead.{NotFound, nothing_read}
 use Rattle.reader.proofs.Tags.{NotFacts, no-count}
 
 module _ (s : List ℕ) where
@@ -51,8 +54,8 @@ module _ (s : List ℕ) where
         no_item : items_at s file_start ≡ bad n.fault ∷ [] → file_no s ≡ some r
         no_item q = after_first (bad n.fault ∷ []) q ∙ is_two
 
-    pub none_first : (d : Cursor) → next_at s file_start ≡ Ended d → file_no s ≡ some NoFactCount
-    none_first d e = after_first [] (row-ended s file_start d e)
+    pub nothing_first : (r : Read) → next_at s file_start ≡ r → NotFound r → file_no s ≡ some NoFactCount
+    nothing_first r e k = after_first _ refl ∙ nothing_read (λ ts. first_no (opening_questions ts)) (λ fault. refl) s file_start r e k
 
     pub not-counted : {d : Cursor} {i : Item} → ReadAt s file_start i d → NotFacts i → file_no s ≡ some NoFactCount
     not-counted {d} {i} r k = after_first (item i ∷ items_at s d) r.items ∙ no-count i (items_at s d) k
@@ -75,5 +78,5 @@ module _ (s : List ℕ) where
           tabled t = record { program = t.program ∙ body-program; well_formed = t.well_formed; placed = λ i h. t.placed i (subst (λ (P : Program). i < count P) (sym body-program) h) ∙ ap (λ ts. get_or (behind_rules ts) i []) (sym r.items) }
 
       -- what the scan of the others answers and leaves is what the scan of the file does
-      pub file_scanned : (T : List ℕ) (a : Asked) → (a ≡ asked_of (body_no n s d) (counts_of (program_from n s d))) × BodyScanned n s d T → (a ≡ file_asked s) × Scanned s T
+      pub file_scanned : (T : List ℕ) (a : Result FileCounts Refusal) → (a ≡ asked_of (body_no n s d) (counts_of (program_from n s d))) × BodyScanned n s d T → (a ≡ file_asked s) × Scanned s T
       file_scanned T a e = (e.0 ∙ body-asked, body-tabled T e.1)

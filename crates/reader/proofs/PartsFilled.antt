@@ -9,7 +9,7 @@ use borrow.Author.Tests.{ltb-true, ltb-false}
 use lib.Dec.{ltb}
 use Rattle.theory.proofs.Bools.{either}
 use Rattle.tables.specs.Layout.{listed, span}
-use Rattle.tables.proofs.PartsSpanned.{span_more, span-end}
+use Rattle.tables.proofs.Spans.{span_more, span-end}
 use Rattle.reader.specs.Scanning.{Filled}
 
 span_agree : (row row' : ℕ → ℕ) (a b : ℕ) → ((j : ℕ) → j < b → row' j ≡ row j) → span row' a b ≡ span row a b

@@ -5,7 +5,7 @@ use mathlib.Core.List.{List, [], ◌∷◌, map}
 use mathlib.Core.Logic.{⊎_elim}
 use native.Mathlib.Omega.{arith}
 use native.Mathlib.Nat.{add-zero, zero-add}
-use lib.ListN.{length, get_or, set, drop, length-set}
+use lib.ListN.{length, get_or, set, drop, length-set, length-replicate}
 use lib.Seq.{get_or-set_same, get_or-set_other, get_or-drop, drop-drop}
 use Rattle.theory.specs.Rule.{Rule, Program, range, up_to, blank, count, withheld}
 use Rattle.theory.specs.Conditions.{Bounded}
@@ -17,24 +17,26 @@ use Rattle.cursors.specs.declared.cursor.Row.TheVariants.{Body}
 use Rattle.items.specs.Item.{narrow, max_facts, max_rules, max_rule_items}
 use Rattle.cursors.specs.Cursor.{items_at, body_at}
 use Rattle.cursors.proofs.Items.{ReadAt}
-use Rattle.tables.specs.Layout.{max_own, conclusions_from, places_from, premise_starts_from, constraint_starts_from, own_from, table_cells, last_cell, rules_in, conclusion_in, place_in, premise_start, constraint_start, premise_at, constraint_at, rule_in, facts_in, unread_in, withheld_in, program_in}
+use Rattle.tables.specs.Layout.{max_own, facts_cell, rules_cell, conclusions_from, places_from, premise_starts_from, constraint_starts_from, own_from, table_cells, last_cell, rules_in, conclusion_in, place_in, premise_start, constraint_start, premise_at, constraint_at, rule_in, facts_in, unread_in, withheld_in, program_in}
 use Rattle.reader.specs.Questions.{premises_of, constraints_of, rule_of, rules_of, behind_rules}
 use Rattle.reader.specs.Scanned.{RuleAt}
-use Rattle.reader.specs.BodyScanned.{program_from, BodyTabled}
+use Rattle.reader.specs.BodyScanned.{program_from, BodyTabled, Cleared}
 use Rattle.reader.specs.Scanning.{Filled, rule_from, Storing, Holding}
 use Rattle.stores.specs.Stores.{with_rule, with_counts}
 use Rattle.reader.proofs.PartsFilled.{last-or_before, none_begun, kept, same_ahead, one_read, next_rule}
 use Rattle.stores.proofs.CellsStored.{RuleStored, rule-stored, CountsStored, counts_stored, counts_marks, MarksOnly, MarksKept}
-use Rattle.reader.proofs.UnreadMarked.{unread_told, withheld-told}
+use Rattle.reader.proofs.UnreadMarked.{nothing-in, unread_told, withheld-told}
 
-pub none_stored : (s : List ℕ) (c : Cursor) (T : List ℕ) → length T ≡ table_cells → Storing s c c T 0 0 0 0
-none_stored s c T size =
+pub none_stored : (s : List ℕ) (c : Cursor) (T : List ℕ) → Cleared T → Storing s c c T 0 0 0 0
+none_stored s c T cleared =
     record {
       passed = refl;
       behind = refl;
       total = omega arith;
       few = omega arith;
-      size = size;
+      size = ap length cleared.zeros ∙ length-replicate {A = ℕ} table_cells 0;
+      no_facts = nothing-in cleared facts_cell;
+      no_rules = nothing-in cleared rules_cell;
       conclusions = λ i h. absurd (omega arith);
       places = λ i h. absurd (omega arith);
       premises = none_begun _ _ _ _ _ refl;
@@ -64,6 +66,8 @@ module _ {s : List ℕ} {c₀ c : Cursor} {T : List ℕ} {n allowance filled bar
               total = w.total ∙ ap (λ ts. n + length (rules_of ts)) r.items ∙ omega arith;
               few = omega arith;
               size = t.size;
+              no_facts = t.kept facts_cell (λ e. omega arith) (λ e. omega arith) (λ e. omega arith) (λ e. omega arith) ∙ w.no_facts;
+              no_rules = t.kept rules_cell (λ e. omega arith) (λ e. omega arith) (λ e. omega arith) (λ e. omega arith) ∙ w.no_rules;
               conclusions = λ i h. ⊎_elim (λ l. before_conclusion i l ∙ w.conclusions i l) (λ q. rw q (t.conclusion ∙ sym (ap (λ (x : Rule). x.conclusion) opened-rule))) (last-or_before i n h);
               places = λ i h. ⊎_elim (λ l. rw (before_place i l) (w.places i l)) (λ q. at_last i q) (last-or_before i n h);
               premises =
@@ -117,6 +121,8 @@ module _ {s : List ℕ} {c₀ c : Cursor} {T : List ℕ} {n allowance filled bar
         total = w.total;
         few = w.few;
         size = m.size;
+        no_facts = m.others facts_cell (λ l. omega arith) ∙ w.no_facts;
+        no_rules = m.others rules_cell (λ l. omega arith) ∙ w.no_rules;
         conclusions = λ i h. m.others (conclusions_from + i) (λ l. omega (arith, w.few)) ∙ w.conclusions i h;
         places = λ i h. rw (m.others (places_from + i) (λ l. omega (arith, w.few))) (w.places i h);
         premises = kept w.premises (premise_start T') (premise_at T') (λ i h. m.others (premise_starts_from + i) (λ l. omega (arith, w.few))) (λ j h. m.others (own_from + j) (λ l. omega arith));
@@ -138,6 +144,8 @@ module _ {s : List ℕ} {c₀ c : Cursor} {T : List ℕ} {n allowance filled bar
         total = w.total ∙ ap (λ ts. n + length (rules_of ts)) r.items;
         few = w.few;
         size = w.size;
+        no_facts = w.no_facts;
+        no_rules = w.no_rules;
         conclusions = w.conclusions;
         places = w.places;
         premises = none_begun _ _ _ _ _ none-opened;
@@ -155,6 +163,8 @@ module _ {s : List ℕ} {c₀ c : Cursor} {T : List ℕ} {n allowance filled bar
           total = w.total ∙ ap (λ ts. n + length (rules_of ts)) r.items;
           few = w.few;
           size = length-set T (own_from + filled) f.0 ∙ w.size;
+          no_facts = elsewhere facts_cell (λ e. omega arith) ∙ w.no_facts;
+          no_rules = elsewhere rules_cell (λ e. omega arith) ∙ w.no_rules;
           conclusions = λ i h. elsewhere (conclusions_from + i) (λ e. omega (arith, w.few)) ∙ w.conclusions i h;
           places = λ i h. rw (elsewhere (places_from + i) (λ e. omega (arith, w.few))) (w.places i h);
           premises =
@@ -185,6 +195,8 @@ module _ {s : List ℕ} {c₀ c : Cursor} {T : List ℕ} {n allowance filled bar
           total = w.total ∙ ap (λ ts. n + length (rules_of ts)) r.items;
           few = w.few;
           size = length-set T (last_cell - barred) f.0 ∙ w.size;
+          no_facts = elsewhere facts_cell (λ e. omega (arith, fits)) ∙ w.no_facts;
+          no_rules = elsewhere rules_cell (λ e. omega (arith, fits)) ∙ w.no_rules;
           conclusions = λ i h. elsewhere (conclusions_from + i) (λ e. omega (arith, w.few, fits)) ∙ w.conclusions i h;
           places = λ i h. rw (elsewhere (places_from + i) (λ e. omega (arith, w.few, fits))) (w.places i h);
           premises =

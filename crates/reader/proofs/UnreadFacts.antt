@@ -19,21 +19,14 @@ use Rattle.items.specs.Item.{narrow, facts_kind, width_of, class_of}
 use Rattle.items.proofs.ItemSays.{Tagged, by_tags, unsaid, alone}
 use Rattle.cursors.specs.declared.cursor.Row.TheVariants.{Body}
 use Rattle.cursors.specs.declared.cursor.Cursor.{Cursor}
-use Rattle.cursors.specs.declared.cursor.Read.TheVariants.{Refused, Ended}
-use Rattle.cursors.specs.Cursor.{Token, item, next_at, items_at, file_start}
-use Rattle.cursors.proofs.Items.{ReadAt, not_found, row-ended}
+use Rattle.cursors.specs.Cursor.{Token, item, items_at, file_start}
+use Rattle.cursors.proofs.Items.{ReadAt}
 use Rattle.reader.specs.Questions.{unread_of, program_of, file_no, Scan}
 use Rattle.reader.specs.Begins.{behind_first, first_unread}
 use Rattle.reader.proofs.Accepted.{GoodBody, opens, own, unread, last, AcceptedFile, body_start, accepted_file}
 
 -- What a read tells of the item at a cursor.
 module _ (s : List ℕ) (c d : Cursor) where
-  pub no-unread_at_refusal : {r : Refusal} → next_at s c ≡ Refused r d → first_unread (items_at s c) ≡ false
-  no-unread_at_refusal {r} e = ⊎_elim (λ q. ap first_unread q.0) (λ q. ap first_unread q) (not_found s c d r e).why
-
-  pub no-unread_at_end : next_at s c ≡ Ended d → first_unread (items_at s c) ≡ false
-  no-unread_at_end e = ap first_unread (row-ended s c d e)
-
   pub unread_there : {f : FactId} → ReadAt s c (Unread f) d → first_unread (items_at s c) ≡ true
   unread_there r = ap first_unread r.items
 

@@ -24,9 +24,12 @@ use Rattle.reader.specs.Scanning.{rule_from, Holding}
 use Rattle.reader.proofs.PartsFilled.{last-or_before}
 use Rattle.stores.proofs.CellsStored.{MarksKept, UnreadStored, WithheldStored}
 
--- Nothing is marked in tables where nothing is stored.
+-- Nothing stands in tables where nothing is stored, and nothing is marked.
+pub nothing-in : {T : List ℕ} → Cleared T → (k : ℕ) → get_or T k 0 ≡ 0
+nothing-in cleared k = ap (λ (l : List ℕ). get_or l k 0) cleared.zeros ∙ zeros table_cells k
+
 no-mark : {T : List ℕ} → Cleared T → (k : ℕ) → eqb (get_or T k 0) 1 ≡ false
-no-mark cleared k = ap (λ (x : ℕ). eqb x 1) (ap (λ (l : List ℕ). get_or l k 0) cleared.zeros ∙ zeros table_cells k)
+no-mark cleared k = ap (λ (x : ℕ). eqb x 1) (nothing-in cleared k)
 
 pub none_unread : (facts : ℕ) {T : List ℕ} → Cleared T → (f : ℕ) → unread_in T facts f ≡ false
 none_unread facts {T} cleared f = ap (λ (b : Bool). ltb f facts && b) (no-mark cleared (unread_from + f)) ∙ and-false (ltb f facts)

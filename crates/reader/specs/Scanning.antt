@@ -1,5 +1,5 @@
 -- Internal: what the scan has done where it stands at an item of the body: its verdict, its tables, its counts, and what is unread.
-use Rattle.std.specs.Prelude.{ℕ, zero, suc, ◌+◌, ◌*◌, ◌<◌, ◌≤◌, ◌≡◌, Bool, false, cond, not, ◌&&◌, ◌||◌, List, [], ◌∷◌, ◌++◌, length, get_or, drop, eqb, leb}
+use Rattle.std.specs.Prelude.{ℕ, zero, suc, ◌+◌, ◌*◌, ◌<◌, ◌≤◌, ◌≡◌, Bool, false, cond, not, ◌&&◌, ◌||◌, List, [], ◌∷◌, ◌++◌, length, get_or, drop, eqb, leb, Result, Ok, Err, Some, None, Option}
 use Rattle.theory.specs.Rule.{any, mem, how_many, up_to, Rule, FactSet, blank, null}
 use Rattle.items.specs.declared.item.FactId.{FactId}
 use Rattle.items.specs.declared.item.Item.{Item}
@@ -11,15 +11,11 @@ use Rattle.items.specs.Item.{narrow, max_facts, max_rules, max_rule_items, max_b
 use Rattle.items.specs.Question.{first_no}
 use Rattle.cursors.specs.Cursor.{Token, next_at, items_at}
 use Rattle.stores.specs.Stores.{is_unread}
-use Rattle.tables.specs.Layout.{table_cells, unread_in, withheld_in, conclusion_in, place_in, premise_start, constraint_start, premise_at, constraint_at, span}
-use Rattle.reader.specs.declared.answer.Asked.{Asked}
-use Rattle.reader.specs.declared.answer.Asked.TheVariants.{Yes, No}
+use Rattle.tables.specs.Layout.{table_cells, facts_in, rules_in, unread_in, withheld_in, conclusion_in, place_in, premise_start, constraint_start, premise_at, constraint_at, span, WellFormed}
 use Rattle.reader.specs.declared.answer.FileCounts.{FileCounts}
 use Rattle.items.specs.declared.refusal.Refusal.{Refusal}
 use Rattle.items.specs.declared.refusal.Refusal.TheVariants.{FactTooHigh, NoRuleOpened, RuleTooLong, UnreadAfterRule}
 use Rattle.reader.specs.declared.step.Progress.{Progress}
-use Rattle.reader.specs.declared.step.Step.{Step}
-use Rattle.reader.specs.declared.step.Step.TheVariants.{On, Ended, Refused}
 use Rattle.reader.specs.Questions.{premises_of, constraints_of, rules_of, behind_rules, unread_of, body_questions, Scan}
 use Rattle.reader.specs.Asked.{asked_of, counts_of}
 use Rattle.reader.specs.Scanned.{RuleAt}
@@ -58,6 +54,9 @@ pub record Storing (s : List ℕ) (c₀ c : Cursor) (T : List ℕ) (n allowance 
   pub total : length (rules_of (items_at s c₀)) ≡ n + length (rules_of (items_at s c))
   pub few : n ≤ max_rules
   pub size : length T ≡ table_cells
+  -- the counts are stored last
+  pub no_facts : facts_in T ≡ 0
+  pub no_rules : rules_in T ≡ 0
   pub conclusions : (i : ℕ) → i < n → conclusion_in T i ≡ (rule_from s c₀ i).conclusion
   pub places : (i : ℕ) → i < n → RuleAt s c₀ (place_in T i) i
   pub premises : Filled (λ i. (rule_from s c₀ i).premises) (premise_start T) (premise_at T) n filled (premises_of (items_at s c))
@@ -127,23 +126,23 @@ pub record UnreadTaken (facts : ℕ) (s : List ℕ) (c₀ : Cursor) (T marks : L
   pub scanned : Scanning facts s c₀ T marks c unopened
   pub rest_late : (i : Item) (d : Cursor) → next_at s c ≡ Found i d → Late facts i unopened
 
--- What the scan of the body promises.
-abbrev pub Answered : ℕ → List ℕ → Cursor → List ℕ → Asked → Type 0
-Answered facts s c₀ T r = (r ≡ asked_of (body_no facts s c₀) (counts_of (program_from facts s c₀))) × BodyScanned facts s c₀ T
+-- What the scan of the body promises. The tables hold a program whatever the answer.
+abbrev pub Answered : ℕ → List ℕ → Cursor → List ℕ → Result FileCounts Refusal → Type 0
+Answered facts s c₀ T r = (r ≡ asked_of (body_no facts s c₀) (counts_of (program_from facts s c₀))) × BodyScanned facts s c₀ T × WellFormed T
 
 -- The counts of a file that ends where so much is read, and so many facts are marked.
 abbrev pub counts_read : ℕ → List ℕ → Progress → FileCounts
 counts_read facts marks p = record { facts = facts; rules = p.rules; exceptions = p.exceptions; constrained = how_many (has marks) (up_to facts) }
 
 -- An item is scanned: the scan stands at the next one, or it is over. p is what was read before.
-pub record Stepped (facts : ℕ) (s : List ℕ) (c₀ : Cursor) (T marks : List ℕ) (d : Cursor) (p : Progress) (r : Step) : Type 0 where
-  pub on : (q : Progress) → r ≡ On q → Scanning facts s c₀ T marks d q
-  pub opened : (q : Progress) → r ≡ On q → q.rules ≡ 0 → ⊥
-  pub ended : r ≡ Ended → Answered facts s c₀ T (Yes (counts_read facts marks p))
-  pub refused : (n : Refusal) → r ≡ Refused n → Answered facts s c₀ T (No n)
+pub record Stepped (facts : ℕ) (s : List ℕ) (c₀ : Cursor) (T marks : List ℕ) (d : Cursor) (p : Progress) (r : Result (Option Progress) Refusal) : Type 0 where
+  pub on : (q : Progress) → r ≡ Ok (Some q) → Scanning facts s c₀ T marks d q
+  pub opened : (q : Progress) → r ≡ Ok (Some q) → q.rules ≡ 0 → ⊥
+  pub ended : r ≡ Ok None → Answered facts s c₀ T (Ok (counts_read facts marks p))
+  pub refused : (n : Refusal) → r ≡ Err n → Answered facts s c₀ T (Err n)
 
 -- So it is in every file that has the item where the scan stands. T and marks are those before, T' and marks' those after.
-abbrev pub Scans : ℕ → List ℕ → Item → Cursor → Progress → List ℕ → List ℕ → List ℕ → List ℕ → Step → Type 0
+abbrev pub Scans : ℕ → List ℕ → Item → Cursor → Progress → List ℕ → List ℕ → List ℕ → List ℕ → Result (Option Progress) Refusal → Type 0
 Scans facts s i d p T marks T' marks' r =
     (c₀ c : Cursor) → length s ≤ max_bytes → facts < max_facts narrow → Scanning facts s c₀ T marks c p → next_at s c ≡ Found i d → Stepped facts s c₀ T' marks' d p r
 

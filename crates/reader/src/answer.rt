@@ -1,15 +1,10 @@
-use items::refusal::Refusal;
-
-// What `accept` answers: the counts of an accepted file, or the first no.
+// What `accept` answers of an accepted file: how many facts, rules, exception rules and constraint facts it has.
 #[derive(Clone, Copy)]
-pub enum Accept {
-    Accepted {
-        facts: u16,
-        rules: u16,
-        exceptions: u16,
-        constraints: u16,
-    },
-    Refused(Refusal),
+pub struct AcceptedFile {
+    pub facts: u16,
+    pub rules: u16,
+    pub exceptions: u16,
+    pub constraints: u16,
 }
 
 // The counts of an accepted file: its facts, rules, exception rules, and the facts that are read and a constraint of some rule, withheld or not.
@@ -19,11 +14,4 @@ pub struct FileCounts {
     pub rules: u16,
     pub exceptions: u16,
     pub constrained: u16,
-}
-
-// All questions got yes, with the counts of the file; or the first no.
-#[derive(Clone, Copy)]
-pub enum Asked {
-    Yes(FileCounts),
-    No(Refusal),
 }

@@ -15,12 +15,5 @@ pub fn begins_unread(file: &[u8]) -> bool
         at: ITEM_WIDTH,
         row: Row::Body,
     };
-    match behind.next_in_body(file) {
-        Read::Refused(_, _) => false,
-        Read::Found(item, _) => match item {
-            Item::Unread(_) => true,
-            _ => false,
-        },
-        Read::Ended(_) => false,
-    }
+    matches!(behind.next_in_body(file), Read::Found(Item::Unread(_), _))
 }

@@ -1,6 +1,5 @@
 // One case: the call that it asks for, in buffers of the lengths that it says, and whether the reply and every byte are as it expects.
 use crate::read::{PLACES, number, row, wide};
-use questions::answer::Answer;
 
 // No buffer that a case lends is longer.
 const ROOM: usize = 16384;
@@ -18,7 +17,7 @@ const LENGTHS: usize = 8;
 
 const REPLY: usize = 16;
 
-// The number that a question by itself replies. No case expects the last one, of an operation that there is not.
+// Operations are numbers, as the file of cases has them. The number that a question by itself replies. No case expects the last one, of an operation that there is not.
 fn question(operation: u32, file: &[u8], row: &[u8], fact: u32) -> u32 {
     let answer = match operation {
         7 => naming::order::ask_order(file, row),
@@ -28,8 +27,8 @@ fn question(operation: u32, file: &[u8], row: &[u8], fact: u32) -> u32 {
         _ => return 65536,
     };
     match answer {
-        Answer::Yes => 0,
-        Answer::No(r) => r.number() as u32,
+        Ok(()) => 0,
+        Err(r) => r.number() as u32,
     }
 }
 
@@ -61,13 +60,8 @@ fn answer(operation: u32, file: &[u8], second: &[u8], third: &[u8], fact: u32) -
 
 // Copies a row to the front of a buffer, as far as that goes.
 fn copy(from: &[u8], to: &mut [u8]) {
-    let mut i: usize = 0;
-    while i < from.len() {
-        if to.len() <= i {
-            return;
-        }
-        to[i] = from[i];
-        i += 1;
+    for (cell, &byte) in to.iter_mut().zip(from) {
+        *cell = byte;
     }
 }
 
@@ -136,12 +130,10 @@ fn reply(
 }
 
 fn same_numbers(head: &[u8], reply: [u32; NUMBERS]) -> bool {
-    let mut i: usize = 0;
-    while i < NUMBERS {
+    for i in 0..NUMBERS {
         if reply[i] != number(head, REPLY + 2 * i) {
             return false;
         }
-        i += 1;
     }
     true
 }
@@ -152,15 +144,8 @@ fn holds(buffer: &[u8], bytes: &[u8], at: usize, fill: u8) -> bool {
     if buffer.len() < front.len() {
         return false;
     }
-    let mut i: usize = 0;
-    while i < buffer.len() {
-        let expected = if i < front.len() { front[i] } else { fill };
-        if buffer[i] != expected {
-            return false;
-        }
-        i += 1;
-    }
-    true
+    let n = front.len();
+    &buffer[..n] == front && buffer[n..].iter().all(|&byte| byte == fill)
 }
 
 // The reply and the four buffers are as the case expects.

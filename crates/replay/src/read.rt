@@ -77,11 +77,8 @@ pub fn row(bytes: &[u8], at: usize) -> &[u8] {
 // Where the rows of a case stand, and the next case.
 pub fn places(bytes: &[u8], at: usize) -> [usize; PLACES] {
     let mut all = [at; PLACES];
-    let mut i: usize = 0;
-    while i < NEXT {
-        let next = past(bytes, all[i]);
-        i += 1;
-        all[i] = next;
+    for i in 0..NEXT {
+        all[i + 1] = past(bytes, all[i]);
     }
     all
 }

@@ -1,20 +1,15 @@
 // The replies to callers in C and Rust, in plain numbers, and each answer as a reply. A refusal has its number and 0 for every other value. Internal.
 
-#![tactic(auto)]
+#![tactic(auto, unfolding(crate::specs::Reply::file_of, crate::specs::Reply::counts_of, crate::specs::Reply::verdict_of, crate::specs::Reply::count_of, crate::specs::Reply::reply_of_choice))]
 
 ghost use Rattle.std.specs.Prelude.{◌≡◌};
-ghost use Rattle.replies.specs.Reply.{file_of, counts_of_ran, counts_of_searched, verdict_of_judged, verdict_of_checked, count_of_grounds, count_of_layered, count_of_loaded, reply_of_choice};
+ghost use Rattle.replies.specs.Reply.{file_of, counts_of, verdict_of, count_of, reply_of_choice};
 
 use better::answer::Choice;
-use generator::answer::Loaded;
 use items::lengths::STEP_WIDTH;
-use judge::answer::Judged;
-use keeping::answer::Grounds;
-use layers::answer::Layered;
-use proofcheck::answer::Checked;
-use reader::answer::Accept;
+use items::refusal::Refusal;
+use reader::answer::AcceptedFile;
 use run::answer::Ran;
-use search::answer::Searched;
 
 // An accepted file, and the bytes of one step.
 #[repr(C)]
@@ -61,166 +56,106 @@ pub struct ChoiceReply {
     pub which: u32,
 }
 
-pub fn of_accept(a: Accept) -> FileReply
-    ensures { result ≡ file_of a }
-{
-    match a {
-        Accept::Accepted {
-            facts,
-            rules,
-            exceptions,
-            constraints,
-        } => FileReply {
-            refusal: 0,
-            facts: facts as u32,
-            rules: rules as u32,
-            exceptions: exceptions as u32,
-            constraints: constraints as u32,
-            step_bytes: STEP_WIDTH as u32,
-        },
-        Accept::Refused(r) => FileReply {
-            refusal: r.number() as u32,
-            facts: 0,
-            rules: 0,
-            exceptions: 0,
-            constraints: 0,
-            step_bytes: 0,
-        },
+// The counts of an accepted file.
+impl From<Result<AcceptedFile, Refusal>> for FileReply {
+    ghost from_gives = { λ answer reply. reply ≡ file_of answer };
+
+    fn from(answer: Result<AcceptedFile, Refusal>) -> FileReply {
+        match answer {
+            Ok(file) => FileReply {
+                refusal: 0,
+                facts: u32::from(file.facts),
+                rules: u32::from(file.rules),
+                exceptions: u32::from(file.exceptions),
+                constraints: u32::from(file.constraints),
+                step_bytes: STEP_WIDTH as u32,
+            },
+            Err(r) => FileReply {
+                refusal: u32::from(r.number()),
+                facts: 0,
+                rules: 0,
+                exceptions: 0,
+                constraints: 0,
+                step_bytes: 0,
+            },
+        }
     }
 }
 
-pub fn of_ran(a: Ran) -> RunCounts
-    ensures { result ≡ counts_of_ran a }
-{
-    match a {
-        Ran::Done { stages, steps } => RunCounts {
-            refusal: 0,
-            stages: stages as u32,
-            steps: steps as u32,
-        },
-        Ran::Refused(r) => RunCounts {
-            refusal: r.number() as u32,
-            stages: 0,
-            steps: 0,
-        },
+// A run, or a search.
+impl From<Result<Ran, Refusal>> for RunCounts {
+    ghost from_gives = { λ answer reply. reply ≡ counts_of answer };
+
+    fn from(answer: Result<Ran, Refusal>) -> RunCounts {
+        match answer {
+            Ok(ran) => RunCounts {
+                refusal: 0,
+                stages: u32::from(ran.stages),
+                steps: u32::from(ran.steps),
+            },
+            Err(r) => RunCounts {
+                refusal: u32::from(r.number()),
+                stages: 0,
+                steps: 0,
+            },
+        }
     }
 }
 
-pub fn of_searched(a: Searched) -> RunCounts
-    ensures { result ≡ counts_of_searched a }
-{
-    match a {
-        Searched::Found { stages, steps } => RunCounts {
-            refusal: 0,
-            stages: stages as u32,
-            steps: steps as u32,
-        },
-        Searched::Refused(r) => RunCounts {
-            refusal: r.number() as u32,
-            stages: 0,
-            steps: 0,
-        },
+// What the judge or the proof check says.
+impl From<Result<bool, Refusal>> for Verdict {
+    ghost from_gives = { λ answer reply. reply ≡ verdict_of answer };
+
+    fn from(answer: Result<bool, Refusal>) -> Verdict {
+        match answer {
+            Ok(yes) => Verdict {
+                refusal: 0,
+                verdict: yes as u32,
+            },
+            Err(r) => Verdict {
+                refusal: u32::from(r.number()),
+                verdict: 0,
+            },
+        }
     }
 }
 
-pub fn of_judged(a: Judged) -> Verdict
-    ensures { result ≡ verdict_of_judged a }
-{
-    match a {
-        Judged::Stable => Verdict {
-            refusal: 0,
-            verdict: 1,
-        },
-        Judged::NotStable => Verdict {
-            refusal: 0,
-            verdict: 0,
-        },
-        Judged::Refused(r) => Verdict {
-            refusal: r.number() as u32,
-            verdict: 0,
-        },
+// The count of the steps that are kept, of the rules that are named, or of the bytes of a load.
+impl From<Result<u16, Refusal>> for Count {
+    ghost from_gives = { λ answer reply. reply ≡ count_of answer };
+
+    fn from(answer: Result<u16, Refusal>) -> Count {
+        match answer {
+            Ok(count) => Count {
+                refusal: 0,
+                count: u32::from(count),
+            },
+            Err(r) => Count {
+                refusal: u32::from(r.number()),
+                count: 0,
+            },
+        }
     }
 }
 
-pub fn of_checked(a: Checked) -> Verdict
-    ensures { result ≡ verdict_of_checked a }
-{
-    match a {
-        Checked::Yes => Verdict {
-            refusal: 0,
-            verdict: 1,
-        },
-        Checked::No => Verdict {
-            refusal: 0,
-            verdict: 0,
-        },
-        Checked::Refused(r) => Verdict {
-            refusal: r.number() as u32,
-            verdict: 0,
-        },
-    }
-}
+// Which of two orders.
+impl From<Result<Choice, Refusal>> for ChoiceReply {
+    ghost from_gives = { λ answer reply. reply ≡ reply_of_choice answer };
 
-pub fn of_grounds(a: Grounds) -> Count
-    ensures { result ≡ count_of_grounds a }
-{
-    match a {
-        Grounds::Given { steps } => Count {
-            refusal: 0,
-            count: steps as u32,
-        },
-        Grounds::Refused(r) => Count {
-            refusal: r.number() as u32,
-            count: 0,
-        },
-    }
-}
-
-pub fn of_layered(a: Layered) -> Count
-    ensures { result ≡ count_of_layered a }
-{
-    match a {
-        Layered::Ordered { rules } => Count {
-            refusal: 0,
-            count: rules as u32,
-        },
-        Layered::Refused(r) => Count {
-            refusal: r.number() as u32,
-            count: 0,
-        },
-    }
-}
-
-pub fn of_loaded(a: Loaded) -> Count
-    ensures { result ≡ count_of_loaded a }
-{
-    match a {
-        Loaded::Written { bytes } => Count {
-            refusal: 0,
-            count: bytes as u32,
-        },
-        Loaded::Refused(r) => Count {
-            refusal: r.number() as u32,
-            count: 0,
-        },
-    }
-}
-
-pub fn of_choice(a: Choice) -> ChoiceReply
-    ensures { result ≡ reply_of_choice a }
-{
-    match a {
-        Choice::First => ChoiceReply {
-            refusal: 0,
-            which: 1,
-        },
-        Choice::Second => ChoiceReply {
-            refusal: 0,
-            which: 2,
-        },
-        Choice::Refused(r) => ChoiceReply {
-            refusal: r.number() as u32,
-            which: 0,
-        },
+    fn from(answer: Result<Choice, Refusal>) -> ChoiceReply {
+        match answer {
+            Ok(Choice::First) => ChoiceReply {
+                refusal: 0,
+                which: 1,
+            },
+            Ok(Choice::Second) => ChoiceReply {
+                refusal: 0,
+                which: 2,
+            },
+            Err(r) => ChoiceReply {
+                refusal: u32::from(r.number()),
+                which: 0,
+            },
+        }
     }
 }

@@ -5,7 +5,7 @@ use mathlib.Core.List.{List, [], ◌∷◌, ◌++◌, map, map-append}
 use native.Mathlib.Omega.{arith}
 use native.Mathlib.Numerals.{add-one}
 use lib.ListN.{length, get_or, take, length-map}
-use lib.Seq.{take-suc, length-take-le}
+use lib.Seq.{take-suc, take_all, length-take-le}
 use Rattle.theory.specs.Rule.{Program, Step, rule}
 use Rattle.theory.specs.Derive.{step_by}
 use Rattle.items.specs.Item.{narrow, step_width}
@@ -28,20 +28,19 @@ steps-more xs ys room n e =
     let at : step_width narrow * n ≡ length (step_bytes narrow xs) = omega (arith, step-bytes_length xs) in
     rw (at, step-bytes_append xs ys) (over-more (step_bytes narrow xs) (step_bytes narrow ys) room)
 
--- The steps of the rules that fired, written one after another; those of the first k of n are.
-pub record Writing (P : Program) (fired : List ℕ) (n : ℕ) (room out : List ℕ) (k : ℕ) : Type 0 where
-  pub inside : k ≤ n
+-- The steps of the rules that fired, written one after another; those of the first k are.
+pub record Writing (P : Program) (fired room out : List ℕ) (k : ℕ) : Type 0 where
   pub length_kept : length out ≡ length room
   pub front_is : out ≡ over (step_bytes narrow (map (step_by P) (take k fired))) room
 
-pub none_written : (P : Program) (fired : List ℕ) (n : ℕ) (room : List ℕ) → Writing P fired n room room 0
-none_written P fired n room = record { inside = omega arith; length_kept = refl; front_is = refl }
+pub none_written : (P : Program) (fired room : List ℕ) → Writing P fired room room 0
+none_written P fired room = record { length_kept = refl; front_is = refl }
 
-module _ {P : Program} {fired : List ℕ} {n : ℕ} {room out : List ℕ} {k : ℕ} (w : Writing P fired n room out k) where
-  pub all-written : n ≤ k → out ≡ over (step_bytes narrow (map (step_by P) (take n fired))) room
-  all-written h = let last : k ≡ n = omega (arith, w.inside) in rw last at w.front_is
+module _ {P : Program} {fired room out : List ℕ} {k : ℕ} (w : Writing P fired room out k) where
+  pub all-written : length fired ≤ k → out ≡ over (step_bytes narrow (map (step_by P) fired)) room
+  all-written h = rw (take_all k fired h) at w.front_is
 
-  module _ (h : k < n) (cells : n ≤ length fired) (f i : ℕ) (is : i ≡ get_or fired k 0) (concludes : f ≡ (rule P i).conclusion) where
+  module _ (h : k < length fired) (f i : ℕ) (is : i ≡ get_or fired k 0) (concludes : f ≡ (rule P i).conclusion) where
     one_more : map (step_by P) (take k fired) ++ (step_by P i ∷ []) ≡ map (step_by P) (take (k + 1) fired)
     one_more =
         ap (λ (j : ℕ). map (step_by P) (take k fired) ++ (step_by P j ∷ [])) is
@@ -49,10 +48,9 @@ module _ {P : Program} {fired : List ℕ} {n : ℕ} {room out : List ℕ} {k : �
         ∙ ap (map (step_by P)) (sym (take-suc fired k 0 (omega arith)))
         ∙ ap (λ (m : ℕ). map (step_by P) (take m fired)) (sym (add-one k))
 
-    pub one_written : (after : List ℕ) → after ≡ placed (step_item narrow f i) (step_width narrow * k) out → length after ≡ length out → Writing P fired n room after (k + 1)
+    pub one_written : (after : List ℕ) → after ≡ placed (step_item narrow f i) (step_width narrow * k) out → length after ≡ length out → Writing P fired room after (k + 1)
     one_written after e l =
         record {
-          inside = omega arith;
           length_kept = l ∙ w.length_kept;
           front_is =
               e

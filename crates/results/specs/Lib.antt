@@ -1,2 +1,3 @@
 -- What only code and proofs use.
+pub mod Marks
 pub mod Writable

@@ -1,11 +1,11 @@
 // Everything that a run writes. Internal.
-ghost use Rattle.std.specs.Prelude.{◌≡◌, map, length, take};
+ghost use Rattle.std.specs.Prelude.{◌≡◌, map, length};
 ghost use Rattle.theory.specs.Rule.{mem, in_force};
 ghost use Rattle.theory.specs.Derive.{step_by};
 ghost use Rattle.theory.specs.Run.{Stand, rejected, marks_of_facts, marks_of_rules};
 ghost use Rattle.items.specs.Item.{narrow, has};
 ghost use Rattle.items.specs.Write.{over};
-ghost use Rattle.tables.specs.Layout.{program_in, WellFormed};
+ghost use Rattle.tables.specs.Held.{held};
 ghost use Rattle.marking.specs.Marks.{barred_in};
 ghost use Rattle.closure.specs.Steps.{step_bytes};
 ghost use Rattle.results.specs.Writable.{Writable};
@@ -13,27 +13,25 @@ ghost use Rattle.results.specs.Writable.{Writable};
 use crate::marks::{write_fact_marks, write_rule_marks};
 use crate::steps::write_steps;
 use items::item::{MAX_FACTS, MAX_RULES};
-use tables::layout::{TABLE_CELLS, facts_of};
+use tables::layout::Tables;
 
-// The marks of the facts and of the rules, and the steps of the first rules of a row.
+// The marks of the facts and of the rules, and the steps of a row of rules that fired.
 pub fn write_results(
-    tables: &[u16; TABLE_CELLS],
+    tables: &Tables,
     marks: &[u8; MAX_FACTS],
     applied: &[u8; MAX_RULES],
-    row: &[u16; MAX_FACTS],
-    count: usize,
+    fired: &[u16],
     fact_marks: &mut [u8],
     rule_marks: &mut [u8],
     steps: &mut [u8],
 )
-    requires well_formed { WellFormed tables.now }
-    requires writable { Writable (program_in tables.now) marks.now row.now count (length fact_marks.old) (length rule_marks.old) (length steps.old) }
-    ensures fact_marks_after { (s : Stand) → has marks.now ≡ s.derived → barred_in marks.now ≡ rejected (program_in tables.now) s.applied → fact_marks.new ≡ over (marks_of_facts (program_in tables.now) s) fact_marks.old }
-    ensures rule_marks_after { (s : Stand) → has marks.now ≡ s.derived → has applied.now ≡ (λ i. mem i s.applied) → rule_marks.new ≡ over (marks_of_rules (program_in tables.now) (in_force (program_in tables.now)) s) rule_marks.old }
-    ensures steps_after { steps.new ≡ over (step_bytes narrow (map (step_by (program_in tables.now)) (take count row.now))) steps.old }
+    requires writable { Writable (held tables.now) marks.now fired.now (length fact_marks.old) (length rule_marks.old) (length steps.old) }
+    ensures fact_marks_after { (s : Stand) → has marks.now ≡ s.derived → barred_in marks.now ≡ rejected (held tables.now) s.applied → fact_marks.new ≡ over (marks_of_facts (held tables.now) s) fact_marks.old }
+    ensures rule_marks_after { (s : Stand) → has marks.now ≡ s.derived → has applied.now ≡ (λ i. mem i s.applied) → rule_marks.new ≡ over (marks_of_rules (held tables.now) (in_force (held tables.now)) s) rule_marks.old }
+    ensures steps_after { steps.new ≡ over (step_bytes narrow (map (step_by (held tables.now)) fired.now)) steps.old }
 {
-    let facts = facts_of(tables);
+    let facts = tables.facts();
     write_fact_marks(marks, facts, fact_marks);
     write_rule_marks(tables, applied, marks, rule_marks);
-    write_steps(tables, row, count, steps);
+    write_steps(tables, fired, steps);
 }

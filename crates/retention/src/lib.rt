@@ -1,4 +1,4 @@
-// The operations for callers in C and Rust: plain numbers by value, and no type of the engine. Each is the operation of the same name below,
+// The operations for callers in C and Rust: plain numbers by value, and no type of the engine. Each is an operation below,
 // with its answer as numbers. The crate retention_c exports them.
 
 #![tactic(auto)]
@@ -14,7 +14,7 @@ ghost use Rattle.layers.specs.Outcome.{layered_outcome};
 ghost use Rattle.generator.specs.Outcome.{load_outcome};
 ghost use Rattle.better.specs.Outcome.{choice_of};
 ghost use Rattle.panel_lines.specs.Text.{panel_text, shown};
-ghost use Rattle.replies.specs.Reply.{file_of, verdict_of_judged, verdict_of_checked, RunReply, run_reply, SearchReply, search_reply, GroundsReply, grounds_reply, LayeredReply, layered_reply, LoadReply, load_reply, reply_of_choice};
+ghost use Rattle.replies.specs.Reply.{file_of, verdict_of, RunReply, run_reply, SearchReply, search_reply, GroundsReply, grounds_reply, LayeredReply, layered_reply, LoadReply, load_reply, reply_of_choice};
 
 use replies::{ChoiceReply, Count, FileReply, RunCounts, Verdict};
 
@@ -22,7 +22,7 @@ use replies::{ChoiceReply, Count, FileReply, RunCounts, Verdict};
 pub fn retention_accept(file: &[u8]) -> FileReply
     ensures { result ≡ file_of (accept_of file.now) }
 {
-    replies::of_accept(reader::accept(file))
+    FileReply::from(reader::accept(file))
 }
 
 // Runs a file under an order.
@@ -35,7 +35,7 @@ pub fn retention_run(
 ) -> RunCounts
     ensures { ◌≡◌ {A = RunReply} (record { reply = result; fact_marks = fact_marks.new; rule_marks = rule_marks.new; steps = steps.new }) (run_reply (run_outcome file.now order.now fact_marks.old rule_marks.old steps.old)) }
 {
-    replies::of_ran(run::run(file, order, fact_marks, rule_marks, steps))
+    RunCounts::from(run::run(file, order, fact_marks, rule_marks, steps))
 }
 
 // Runs a file under an order, and keeps of its steps those that matter for a fact.
@@ -49,21 +49,21 @@ pub fn retention_grounds(
 ) -> Count
     ensures { ◌≡◌ {A = GroundsReply} (record { reply = result; fact_marks = fact_marks.new; rule_marks = rule_marks.new; steps = steps.new }) (grounds_reply (grounds_outcome file.now order.now fact fact_marks.old rule_marks.old steps.old)) }
 {
-    replies::of_grounds(keeping::grounds(file, order, fact, fact_marks, rule_marks, steps))
+    Count::from(keeping::grounds(file, order, fact, fact_marks, rule_marks, steps))
 }
 
 // Is a set stable for a file less some listed exception rules?
 pub fn retention_judge(file: &[u8], list: &[u8], set: &[u8]) -> Verdict
-    ensures { result ≡ verdict_of_judged (judged file.now list.now set.now) }
+    ensures { result ≡ verdict_of (judged file.now list.now set.now) }
 {
-    replies::of_judged(judge::judge(file, list, set))
+    Verdict::from(judge::judge(file, list, set))
 }
 
 // Is a row of steps a proof of a fact that a set admits?
 pub fn retention_check(file: &[u8], set: &[u8], fact: u32, proof: &[u8]) -> Verdict
-    ensures { result ≡ verdict_of_checked (checked file.now set.now fact proof.now) }
+    ensures { result ≡ verdict_of (checked file.now set.now fact proof.now) }
 {
-    replies::of_checked(proofcheck::check(file, set, fact, proof))
+    Verdict::from(proofcheck::check(file, set, fact, proof))
 }
 
 // Searches a file for its earliest stable set.
@@ -76,28 +76,28 @@ pub fn retention_search(
 ) -> RunCounts
     ensures { ◌≡◌ {A = SearchReply} (record { reply = result; fact_marks = fact_marks.new; rule_marks = rule_marks.new; steps = steps.new; order = order.new }) (search_reply (search_outcome file.now fact_marks.old rule_marks.old steps.old order.old)) }
 {
-    replies::of_searched(search::search(file, fact_marks, rule_marks, steps, order))
+    RunCounts::from(search::search(file, fact_marks, rule_marks, steps, order))
 }
 
 // The order by rank of a layered file.
 pub fn retention_layered(file: &[u8], order: &mut [u8]) -> Count
     ensures { ◌≡◌ {A = LayeredReply} (record { reply = result; order = order.new }) (layered_reply (layered_outcome file.now order.old)) }
 {
-    replies::of_layered(layers::layered(file, order))
+    Count::from(layers::layered(file, order))
 }
 
 // Which of two orders sets aside fewer rules in the run of a file. A reference cannot be handed to a caller in C, so it is told which of the two is handed back.
 pub fn retention_better(file: &[u8], first: &[u8], second: &[u8]) -> ChoiceReply
     ensures { result ≡ reply_of_choice (choice_of file.now first.now second.now) }
 {
-    replies::of_choice(better::choose(file, first, second))
+    ChoiceReply::from(better::choose(file, first, second))
 }
 
 // A test load: a file of so many rules over so many facts, drawn from a start.
 pub fn retention_load(start: u32, facts: u32, rules: u32, out: &mut [u8]) -> Count
     ensures { ◌≡◌ {A = LoadReply} (record { reply = result; out = out.new }) (load_reply (load_outcome start facts rules out.old)) }
 {
-    replies::of_loaded(generator::load(start, facts, rules, out))
+    Count::from(generator::load(start, facts, rules, out))
 }
 
 // The panel's text for a file, written where it fits. Answers its length.

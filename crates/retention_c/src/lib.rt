@@ -13,7 +13,7 @@ ghost use Rattle.layers.specs.Outcome.{layered_outcome};
 ghost use Rattle.generator.specs.Outcome.{load_outcome};
 ghost use Rattle.better.specs.Outcome.{choice_of};
 ghost use Rattle.panel_lines.specs.Text.{panel_text, shown};
-ghost use Rattle.replies.specs.Reply.{file_of, verdict_of_judged, verdict_of_checked, RunReply, run_reply, SearchReply, search_reply, GroundsReply, grounds_reply, LayeredReply, layered_reply, LoadReply, load_reply, reply_of_choice};
+ghost use Rattle.replies.specs.Reply.{file_of, verdict_of, RunReply, run_reply, SearchReply, search_reply, GroundsReply, grounds_reply, LayeredReply, layered_reply, LoadReply, load_reply, reply_of_choice};
 
 use replies::{ChoiceReply, Count, FileReply, RunCounts, Verdict};
 
@@ -57,7 +57,7 @@ pub extern "C" fn retention_grounds(
 // Is a set stable for a file less some listed exception rules?
 #[unsafe(no_mangle)]
 pub extern "C" fn retention_judge(file: &[u8], list: &[u8], set: &[u8]) -> Verdict
-    ensures { result ≡ verdict_of_judged (judged file.now list.now set.now) }
+    ensures { result ≡ verdict_of (judged file.now list.now set.now) }
 {
     retention::retention_judge(file, list, set)
 }
@@ -65,7 +65,7 @@ pub extern "C" fn retention_judge(file: &[u8], list: &[u8], set: &[u8]) -> Verdi
 // Is a row of steps a proof of a fact that a set admits?
 #[unsafe(no_mangle)]
 pub extern "C" fn retention_check(file: &[u8], set: &[u8], fact: u32, proof: &[u8]) -> Verdict
-    ensures { result ≡ verdict_of_checked (checked file.now set.now fact proof.now) }
+    ensures { result ≡ verdict_of (checked file.now set.now fact proof.now) }
 {
     retention::retention_check(file, set, fact, proof)
 }

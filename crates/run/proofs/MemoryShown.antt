@@ -22,8 +22,7 @@ use Rattle.items.specs.Write.{placed}
 use Rattle.items.proofs.PlacedBytes.{placed-front, placed-length}
 use Rattle.marking.specs.Marks.{barred, barred_in}
 use Rattle.marking.proofs.MarksPainted.{past_end, has-set, unmarked, length-paint, barred-kept}
-use Rattle.closure.specs.declared.derivation.Derivation.{Derivation}
-use Rattle.closure.specs.declared.derivation.Derivation.TheVariants.{Closed, Barred}
+use Rattle.std.specs.Prelude.{Option, Some, IsSome}
 use Rattle.closure.specs.Room.{Room}
 use Rattle.closure.specs.Deriving.{Derived}
 use Rattle.closure.proofs.RulesFired.{derive-past, has-derived}
@@ -43,7 +42,7 @@ unbarred n = fun_ext (λ i. go n i)
     go (suc m) zero = refl
     go (suc m) (suc i) = go m i
 
--- Empty tables hold the outset.
+-- Zeros hold the outset.
 pub outset-held : (P : Program) → Held P outset (replicate (max_facts narrow) 0) (replicate (max_facts narrow) 0) (replicate max_rules 0) 0
 unfolding rejected
 outset-held P =
@@ -85,12 +84,9 @@ module _ {P : Program} (b : Bounded P) (few : P.facts < max_facts narrow) {marks
     none_met : meets P (mask_in index) (barred_in marks) (has marks) ≡ false
     none_met = clear-meets P (mask_in index) (barred_in marks) (has marks) (λ f t. none_barred f)
 
-    module _ {r : Derivation} {marks' missing' fired' : List ℕ} (d : Derived P (mask_in index) marks fired 0 r marks' missing' fired') where
-      closes : r ≡ Closed (0 + length (fired_from P (mask_in index) (has marks)))
+    module _ {r : Option ℕ} {marks' missing' fired' : List ℕ} (d : Derived P (mask_in index) marks fired 0 r marks' missing' fired') where
+      closes : r ≡ Some (0 + length (fired_from P (mask_in index) (has marks)))
       closes = rw none_met at d.answer
-
-      pub never_barred : r ≡ Barred → ⊥
-      never_barred e = let z : ◌≡◌ {A = ℕ} 0 1 = cc (e, closes) in omega arith
 
       abbrev rules : List ℕ
       rules = fired_from P (plain_rules P (in_force P)) nothing
@@ -144,10 +140,8 @@ module _ {P : Program} (b : Bounded P) (few : P.facts < max_facts narrow) {marks
           front : take (0 + length rules) fired' ≡ rules
           front = ap (take (0 + length rules)) row-then ∙ placed-front rules fired 0 enough
 
-      pub began : (n : ℕ) → r ≡ Closed n → Began P index marks' missing' fired' n
-      began n e =
-          let same : n ≡ 0 + length (fired_from P (mask_in index) (has marks)) = cc (e, closes) in
-          rw (same, same_rules) begun
+      pub began : IsSome r × ((n : ℕ) → r ≡ Some n → Began P index marks' missing' fired' n)
+      began = (rw closes refl, λ n e. let same : n ≡ 0 + length (fired_from P (mask_in index) (has marks)) = cc (e, closes) in rw (same, same_rules) begun)
 
 -- A rule more is applied.
 swapped : (a b : Bool) → a || b ≡ b || (a || false)

@@ -10,12 +10,11 @@ use Rattle.items.specs.declared.refusal.Refusal.{Refusal}
 use Rattle.items.specs.Item.{narrow, step_width, max_rules}
 use Rattle.items.proofs.FirstNo.{both_yes}
 use Rattle.tables.specs.Layout.{program_in}
-use Rattle.reader.specs.declared.answer.Asked.TheVariants as asked
 use Rattle.reader.specs.Questions.{program_of}
 use Rattle.reader.specs.Asked.{file_asked}
 use Rattle.reader.specs.Scanned.{Tabled}
 use Rattle.reader.proofs.Accepted.{all_asked}
-use Rattle.questions.specs.declared.answer.Answer.TheVariants.{Yes, No}
+use Rattle.std.specs.Prelude.{Ok, Err}
 use Rattle.questions.specs.Questions.{named_in, list_questions, order_questions, order_no, buffer_questions, run_questions, run_no, run_of}
 use Rattle.questions.specs.Parts.{tabled_no}
 use Rattle.questions.specs.Answer.{answer_of}
@@ -34,7 +33,7 @@ may_order P few order e =
 
 module _ (P : Program) (few : count P ≤ max_rules) (order : List ℕ) (facts rules steps : ℕ) where
   -- what a run may rely on where all of them got yes
-  pub may_run : Yes ≡ answer_of (tabled_no P order facts rules steps) → MayRun P (named_in order) facts rules steps
+  pub may_run : Ok tt ≡ answer_of (tabled_no P order facts rules steps) → MayRun P (named_in order) facts rules steps
   unfolding buffer_questions
   may_run e =
       let a = both_yes (order_questions (exception P) (count P) order) _ (said_yes (tabled_no P order facts rules steps) e) in
@@ -50,7 +49,7 @@ module _ (P : Program) (few : count P ≤ max_rules) (order : List ℕ) (facts r
 
 -- The ways of the questions before a run.
 module _ (file order : List ℕ) (facts rules steps : ℕ) where
-  pub run-file_no : (r : Refusal) → file_asked file ≡ asked.No r → run_no file order facts rules steps ≡ some r
+  pub run-file_no : (r : Refusal) → file_asked file ≡ Err r → run_no file order facts rules steps ≡ some r
   unfolding run_questions
   run-file_no r e = file_refused file _ r e
 
@@ -59,10 +58,10 @@ module _ (file order : List ℕ) (facts rules steps : ℕ) where
     unfolding run_questions
     same_no = rw p.tabled.program (file_accepted file _ p.accepted)
 
-    pub run-no : (r : Refusal) → No r ≡ answer_of (tabled_no (program_in T) order facts rules steps) → run_no file order facts rules steps ≡ some r
+    pub run-no : (r : Refusal) → Err r ≡ answer_of (tabled_no (program_in T) order facts rules steps) → run_no file order facts rules steps ≡ some r
     run-no r e = same_no ∙ said_no _ r e
 
-    pub run-yes : Yes ≡ answer_of (tabled_no (program_in T) order facts rules steps) → ◌≡◌ {A = Option Refusal} (run_no file order facts rules steps) none
+    pub run-yes : Ok tt ≡ answer_of (tabled_no (program_in T) order facts rules steps) → ◌≡◌ {A = Option Refusal} (run_no file order facts rules steps) none
     run-yes e = same_no ∙ said_yes _ e
 
 -- The run of the program in the tables is the run of the file.

@@ -23,12 +23,10 @@ run-counted {T} wf order {stages = stages} {n = n} h e =
     record { stages_counted = e; steps_counted = steps; few_stages = omega (arith, p.staged, p.room); few_steps = omega (arith, h.holds.fits) }
 
 -- The rules of a row, no more than the run has steps, may be written as steps beside its marks.
-pub may_write : {P : Program} {s : Stand} {marks fired order : List ℕ} {n facts rules steps : ℕ} → P.facts < max_facts narrow → Holds P s marks fired n → MayRun P order facts rules steps → (row : List ℕ) (m : ℕ) → length row ≡ max_facts narrow → m ≤ n → ((k : ℕ) → k < m → get_or row k 0 < count P) → Writable P marks row m facts rules steps
-may_write few h may row m places less known =
+pub may_write : {P : Program} {s : Stand} {marks fired order : List ℕ} {n facts rules steps : ℕ} → P.facts < max_facts narrow → Holds P s marks fired n → MayRun P order facts rules steps → (row : List ℕ) → length row ≤ n → ((k : ℕ) → k < length row → get_or row k 0 < count P) → Writable P marks row facts rules steps
+may_write few h may row less known =
     record {
       marks_places = omega (arith, h.marks_places);
-      row_places = places;
-      few = omega (arith, h.fits);
       known = known;
       facts_fit = may.facts_fit;
       rules_fit = may.rules_fit;

@@ -6,9 +6,10 @@ use mathlib.Core.List.{List, [], ◌∷◌, map}
 use mathlib.Core.Logic.{⊎_elim}
 use native.Mathlib.Omega.{arith}
 use borrow.Author.Tests.{lt-ltb}
-use lib.ListN.{length, get_or, take, set, length-set, length-append, length-map}
-use lib.Seq.{slice, length-slice, length-take-le, get_or-take}
+use lib.ListN.{length, get_or, take, drop, set, length-set, length-append, length-map}
+use lib.Seq.{slice, length-slice, length-take-le}
 use lib.Dec.{ltb}
+use Rattle.std.proofs.lemmas.List.{drop-take}
 use Rattle.theory.specs.Rule.{mem, Program, FactSet, nothing, in_force, count, plain_rules}
 use Rattle.theory.specs.Conditions.{Bounded}
 use Rattle.theory.specs.Walk.{after}
@@ -24,23 +25,23 @@ use Rattle.bits.specs.Flags.{Flags}
 use Rattle.closure.specs.Steps.{step_bytes}
 use Rattle.premises.specs.Premises.{Places, in_row, ripe, roused, Asked, Counted}
 use Rattle.premises.specs.Filling.{Listed}
-use Rattle.premises.specs.Waking.{Span}
+use Rattle.premises.specs.Waking.{RulesAlone}
 use Rattle.stage.specs.Memory.{Holds}
 use Rattle.stage.specs.Look.{NamesOnly, Looking, Stands, Taken, Ended}
-use Rattle.run.specs.Stands.{Began, Held, Ordered}
+use Rattle.run.specs.Stands.{Began, Held, MayOrder}
 use Rattle.run.proofs.FewSteps.{Paced, start-paced, stage-paced}
 use Rattle.run.proofs.MemoryShown.{more-applied}
 use Rattle.run.proofs.NextLook.{next-awake, start-awake}
 
--- What is promised of waking: the facts of the rules from one place up to another enter the set.
-abbrev pub Wakes : Program → List ℕ → List ℕ → ℕ → ℕ → List ℕ → List ℕ → List ℕ → List ℕ → Type 0
-Wakes P asks fired from to missing awake missing' awake' = (R : Places) (S : FactSet) (p : ℕ → Bool) → Asked P R asks → Counted P R S missing → Flags p awake → Fresh P S (slice from to fired) → Counted P R (after (conclude P) S (slice from to fired)) missing' × Flags (roused P R S (after (conclude P) S (slice from to fired)) p) awake'
+-- What is promised of waking: the facts of the rules of a list enter the set.
+abbrev pub Wakes : Program → List ℕ → List ℕ → List ℕ → List ℕ → List ℕ → List ℕ → Type 0
+Wakes P asks fired missing awake missing' awake' = (R : Places) (S : FactSet) (p : ℕ → Bool) → Asked P R asks → Counted P R S missing → Flags p awake → Fresh P S fired → Counted P R (after (conclude P) S fired) missing' × Flags (roused P R S (after (conclude P) S fired) p) awake'
 
 -- The memory holds a stand from which the run goes on to its end, with the places that are awake there and the premises that each place lacks.
-pub record Standing (P : Program) (row order asks marks missing fired applied lacks awake : List ℕ) (stages n : ℕ) : Type 0 where
+pub record Standing (P : Program) (order asks marks missing fired applied lacks awake : List ℕ) (stages n : ℕ) : Type 0 where
   pub at : Stand
   pub places : ℕ → Bool
-  pub looking : Looking P row order marks missing fired n awake at places
+  pub looking : Looking P order marks missing fired n awake at places
   pub asked : Asked P (in_row order) asks
   pub lacking : Counted P (in_row order) at.derived lacks
   pub applied_shown : has applied ≡ (λ i. mem i at.applied)
@@ -49,63 +50,48 @@ pub record Standing (P : Program) (row order asks marks missing fired applied la
   pub paced : Paced P at
   pub onward : finish P (in_force P) order at ≡ run P (in_force P) order
 
--- An order that was read into a row.
-pub order-read : {P : Program} {row order : List ℕ} {names : ℕ} → take names row ≡ order → names ≡ length order → length row ≡ max_rules → NamesOnly P order → length order ≤ max_rules → Ordered P row names
-order-read e n l only few = record { places = l; few = omega (arith, n, few); names_only = rw e only }
-
--- An order in a row is a row of rules, and its front is the order.
-module _ {P : Program} {row : List ℕ} {names : ℕ} (w : Ordered P row names) where
-  pub rules-listed : Listed P row names
-  rules-listed =
-      record {
-        places = w.places;
-        few = w.few;
-        known = all_of (λ i. ltb i (count P)) (take names row) (λ i m. lt-ltb i (count P) (exception-known P (in_force P) i (w.names_only i m)));
-      }
-
-  pub order-in_row : take (length (take names row)) row ≡ take names row
-  order-in_row = ap (λ (n : ℕ). take n row) (length-take-le names row (omega (arith, w.places, w.few)))
+-- An order is a row of rules.
+pub rules-listed : {P : Program} {order : List ℕ} → MayOrder P order → Listed P order
+rules-listed {P} {order} w =
+    record {
+      few = w.1;
+      known = all_of (λ i. ltb i (count P)) order (λ i m. lt-ltb i (count P) (exception-known P (in_force P) i (w.0 i m)));
+    }
 
 -- What a stand that is held tells of its steps.
 module _ {P : Program} {s : Stand} {marks fired : List ℕ} {n : ℕ} (few : P.facts < max_facts narrow) (w : Holds P s marks fired n) where
   inside : n ≤ length fired
   inside = omega (arith, w.fits, w.fired_places)
 
+  pub fired-length : length (take n fired) ≡ n
+  fired-length = length-take-le n fired inside
+
   pub steps_counted : n ≡ step_count s
-  steps_counted = sym (ap length w.traced ∙ length-map (take n fired) (step_by P) ∙ length-take-le n fired inside)
+  steps_counted = sym (ap length w.traced ∙ length-map (take n fired) (step_by P) ∙ fired-length)
 
   pub steps-there : (row : List ℕ) {row' : List ℕ} → row' ≡ over (step_bytes narrow (map (step_by P) (take n fired))) row → row' ≡ over (step_bytes narrow s.trace) row
   steps-there row e = rw w.traced e
 
-  pub fired-below : (k : ℕ) → k < n → get_or fired k 0 < count P
-  fired-below k h =
-      w.known (get_or fired k 0)
-      (ap (λ (i : ℕ). mem i (take n fired)) (sym (get_or-take n fired k 0 h)) ∙ get_or-mem (take n fired) k (omega (arith, length-take-le n fired inside)))
+  pub rules-known : (k : ℕ) → k < length (take n fired) → get_or (take n fired) k 0 < count P
+  rules-known k h = w.known _ (get_or-mem (take n fired) k h)
 
 -- The start: D is closed, and the places whose premises are in D are awake.
 module _ {P : Program} {index marks missing fired : List ℕ} {n : ℕ} (few : P.facts < max_facts narrow) (g : Began P index marks missing fired n) where
-  pub start-span : Span P fired 0 n
-  start-span =
-      record {
-        places = g.holds.fired_places;
-        low = omega arith;
-        high = omega (arith, g.holds.fits);
-        known = all_of (λ i. ltb i (count P)) (slice 0 n fired) (λ i m. lt-ltb i (count P) (g.holds.known i m));
-      }
+  pub start-rules : RulesAlone P (take n fired)
+  start-rules = record { known = all_of (λ i. ltb i (count P)) (take n fired) (λ i m. lt-ltb i (count P) (g.holds.known i m)) }
 
-  same_set : after (conclude P) nothing (slice 0 n fired) ≡ (start P (in_force P)).derived
+  same_set : after (conclude P) nothing (take n fired) ≡ (start P (in_force P)).derived
   unfolding derive
   same_set = ap (after (conclude P) nothing) g.rules
 
-  pub standing_start : {row order asks applied lacks awake lacks' awake' : List ℕ} → Bounded P → take (length order) row ≡ order → NamesOnly P order → Asked P (in_row order) asks → Counted P (in_row order) nothing lacks → Flags (ripe P (in_row order) nothing) awake → Wakes P asks fired 0 n lacks awake lacks' awake' → has applied ≡ (λ i. mem i []) → length applied ≡ max_rules → Standing P row order asks marks missing fired applied lacks' awake' 0 n
-  standing_start {order = order} b in-row only asked counts flags wakes shown places =
+  pub standing_start : {order asks applied lacks awake lacks' awake' : List ℕ} → Bounded P → NamesOnly P order → Asked P (in_row order) asks → Counted P (in_row order) nothing lacks → Flags (ripe P (in_row order) nothing) awake → Wakes P asks (take n fired) lacks awake lacks' awake' → has applied ≡ (λ i. mem i []) → length applied ≡ max_rules → Standing P order asks marks missing fired applied lacks' awake' 0 n
+  standing_start {order = order} b only asked counts flags wakes shown places =
       let woken = wakes (in_row order) nothing (ripe P (in_row order) nothing) asked counts flags (rw g.rules (fired-fresh P (plain_rules P (in_force P)) nothing)) in
       record {
         at = start P (in_force P);
         places = roused P (in_row order) nothing (start P (in_force P)).derived (ripe P (in_row order) nothing);
         looking =
             record {
-              in-row = in-row;
               names_only = only;
               holds = g.holds;
               rests = g.rests;
@@ -121,12 +107,12 @@ module _ {P : Program} {index marks missing fired : List ℕ} {n : ℕ} (few : P
         onward = sym (run-finish P (in_force P) order);
       }
 
-module _ {P : Program} {row order asks marks missing fired applied lacks awake : List ℕ} {stages n : ℕ} (w : Standing P row order asks marks missing fired applied lacks awake stages n) where
+module _ {P : Program} {order asks marks missing fired applied lacks awake : List ℕ} {stages n : ℕ} (w : Standing P order asks marks missing fired applied lacks awake stages n) where
   pub few_stages : stages ≤ P.facts
   few_stages = omega (arith, w.paced.room, w.paced.staged, w.counted)
 
-  pub stands : Stands P row marks missing fired n awake
-  stands = record { order = order; at = w.at; places = w.places; looking = w.looking }
+  pub stands : Stands P order marks missing fired n awake
+  stands = record { at = w.at; places = w.places; looking = w.looking }
 
   -- without an eligible rule the run has ended
   module _ {marks' fired' : List ℕ} (ended : Ended P order w.at n marks' fired') where
@@ -154,7 +140,7 @@ module _ {P : Program} {row order asks marks missing fired applied lacks awake :
     last-inside = omega (arith, taken.holds.fits, taken.holds.fired_places)
 
     -- a stage takes at least one step
-    more-steps : n < m
+    pub more-steps : n < m
     more-steps = omega (arith, length-slice n m fired' last-inside, ap length taken.added)
 
     fresh : Fresh P w.at.derived (slice n m fired')
@@ -165,30 +151,27 @@ module _ {P : Program} {row order asks marks missing fired applied lacks awake :
         ⊎_elim (λ q. rw q rule_known) (fired-known P (plain_rules P (in_force P)) (conclude P w.at.derived i) j)
         (mem-cases j i (fired_from P (plain_rules P (in_force P)) (conclude P w.at.derived i)) (ap (mem j) (sym taken.added) ∙ u))
 
-    pub stage-span : Span P fired' n m
-    stage-span =
-        record {
-          places = taken.holds.fired_places;
-          low = omega (arith, more-steps);
-          high = omega (arith, taken.holds.fits);
-          known = all_of (λ j. ltb j (count P)) (slice n m fired') (λ j u. lt-ltb j (count P) (added_known j u));
-        }
+    -- the rules of the stage, as a part of the row of those fired
+    part : slice n m fired' ≡ take (m - n) (drop n fired')
+    part = let whole : m ≡ n + (m - n) = omega (arith, more-steps) in ap (λ (k : ℕ). drop n (take k fired')) whole ∙ drop-take n (m - n) fired'
+
+    pub stage-rules : RulesAlone P (take (m - n) (drop n fired'))
+    stage-rules = rw (← part) (record { known = all_of (λ j. ltb j (count P)) (slice n m fired') (λ j u. lt-ltb j (count P) (added_known j u)) })
 
     same_next : after (conclude P) w.at.derived (slice n m fired') ≡ next.derived
     unfolding derive
     same_next = ap (after (conclude P) w.at.derived) taken.added
 
     -- the facts of the stage entered: the run stands one stage further on
-    module _ (b : Bounded P) (small : count P ≤ max_rules) {lacks' awake'' : List ℕ} (wakes : Wakes P asks fired' n m lacks awake' lacks' awake'') where
-      pub standing_on : Standing P row order asks marks' missing' fired' (set applied i 1) lacks' awake'' (stages + 1) m
+    module _ (b : Bounded P) (small : count P ≤ max_rules) {lacks' awake'' : List ℕ} (wakes : Wakes P asks (take (m - n) (drop n fired')) lacks awake' lacks' awake'') where
+      pub standing_on : Standing P order asks marks' missing' fired' (set applied i 1) lacks' awake'' (stages + 1) m
       standing_on =
-          let woken = wakes (in_row order) w.at.derived taken.places w.asked w.lacking taken.flags fresh in
+          let woken = (rw (← part) at wakes) (in_row order) w.at.derived taken.places w.asked w.lacking taken.flags fresh in
           record {
             at = next;
             places = roused P (in_row order) w.at.derived next.derived taken.places;
             looking =
                 record {
-                  in-row = w.looking.in-row;
                   names_only = w.looking.names_only;
                   holds = taken.holds;
                   rests = taken.rests;

@@ -28,12 +28,6 @@ pub record Held (P : Program) (s : Stand) (marks fired applied : List ℕ) (n : 
   pub applied_shown : has applied ≡ (λ i. mem i s.applied)
   pub applied_places : length applied ≡ max_rules
 
--- The first numbers of a row are an order: exception rules of the program alone.
-pub record Ordered (P : Program) (row : List ℕ) (names : ℕ) : Type 0 where
-  pub places : length row ≡ max_rules
-  pub few : names ≤ max_rules
-  pub names_only : NamesOnly P (take names row)
-
 -- The counts of a run. Both fit in a number of two bytes.
 pub record RunCounted (s : Stand) (stages steps : ℕ) : Type 0 where
   pub stages_counted : stages ≡ stage_count s

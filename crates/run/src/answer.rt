@@ -1,8 +1,6 @@
-use items::refusal::Refusal;
-
-// What a run answers: the counts of its stages and of its steps, or the first no.
+// What a run answers: the counts of its stages and of its steps.
 #[derive(Clone, Copy)]
-pub enum Ran {
-    Done { stages: u16, steps: u16 },
-    Refused(Refusal),
+pub struct Ran {
+    pub stages: u16,
+    pub steps: u16,
 }

@@ -1,13 +1,13 @@
 -- The outcome of a search, by what its questions came to and by the set that was found.
 use Prim.Native.Nat.{ℕ}
 use mathlib.Core.Path.{◌≡◌, refl, sym, ap, ◌∙◌}
-use mathlib.Core.Bool.{Bool, true, false}
+use native.Mathlib.Omega.{arith}
 use mathlib.Core.List.{List, [], ◌∷◌}
 use mathlib.Core.Option.{Option, none, some}
 use lib.ListN.{length}
+use Rattle.std.specs.Prelude as found
 use Rattle.theory.specs.Rule.{FactSet, in_force}
 use Rattle.theory.specs.Search.{search}
-use Rattle.theory.proofs.Bools.{never}
 use Rattle.items.specs.declared.refusal.Refusal.{Refusal}
 use Rattle.items.specs.declared.refusal.Refusal.TheVariants.{NoStableSet}
 use Rattle.items.specs.Item.{has}
@@ -18,6 +18,9 @@ use Rattle.earliest.specs.Root.{Shown}
 use Rattle.items.specs.Question.{first_no}
 use Rattle.items.proofs.FirstNo.{first-no, first-yes}
 use Rattle.search.specs.Outcome.{SearchOutcome, found_at, refused_with, taken_set, search_outcome}
+
+none_found : (r : found.Option (List ℕ)) (bytes : List ℕ) → r ≡ found.None → r ≡ found.Some bytes → ⊥
+none_found r bytes n s = let z : ◌≡◌ {A = ℕ} 0 1 = cc in omega arith
 
 module _ (file facts rules steps order : List ℕ) where
   -- by the first no of all questions
@@ -45,17 +48,20 @@ module _ (file facts rules steps order : List ℕ) where
         let all_yes : ◌≡◌ {A = Option Refusal} (search_no file (length facts) (length rules) (length steps) (length order)) none = last-asked ∙ rw (q, some_stable) in
         sym (rw (all_yes, search_outcome, q, taken_set))
 
-    -- by the answer whether there is a set, and the set that the bytes show
-    pub searched_none : (bytes : List ℕ) (r : Bool) → r ≡ false → Shown (search (program_of file) (in_force (program_of file))) r bytes → ◌≡◌ {A = SearchOutcome} (refused_with NoStableSet facts rules steps order) (search_outcome file facts rules steps order)
-    searched_none bytes r f s = go (search (program_of file) (in_force (program_of file))) refl s
+    -- by what was found: nothing, or the bytes that show the set
+    pub searched_none : (r : found.Option (List ℕ)) → r ≡ found.None → Shown (search (program_of file) (in_force (program_of file))) r → ◌≡◌ {A = SearchOutcome} (refused_with NoStableSet facts rules steps order) (search_outcome file facts rules steps order)
+    searched_none r f s = go (search (program_of file) (in_force (program_of file))) refl s
       where
-        go : (o : Option FactSet) → search (program_of file) (in_force (program_of file)) ≡ o → Shown o r bytes → ◌≡◌ {A = SearchOutcome} (refused_with NoStableSet facts rules steps order) (search_outcome file facts rules steps order)
+        go : (o : Option FactSet) → search (program_of file) (in_force (program_of file)) ≡ o → Shown o r → ◌≡◌ {A = SearchOutcome} (refused_with NoStableSet facts rules steps order) (search_outcome file facts rules steps order)
         go none q w = searched_without q
-        go (some M) q w = never w.0 f
+        go (some M) q w = absurd (none_found r w.0 f w.1)
 
-    pub searched_found : (bytes : List ℕ) (r : Bool) → r ≡ true → Shown (search (program_of file) (in_force (program_of file))) r bytes → ◌≡◌ {A = SearchOutcome} (found_at (program_of file) (has bytes) facts rules steps order) (search_outcome file facts rules steps order)
-    searched_found bytes r t s = go (search (program_of file) (in_force (program_of file))) refl s
+    pub searched_found : (r : found.Option (List ℕ)) (bytes : List ℕ) → r ≡ found.Some bytes → Shown (search (program_of file) (in_force (program_of file))) r → ◌≡◌ {A = SearchOutcome} (found_at (program_of file) (has bytes) facts rules steps order) (search_outcome file facts rules steps order)
+    searched_found r bytes t s = go (search (program_of file) (in_force (program_of file))) refl s
       where
-        go : (o : Option FactSet) → search (program_of file) (in_force (program_of file)) ≡ o → Shown o r bytes → ◌≡◌ {A = SearchOutcome} (found_at (program_of file) (has bytes) facts rules steps order) (search_outcome file facts rules steps order)
-        go none q w = never t w
-        go (some M) q w = ap (λ (N : FactSet). found_at (program_of file) N facts rules steps order) w.1 ∙ searched_with M q
+        go : (o : Option FactSet) → search (program_of file) (in_force (program_of file)) ≡ o → Shown o r → ◌≡◌ {A = SearchOutcome} (found_at (program_of file) (has bytes) facts rules steps order) (search_outcome file facts rules steps order)
+        go none q w = absurd (none_found r bytes w t)
+        go (some M) q w =
+            let e = w.1 in
+            let same : bytes ≡ w.0 = cc in
+            ap (λ (N : FactSet). found_at (program_of file) N facts rules steps order) (ap has same ∙ w.3) ∙ searched_with M q

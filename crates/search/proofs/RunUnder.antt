@@ -6,8 +6,9 @@ use mathlib.Core.List.{List}
 use mathlib.Core.Option.{Option, none}
 use lib.ListN.{length, take, drop, length-append}
 use lib.Seq.{take-append_seam}
+use Rattle.std.specs.Prelude.{Ok}
 use Rattle.theory.specs.Rule.{Program, FactSet, in_force, count, exception}
-use Rattle.theory.specs.Run.{Stand, run, stage_count, step_count}
+use Rattle.theory.specs.Run.{run}
 use Rattle.theory.specs.Stable.{order_for}
 use Rattle.theory.proofs.Search.{order-once, order-only}
 use Rattle.items.specs.declared.refusal.Refusal.{Refusal}
@@ -21,13 +22,11 @@ use Rattle.questions.specs.Answer.{answer_of}
 use Rattle.items.proofs.FirstNo.{all_yes}
 use Rattle.questions.proofs.Orders.{naming-names, once-yes}
 use Rattle.run.specs.declared.answer.Ran.{Ran}
-use Rattle.run.specs.declared.answer.Ran.TheVariants.{Done, Refused}
 use Rattle.run.specs.Outcome.{RunOutcome, run_written}
 use Rattle.run.specs.Stands.{MayRun}
 use Rattle.items.specs.Write.{over}
 use Rattle.items.specs.Item.{narrow}
 use Rattle.run.proofs.RunAsked.{may_run}
-use Rattle.search.specs.declared.answer.Searched.TheVariants.{Found}
 use Rattle.search.specs.Outcome.{SearchOutcome, search_written, found_at}
 use Rattle.search.proofs.SearchAsked.{AllYesses}
 
@@ -41,14 +40,14 @@ pub front-inside : (bytes before after : List ℕ) (n : ℕ) → (after ≡ over
 front-inside bytes before after n o =
     omega (arith, ap length o.0, o.1, length-append bytes (drop (length bytes) before))
 
--- So the run under it refuses nothing, and what it leaves is what the search leaves.
+-- So the run under it may be made, and what it leaves is what the search leaves.
 module _ (file facts rules steps order : List ℕ) (y : AllYesses file (length facts) (length rules) (length steps) (length order)) (M : FactSet) where
   tabled_yes : ◌≡◌ {A = Option Refusal} (tabled_no (program_of file) (naming (order_for (program_of file) (in_force (program_of file)) M)) (length facts) (length rules) (length steps)) none
   tabled_yes =
       let P = program_of file in
       all_yes (order_questions (exception P) (count P) (naming (order_for P (in_force P) M))) (buffer_questions narrow P (length facts) (length rules) (length steps)) (search-order_yes P M) y.buffers_fit
 
-  -- the order as it was written; then the answer and the buffers as the run left them
+  -- the order as it was written; then the counts and the buffers as the run left them
   module _ (order' : List ℕ) (n : ℕ) (o : (order' ≡ over (naming (order_for (program_of file) (in_force (program_of file)) M)) order) × (n ≡ length (naming (order_for (program_of file) (in_force (program_of file)) M)))) where
     front : take n order' ≡ naming (order_for (program_of file) (in_force (program_of file)) M)
     front =
@@ -61,31 +60,19 @@ module _ (file facts rules steps order : List ℕ) (y : AllYesses file (length f
         (ap answer_of (sym tabled_yes)
         ∙ ap₂ (λ (bytes : List ℕ) (P : Program). answer_of (tabled_no P bytes (length facts) (length rules) (length steps))) (sym front) (sym t.program))
 
-    module _ (answer : Ran) (facts' rules' steps' : List ℕ) (e : ◌≡◌ {A = RunOutcome} (record { answer = answer; fact_marks = facts'; rule_marks = rules'; steps = steps' }) (run_written (program_of file) (run_of file (take n order')) facts rules steps)) where
-      ended : ◌≡◌ {A = RunOutcome} (record { answer = answer; fact_marks = facts'; rule_marks = rules'; steps = steps' }) (run_written (program_of file) (run (program_of file) (in_force (program_of file)) (order_for (program_of file) (in_force (program_of file)) M)) facts rules steps)
+    module _ (ran : Ran) (facts' rules' steps' : List ℕ) (e : ◌≡◌ {A = RunOutcome} (record { answer = Ok ran; fact_marks = facts'; rule_marks = rules'; steps = steps' }) (run_written (program_of file) (run_of file (take n order')) facts rules steps)) where
+      ended : ◌≡◌ {A = RunOutcome} (record { answer = Ok ran; fact_marks = facts'; rule_marks = rules'; steps = steps' }) (run_written (program_of file) (run (program_of file) (in_force (program_of file)) (order_for (program_of file) (in_force (program_of file)) M)) facts rules steps)
       ended =
           let row = order_for (program_of file) (in_force (program_of file)) M in
           e
           ∙ ap (λ (bytes : List ℕ). run_written (program_of file) (run_of file bytes) facts rules steps) front
           ∙ ap (λ (rs : List ℕ). run_written (program_of file) (run (program_of file) (in_force (program_of file)) rs) facts rules steps) (naming-names row)
 
-      pub not-refused : (r : Refusal) → answer ≡ Refused r → ⊥
-      unfolding run_written
-      not-refused r q =
-          let a = ap (λ (l : RunOutcome). l.answer) ended in
-          let z : ◌≡◌ {A = ℕ} 0 1 = cc in
-          omega arith
-
-      pub found_there : (stages taken : ℕ) → answer ≡ Done stages taken → ◌≡◌ {A = SearchOutcome} (record { answer = Found stages taken; fact_marks = facts'; rule_marks = rules'; steps = steps'; order = order' }) (found_at (program_of file) M facts rules steps order)
+      pub found_there : ◌≡◌ {A = SearchOutcome} (record { answer = Ok ran; fact_marks = facts'; rule_marks = rules'; steps = steps'; order = order' }) (found_at (program_of file) M facts rules steps order)
       unfolding run_written search_written
-      found_there stages taken q =
-          let end : Stand = run (program_of file) (in_force (program_of file)) (order_for (program_of file) (in_force (program_of file)) M) in
-          let a : answer ≡ Done (stage_count end) (step_count end) = ap (λ (l : RunOutcome). l.answer) ended in
-          let s : stages ≡ stage_count end = cc in
-          let t : taken ≡ step_count end = cc in
-          λ j.
+      found_there = λ j.
           record {
-            answer = Found (s j) (t j);
+            answer = (ended j).answer;
             fact_marks = (ended j).fact_marks;
             rule_marks = (ended j).rule_marks;
             steps = (ended j).steps;

@@ -7,6 +7,7 @@ use mathlib.Core.Option.{Option, none, some}
 use native.Mathlib.Omega.{arith}
 use borrow.Author.Tests.{le-leb, lt-leb, leb-true, ltb-true, ltb-false, le-ltb}
 use lib.Dec.{leb, ltb}
+use Rattle.std.specs.Prelude.{Ok, Err}
 use Rattle.theory.specs.Rule.{mem, up_to, Program, count, rule, constraint_fact, in_force}
 use Rattle.theory.specs.Conditions.{every_rule}
 use Rattle.theory.proofs.Bools.{and_left, and_right, and_both, not_of_false}
@@ -20,10 +21,8 @@ use Rattle.items.proofs.FirstNo.{first-no, first-yes, both_yes}
 use Rattle.tables.specs.Layout.{program_in}
 use Rattle.reader.specs.declared.answer.FileCounts.{FileCounts}
 use Rattle.reader.specs.Questions.{program_of, file_questions, file_no, exceptions, constraint_facts}
-use Rattle.reader.specs.declared.answer.Asked.TheVariants as asked
 use Rattle.reader.specs.Asked.{constrained_facts, counts_of, file_asked}
 use Rattle.reader.proofs.Accepted.{all_asked}
-use Rattle.questions.specs.declared.answer.Answer.TheVariants.{Yes, No}
 use Rattle.questions.specs.Answer.{answer_of}
 use Rattle.questions.specs.Questions.{buffer_questions, buffers_no, limit_questions, early_questions}
 use Rattle.questions.specs.Parts.{limits_no, early_no}
@@ -50,16 +49,16 @@ module _ (P : Program) (counts : FileCounts) (order : ℕ) (e : counts ≡ count
   named : counts.exceptions ≡ exceptions P
   named = ap (λ (c : FileCounts). c.exceptions) e
 
-  pub order-short : order < name_width * counts.exceptions → No OrderShort ≡ answer_of (limits_no P order)
+  pub order-short : order < name_width * counts.exceptions → Err OrderShort ≡ answer_of (limits_no P order)
   unfolding limit_questions
   order-short h = rw (lt-leb (name_width * exceptions P) order (omega (arith, named)))
 
   module _ (l : name_width * counts.exceptions ≤ order) where
-    pub too_many : ltb max_guessed (constraint_facts P) ≡ true → No TooManyConstraints ≡ answer_of (limits_no P order)
+    pub too_many : ltb max_guessed (constraint_facts P) ≡ true → Err TooManyConstraints ≡ answer_of (limits_no P order)
     unfolding limit_questions
     too_many h = rw (le-leb (name_width * exceptions P) order (omega (arith, named)), lt-leb (constraint_facts P) max_guessed (ltb-true _ _ h))
 
-    pub within_limits : ltb max_guessed (constraint_facts P) ≡ false → Yes ≡ answer_of (limits_no P order)
+    pub within_limits : ltb max_guessed (constraint_facts P) ≡ false → Ok tt ≡ answer_of (limits_no P order)
     unfolding limit_questions
     within_limits h = rw (le-leb (name_width * exceptions P) order (omega (arith, named)), le-leb (constraint_facts P) max_guessed (ltb-false _ _ h))
 
@@ -68,10 +67,10 @@ module _ (P : Program) (facts rules steps order : ℕ) where
   abbrev pub later_no : Option Refusal
   later_no = first_no (buffer_questions narrow P facts rules steps ++ limit_questions P order)
 
-  pub buffers_refuse : (r : Refusal) → No r ≡ answer_of (buffers_no narrow P facts rules steps) → No r ≡ answer_of later_no
+  pub buffers_refuse : (r : Refusal) → Err r ≡ answer_of (buffers_no narrow P facts rules steps) → Err r ≡ answer_of later_no
   buffers_refuse r e = sym (ap answer_of (first-no (buffer_questions narrow P facts rules steps) (limit_questions P order) r (said_no _ r e)))
 
-  pub limits_decide : Yes ≡ answer_of (buffers_no narrow P facts rules steps) → answer_of (limits_no P order) ≡ answer_of later_no
+  pub limits_decide : Ok tt ≡ answer_of (buffers_no narrow P facts rules steps) → answer_of (limits_no P order) ≡ answer_of later_no
   limits_decide e = sym (ap answer_of (first-yes (buffer_questions narrow P facts rules steps) (limit_questions P order) (said_yes _ e)))
 
 -- What a search may rely on where all questions but the last got yes.
@@ -83,7 +82,7 @@ pub record AllYesses (file : List ℕ) (facts rules steps order : ℕ) : Type 0 
 
 -- The ways of the questions before a search.
 module _ (file : List ℕ) (facts rules steps order : ℕ) where
-  pub search-file_no : (r : Refusal) → file_asked file ≡ asked.No r → early_no file facts rules steps order ≡ some r
+  pub search-file_no : (r : Refusal) → file_asked file ≡ Err r → early_no file facts rules steps order ≡ some r
   unfolding early_questions
   search-file_no r e = file_refused file _ r e
 
@@ -93,10 +92,10 @@ module _ (file : List ℕ) (facts rules steps order : ℕ) where
     unfolding early_questions
     early_later = rw p (file_accepted file _ yes_all)
 
-    pub search-refused : (r : Refusal) → No r ≡ answer_of (later_no (program_in T) facts rules steps order) → early_no file facts rules steps order ≡ some r
+    pub search-refused : (r : Refusal) → Err r ≡ answer_of (later_no (program_in T) facts rules steps order) → early_no file facts rules steps order ≡ some r
     search-refused r e = early_later ∙ said_no _ r e
 
-    pub search-asked : Yes ≡ answer_of (later_no (program_in T) facts rules steps order) → ◌≡◌ {A = Option Refusal} (early_no file facts rules steps order) none
+    pub search-asked : Ok tt ≡ answer_of (later_no (program_in T) facts rules steps order) → ◌≡◌ {A = Option Refusal} (early_no file facts rules steps order) none
     search-asked e = early_later ∙ said_yes _ e
 
   pub all_yes : ◌≡◌ {A = Option Refusal} (early_no file facts rules steps order) none → AllYesses file facts rules steps order

@@ -1,24 +1,24 @@
 -- What a search answers and leaves in the buffers lent to it (document 01, "The search").
-use Rattle.std.specs.Prelude.{ℕ, ◌≡◌, List, length}
+use Rattle.std.specs.Prelude.{ℕ, ◌≡◌, List, length, Result, Err}
 use Rattle.std.proofs.Math.Option.{Option, none, some}
 use Rattle.theory.specs.Rule.{Program, FactSet, in_force, nothing}
 use Rattle.theory.specs.Run.{Stand, run, marks_of_facts, marks_of_rules, stage_count, step_count}
 use Rattle.theory.specs.Stable.{Stable, Earliest, any_set, order_for}
 use Rattle.theory.specs.Search.{search}
 use Rattle.items.specs.declared.refusal.Refusal.{Refusal}
-use Rattle.items.specs.Question as refusal
 use Rattle.items.specs.Question.{no_number}
+use Rattle.items.specs.Answer.{answer_number}
 use Rattle.reader.specs.Questions.{program_of}
 use Rattle.items.specs.Item.{narrow, marked}
 use Rattle.questions.specs.Questions.{naming, search_no}
 use Rattle.closure.specs.Steps.{step_bytes}
 use Rattle.items.specs.Write.{over}
-use Rattle.search.specs.declared.answer.Searched.{Searched}
-use Rattle.search.specs.declared.answer.Searched.TheVariants.{Found, Refused}
+use Rattle.run.specs.declared.answer.Ran.{Ran}
+use Rattle.run.specs.Outcome.{done, run_stages, run_steps}
 
 -- The answer, and the four buffers.
 pub record SearchOutcome : Type 0 where
-  pub answer : Searched
+  pub answer : Result Ran Refusal
   pub fact_marks : List ℕ
   pub rule_marks : List ℕ
   pub steps : List ℕ
@@ -28,7 +28,7 @@ pub record SearchOutcome : Type 0 where
 unfoldable pub search_written : Program → List ℕ → Stand → List ℕ → List ℕ → List ℕ → List ℕ → SearchOutcome
 search_written P row s facts rules steps order =
     record {
-      answer = Found (stage_count s) (step_count s);
+      answer = done (stage_count s) (step_count s);
       fact_marks = over (marks_of_facts P s) facts;
       rule_marks = over (marks_of_rules P (in_force P) s) rules;
       steps = over (step_bytes narrow s.trace) steps;
@@ -42,7 +42,7 @@ found_at P M = search_written P (order_for P (in_force P) M) (run P (in_force P)
 -- A refusal alters no byte.
 abbrev pub refused_with : Refusal → List ℕ → List ℕ → List ℕ → List ℕ → SearchOutcome
 refused_with r facts rules steps order =
-    record { answer = Refused r; fact_marks = facts; rule_marks = rules; steps = steps; order = order }
+    record { answer = Err r; fact_marks = facts; rule_marks = rules; steps = steps; order = order }
 
 -- The set that the search takes. Where there is none, question 41 gets no, and nothing is taken.
 unfoldable pub taken_set : Program → FactSet
@@ -57,17 +57,14 @@ search_outcome file facts rules steps order =
     ]
 
 -- The answer's number, 0 where there is a result, and its counts, 0 on a refusal.
-abbrev pub search_number : Searched → ℕ
-search_number (Found stages steps) = 0
-search_number (Refused r) = refusal.number r
+abbrev pub search_number : Result Ran Refusal → ℕ
+search_number r = answer_number r
 
-abbrev pub search_stages : Searched → ℕ
-search_stages (Found n m) = n
-search_stages (Refused r) = 0
+abbrev pub search_stages : Result Ran Refusal → ℕ
+search_stages r = run_stages r
 
-abbrev pub search_steps : Searched → ℕ
-search_steps (Found n m) = m
-search_steps (Refused r) = 0
+abbrev pub search_steps : Result Ran Refusal → ℕ
+search_steps r = run_steps r
 
 -- What an answer means: its number is that of the first no to the search's questions; a result gives the earliest stable set of the file, read off
 -- the fact marks 1, and 41 says that no set is stable.

@@ -19,14 +19,12 @@ use Rattle.theory.proofs.Lists.{all-elem, any_append, clear-elem, mem-append, me
 use Rattle.theory.proofs.Bools.{or_cases}
 use Rattle.theory.proofs.Derive.{missing, missing-less, fired-missing, fired-known, adjoin-above, derive-closed}
 use Rattle.theory.proofs.Barred.{conclusion_barred, trial-barred, trial-clear, trial-eligible}
-use Rattle.items.specs.declared.item.FactId.{FactId}
-use Rattle.items.specs.Item.{narrow, max_facts, fact_id, has}
+use Rattle.items.specs.Item.{narrow, max_facts, has}
 use Rattle.items.specs.Write.{placed}
 use Rattle.items.proofs.PlacedBytes.{placed-front, placed-length}
 use Rattle.marking.specs.Marks.{barred, barred_in, paint_as, paint}
 use Rattle.marking.proofs.MarksPainted.{past_end, length-paint, has-set, has-barred, barred-more, barred-kept, bars-kept, one_mark_each}
-use Rattle.closure.specs.declared.derivation.Derivation.{Derivation}
-use Rattle.closure.specs.declared.derivation.Derivation.TheVariants.{Closed, Barred}
+use Rattle.std.specs.Prelude.{Option, Some, None}
 use Rattle.closure.specs.Steps.{derivation_of}
 use Rattle.bits.specs.Flags.{row_words}
 use Rattle.bits.proofs.EmptyRows.{empty-row}
@@ -40,12 +38,12 @@ use Rattle.closure.proofs.RulesFired.{derive-past, has-derived}
 use Rattle.stage.specs.Memory.{Holds, StandAtRest, Passes, Fails}
 
 -- What a derivation came to says whether it met a barred fact.
-met : (b : Bool) (n : ℕ) → Barred ≡ derivation_of b n → b ≡ true
+met : (b : Bool) (n : ℕ) → None ≡ derivation_of b n → b ≡ true
 met true n e = refl
-met false n e = absurd (let z : ◌≡◌ {A = ℕ} 0 1 = cc in omega arith)
+met false n e = cc
 
-unmet : (b : Bool) (n m : ℕ) → Closed m ≡ derivation_of b n → (b ≡ false) × (m ≡ n)
-unmet true n m e = absurd (let z : ◌≡◌ {A = ℕ} 0 1 = cc in omega arith)
+unmet : (b : Bool) (n m : ℕ) → Some m ≡ derivation_of b n → (b ≡ false) × (m ≡ n)
+unmet true n m e = (cc, cc)
 unmet false n m e = (refl, cc)
 
 map-append : (f : ℕ → Step) (xs ys : List ℕ) → map f (xs ++ ys) ≡ map f xs ++ map f ys
@@ -240,19 +238,19 @@ module _ (P : Program) (bounds : Bounded P) (few : P.facts < max_facts narrow) (
               added = rules-then;
             })
 
--- The marks copied, with the rule's constraints barred, and its conclusion as it is read.
-pub record Trying (P : Program) (i : ℕ) (index marks missing : List ℕ) (n : ℕ) (copy : List ℕ) (f : FactId) : Type 0 where
-  pub small : f.0 < max_facts narrow
+-- The marks copied, with the rule's constraints barred, and its conclusion.
+pub record Trying (P : Program) (i : ℕ) (index marks missing : List ℕ) (n : ℕ) (copy : List ℕ) (f : ℕ) : Type 0 where
+  pub small : f < max_facts narrow
   pub cell : n < max_facts narrow
-  pub room : Room P (set copy f.0 1) (n + 1)
-  pub poised : (counts ready : List ℕ) → Enters f.0 index missing (replicate row_words 0) counts ready → Poised P (mask_in index) (has (set copy f.0 1)) counts ready
-  pub refused : get_or copy f.0 0 ≡ barred → (fired : List ℕ) (s : Stand) → Holds P s marks fired n → Fails P s i n marks missing fired
-  pub fails : (get_or copy f.0 0 ≡ barred → ⊥) → (fired marks' counts fired' : List ℕ) (r : Derivation) → Derived P (mask_in index) (set copy f.0 1) (set fired n i) (n + 1) r marks' counts fired' → r ≡ Barred → (s : Stand) → Holds P s marks fired n → Fails P s i n marks missing fired'
-  pub passes : (get_or copy f.0 0 ≡ barred → ⊥) → (fired marks' counts fired' : List ℕ) (r : Derivation) → Derived P (mask_in index) (set copy f.0 1) (set fired n i) (n + 1) r marks' counts fired' → (m : ℕ) → r ≡ Closed m → (s : Stand) → Holds P s marks fired n → all s.derived (rule P i).premises ≡ true → exception P i ≡ true → in_force P i ≡ true → Passes P s i fired n marks' counts fired' m
+  pub room : Room P (set copy f 1) (n + 1)
+  pub poised : (counts ready : List ℕ) → Enters f index missing (replicate row_words 0) counts ready → Poised P (mask_in index) (has (set copy f 1)) counts ready
+  pub refused : get_or copy f 0 ≡ barred → (fired : List ℕ) (s : Stand) → Holds P s marks fired n → Fails P s i n marks missing fired
+  pub fails : (get_or copy f 0 ≡ barred → ⊥) → (fired marks' counts fired' : List ℕ) (r : Option ℕ) → Derived P (mask_in index) (set copy f 1) (set fired n i) (n + 1) r marks' counts fired' → r ≡ None → (s : Stand) → Holds P s marks fired n → Fails P s i n marks missing fired'
+  pub passes : (get_or copy f 0 ≡ barred → ⊥) → (fired marks' counts fired' : List ℕ) (r : Option ℕ) → Derived P (mask_in index) (set copy f 1) (set fired n i) (n + 1) r marks' counts fired' → (m : ℕ) → r ≡ Some m → (s : Stand) → Holds P s marks fired n → all s.derived (rule P i).premises ≡ true → exception P i ≡ true → in_force P i ≡ true → Passes P s i fired n marks' counts fired' m
 
-pub trying : (P : Program) → Bounded P → P.facts < max_facts narrow → (i : ℕ) → i < count P → (index : List ℕ) → PlainIndexed P index → mask_in index ≡ plain_rules P (in_force P) → (marks : List ℕ) (n : ℕ) → Room P marks n → has marks (rule P i).conclusion ≡ false → clear (has marks) (rule P i).constraints ≡ true → (missing : List ℕ) → AtRest P (mask_in index) (has marks) missing → (copy : List ℕ) → copy ≡ paint_as barred (λ k. mem k (rule P i).constraints) marks → (f : FactId) → f ≡ fact_id (rule P i).conclusion → Trying P i index marks missing n copy f
+pub trying : (P : Program) → Bounded P → P.facts < max_facts narrow → (i : ℕ) → i < count P → (index : List ℕ) → PlainIndexed P index → mask_in index ≡ plain_rules P (in_force P) → (marks : List ℕ) (n : ℕ) → Room P marks n → has marks (rule P i).conclusion ≡ false → clear (has marks) (rule P i).constraints ≡ true → (missing : List ℕ) → AtRest P (mask_in index) (has marks) missing → (copy : List ℕ) → copy ≡ paint_as barred (λ k. mem k (rule P i).constraints) marks → (f : ℕ) → f ≡ (rule P i).conclusion → Trying P i index marks missing n copy f
 unfolding barred_in
-trying P b few i known index ix p marks n room out own_out missing rest copy e f q =
+trying P b few i known index ix p marks n room out own_out missing rest copy e f concludes =
     rw e
     (record {
       small = small;
@@ -271,13 +269,10 @@ trying P b few i known index ix p marks n room out own_out missing rest copy e f
           rw u.1 (closure-passes P b few i known marks n room out own_out fired s w (rw (← concludes) (ne_eqb _ _ t)) (mask_in index) p u.0 prem x o marks' fired' (v.facts u.0) (v.rules u.0) (v.counted u.0));
     })
   where
-    concludes : f.0 ≡ (rule P i).conclusion
-    concludes = ap (λ (g : FactId). g.0) q
-
     small' : (rule P i).conclusion < max_facts narrow
     small' = omega (arith, b.conclusion_below i known, few)
 
-    small : f.0 < max_facts narrow
+    small : f < max_facts narrow
     small = omega (arith, concludes, small')
 
     rests_at : {fired : List ℕ} (s : Stand) → Holds P s marks fired n → StandAtRest P s missing

@@ -1,14 +1,13 @@
 -- Internal: the look along an order for the first rule that is eligible. A place of the order is awake where its rule's premises are in D and the
 -- rule has not been decided there; a rule that was refused with its premises in D stays refused, so that no place is looked at twice.
-use Rattle.std.specs.Prelude.{ℕ, ◌<◌, ◌≡◌, Bool, true, false, List, ◌∷◌, ◌⊎◌, length, get_or, take}
-use Rattle.std.proofs.Math.Option.{Option, none, some}
+use Rattle.std.specs.Prelude.{ℕ, ◌<◌, ◌≡◌, Bool, true, false, List, ◌∷◌, ◌⊎◌, length, get_or, Option, Some, None}
+use Rattle.std.proofs.Math.Option.{Option as Maybe, none, some}
 use Rattle.std.proofs.Math.Seq.{slice}
 use Rattle.theory.specs.Rule.{all, mem, Program, in_force, rule, exception, plain_rules}
 use Rattle.theory.specs.Derive.{conclude, fired as fired_from}
 use Rattle.theory.specs.Run.{Stand, eligible, stage, first_eligible}
 use Rattle.bits.specs.Flags.{Flags}
-use Rattle.stage.specs.declared.staged.Staged.{Staged}
-use Rattle.stage.specs.declared.staged.Staged.TheVariants.{Took, Nothing}
+use Rattle.stage.specs.declared.staged.Stage.{Stage}
 use Rattle.stage.specs.Memory.{Holds, StandAtRest}
 
 -- the order names exception rules of the program alone
@@ -33,8 +32,7 @@ pub record AwakeBut (P : Program) (order : List ℕ) (s : Stand) (i : ℕ) (p : 
   pub asleep : (k : ℕ) → k < length order → p k ≡ false → (eligible_at P order s k ≡ false) ⊎ (get_or order k 0 ≡ i)
 
 -- The memory holds a stand of a run along an order, with its awake places.
-pub record Looking (P : Program) (row order marks missing fired : List ℕ) (n : ℕ) (awake : List ℕ) (s : Stand) (p : ℕ → Bool) : Type 0 where
-  pub in-row : take (length order) row ≡ order
+pub record Looking (P : Program) (order marks missing fired : List ℕ) (n : ℕ) (awake : List ℕ) (s : Stand) (p : ℕ → Bool) : Type 0 where
   pub names_only : NamesOnly P order
   pub holds : Holds P s marks fired n
   pub rests : StandAtRest P s missing
@@ -42,11 +40,10 @@ pub record Looking (P : Program) (row order marks missing fired : List ℕ) (n :
   pub waits : Awake P order s p
 
 -- It holds some stand.
-pub record Stands (P : Program) (row marks missing fired : List ℕ) (n : ℕ) (awake : List ℕ) : Type 0 where
-  pub order : List ℕ
+pub record Stands (P : Program) (order marks missing fired : List ℕ) (n : ℕ) (awake : List ℕ) : Type 0 where
   pub at : Stand
   pub places : ℕ → Bool
-  pub looking : Looking P row order marks missing fired n awake at places
+  pub looking : Looking P order marks missing fired n awake at places
 
 -- The look took rule i, the first that is eligible: the memory holds the stand after its stage, m steps, of which those from n on are the rule's
 -- and those of the closure.
@@ -61,10 +58,10 @@ pub record Taken (P : Program) (order : List ℕ) (s : Stand) (n i : ℕ) (marks
 
 -- It found none.
 pub record Ended (P : Program) (order : List ℕ) (s : Stand) (n : ℕ) (marks fired : List ℕ) : Type 0 where
-  pub none_left : ◌≡◌ {A = Option ℕ} (first_eligible P (in_force P) order s) none
+  pub none_left : ◌≡◌ {A = Maybe ℕ} (first_eligible P (in_force P) order s) none
   pub holds : Holds P s marks fired n
 
 -- What a look leaves of n steps before.
-abbrev pub Looked : Program → List ℕ → Stand → ℕ → Staged → List ℕ → List ℕ → List ℕ → List ℕ → Type 0
-Looked P order s n (Took r m) marks missing fired awake = Taken P order s n r.0 marks missing fired awake m
-Looked P order s n Nothing marks missing fired awake = Ended P order s n marks fired
+abbrev pub Looked : Program → List ℕ → Stand → ℕ → Option Stage → List ℕ → List ℕ → List ℕ → List ℕ → Type 0
+Looked P order s n (Some t) marks missing fired awake = Taken P order s n t.rule.0 marks missing fired awake t.steps
+Looked P order s n None marks missing fired awake = Ended P order s n marks fired

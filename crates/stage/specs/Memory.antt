@@ -1,13 +1,11 @@
 -- Internal: how the working memory of a run holds where the run stands, and what the trial of a rule leaves there.
-use Rattle.std.specs.Prelude.{ℕ, ◌+◌, ◌<◌, ◌≤◌, ◌≡◌, true, false, not, List, ◌∷◌, ◌++◌, map, length, take}
+use Rattle.std.specs.Prelude.{ℕ, ◌+◌, ◌<◌, ◌≤◌, ◌≡◌, true, false, not, List, ◌∷◌, ◌++◌, map, length, take, Option, Some, None}
 use Rattle.theory.specs.Rule.{mem, how_many, up_to, Program, in_force, count, plain_rules}
 use Rattle.theory.specs.Derive.{conclude, step_by, fired as fired_from}
 use Rattle.theory.specs.Run.{Stand, rejected, eligible, stage}
 use Rattle.items.specs.Item.{narrow, max_facts, has}
 use Rattle.marking.specs.Marks.{barred_in}
 use Rattle.closure.specs.Deriving.{AtRest}
-use Rattle.closure.specs.declared.derivation.Derivation.{Derivation}
-use Rattle.closure.specs.declared.derivation.Derivation.TheVariants.{Closed, Barred}
 
 -- The marks of the facts show where a run stands: D, and R, whose facts are barred.
 pub record Shows (P : Program) (marks : List ℕ) (s : Stand) : Type 0 where
@@ -43,6 +41,6 @@ pub record Fails (P : Program) (s : Stand) (i n : ℕ) (marks' missing' fired' :
   pub rests : StandAtRest P s missing'
 
 -- What a trial of rule i answers, and leaves of n rules fired before.
-abbrev pub Tried : Program → Stand → ℕ → List ℕ → ℕ → Derivation → List ℕ → List ℕ → List ℕ → Type 0
-Tried P s i fired n (Closed m) marks' missing' fired' = Passes P s i fired n marks' missing' fired' m
-Tried P s i fired n Barred marks' missing' fired' = Fails P s i n marks' missing' fired'
+abbrev pub Tried : Program → Stand → ℕ → List ℕ → ℕ → Option ℕ → List ℕ → List ℕ → List ℕ → Type 0
+Tried P s i fired n (Some m) marks' missing' fired' = Passes P s i fired n marks' missing' fired' m
+Tried P s i fired n None marks' missing' fired' = Fails P s i n marks' missing' fired'

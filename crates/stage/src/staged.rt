@@ -1,8 +1,8 @@
 use items::item::RuleId;
 
-// What a look along the order comes to: the rule that was taken, with the number of steps by then, or that none is eligible.
+// The rule that a look along the order took, with the number of steps by then.
 #[derive(Clone, Copy)]
-pub enum Staged {
-    Took { rule: RuleId, steps: usize },
-    Nothing,
+pub struct Stage {
+    pub rule: RuleId,
+    pub steps: usize,
 }

@@ -1,3 +1,5 @@
 pub mod ProgramHeld
-pub mod PartsSpanned
+pub mod EmptyHeld
+pub mod PartsHeld
+pub mod Spans
 pub mod RanksHeld

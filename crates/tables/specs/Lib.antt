@@ -1,3 +1,4 @@
 -- What only code and proofs use.
 pub mod Layout
+pub mod Held
 pub mod Ranking

@@ -1,7 +1,6 @@
-// Where each part of the tables begins, and their counts.
+// The tables of a program, where each part of them begins, and their counts.
 ghost use Rattle.std.specs.Prelude.{◌≡◌};
-ghost use Rattle.theory.specs.Rule.{count};
-ghost use Rattle.tables.specs.Layout.{program_in};
+ghost use Rattle.tables.specs.Layout.{WellFormed};
 
 use items::item::{MAX_FACTS, MAX_RULE_ITEMS, MAX_RULES};
 
@@ -32,23 +31,16 @@ pub const TABLE_CELLS: usize = OWN + MAX_OWN;
 
 pub const LAST_CELL: usize = TABLE_CELLS - 1;
 
+// The program of a file in one array of numbers, which whoever works on the program is lent.
+#[derive(Drop)]
+pub struct Tables {
+    pub cells: [u16; TABLE_CELLS],
+    pub ghost well_formed: { WellFormed cells },
+}
+
 // A number as an index: the check asks nothing of an argument's range.
 pub fn wide(number: u16) -> usize
     ensures { result ≡ number }
 {
     number as usize
-}
-
-// The count of facts.
-pub fn facts_of(tables: &[u16; TABLE_CELLS]) -> usize
-    ensures { result ≡ (program_in tables.now).facts }
-{
-    wide(tables[FACTS_CELL])
-}
-
-// The count of rules.
-pub fn rules_of(tables: &[u16; TABLE_CELLS]) -> usize
-    ensures { result ≡ count (program_in tables.now) }
-{
-    wide(tables[RULES_CELL])
 }

@@ -1,7 +1,8 @@
-// The tables of a program, and what a rule says of a set. Internal: every function answers for tables that hold a program.
+// The tables of a program, and what a rule says of a set. Internal.
 
 #![tactic(auto)]
 
+pub mod counts;
 pub mod layout;
 pub mod own;
 pub mod rule;

@@ -18,10 +18,9 @@ const ROOM: usize = 1441792;
 // One case after another, up to an empty row. Answers the place of that row.
 fn try_all(rt: &HostRuntime, bytes: &[u8], counts: &mut [u32; COUNTS]) -> io::Result<usize> {
     let mut at: usize = 0;
-    let mut turns: u32 = 65536;
-    while turns > 0 {
+    for _ in 0..65536u32 {
         let head = replay::read::row(bytes, at);
-        if head.len() == 0 {
+        if head.is_empty() {
             return Ok(at);
         }
         let places = replay::read::places(bytes, at);
@@ -35,7 +34,6 @@ fn try_all(rt: &HostRuntime, bytes: &[u8], counts: &mut [u32; COUNTS]) -> io::Re
             counts[k] = std::num::wrapping_add_u32(counts[k], 1);
         }
         at = places[NEXT];
-        turns -= 1;
     }
     Ok(at)
 }

@@ -35,11 +35,9 @@ pub fn counts(
     counts: &[u32; COUNTS],
 ) -> io::Result<()> {
     let mut at = past(bytes, end);
-    let mut k: usize = 1;
-    while k < OPERATIONS {
+    for k in 1..OPERATIONS {
         line(rt, row(bytes, at), counts[2 * k], counts[2 * k + 1])?;
         at = past(bytes, at);
-        k += 1;
     }
     Ok(())
 }

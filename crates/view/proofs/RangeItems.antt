@@ -4,6 +4,7 @@ use mathlib.Core.Path.{◌≡◌, refl, sym, ap, ◌∙◌}
 use mathlib.Core.Bool.{Bool, true, false, cond}
 use mathlib.Core.List.{List, [], ◌∷◌}
 use mathlib.Core.Option.{some}
+use Rattle.std.specs.Prelude.{Option, Some, None}
 use native.Mathlib.Omega.{arith}
 use borrow.Author.Tests.{lt-ltb, le-ltb, ltb-true, ltb-false}
 use types.Run.{hit}
@@ -28,24 +29,24 @@ use Rattle.reader.proofs.Tags.{NotOwn}
 use Rattle.view.specs.declared.range.Own.{Own}
 use Rattle.view.specs.declared.range.Own.TheVariants as own
 use Rattle.view.specs.declared.range.Taken.{Taken}
-use Rattle.view.specs.View.{end_at, own_by, own_of, own_at, past_own, taken_of, taken_at, own_items, GivesEach}
+use Rattle.view.specs.View.{end_at, own_by, own_of, own_at, taken_of, taken_at, own_items, GivesEach}
 
 -- an item of another kind
-not_own : (i : Item) (ts : List Token) → NotOwn i → own_of (item i ∷ ts) ≡ own.Ended
+not_own : (i : Item) (ts : List Token) → NotOwn i → own_of (item i ∷ ts) ≡ None
 not_own i ts k = rw (unsaid (by_tags i).own (0 ∷ 1 ∷ 4 ∷ 5 ∷ 6 ∷ 7 ∷ []) (tt, (tt, tt)) k)
 
 -- The front of a range: it is empty, or what stands there decides.
 module _ (s : List ℕ) (at end : ℕ) where
-  nothing-there : own_at s at end ≡ own.Ended → taken_of own.Ended at end ≡ taken_at s at end
-  nothing-there e = sym (ap (λ (o : Own). taken_of o at end) e)
+  nothing-there : own_at s at end ≡ None → None ≡ taken_at s at end
+  nothing-there e = sym (ap (λ (o : Option Own). taken_of o at) e)
 
-  empty : end ≤ at → own_at s at end ≡ own.Ended
+  empty : end ≤ at → own_at s at end ≡ None
   unfolding own_at
   empty h =
       let none : ltb at end ≡ false = le-ltb at end h in
       rw none
 
-  pub empty-range : end ≤ at → taken_of own.Ended at end ≡ taken_at s at end
+  pub empty-range : end ≤ at → None ≡ taken_at s at end
   empty-range h = nothing-there (empty h)
 
   module _ (h : at < end) where
@@ -55,31 +56,31 @@ module _ (s : List ℕ) (at end : ℕ) where
         let some : ltb at end ≡ true = lt-ltb at end h in
         rw some
 
-    none_there : (r : Read) → next_at s (body_at at) ≡ r → NotFound r → own_at s at end ≡ own.Ended
+    none_there : (r : Read) → next_at s (body_at at) ≡ r → NotFound r → own_at s at end ≡ None
     none_there r e k = front-decides ∙ nothing_read own_of (λ fault. refl) s (body_at at) r e k
 
-    pub none_taken : (r : Read) → next_at s (body_at at) ≡ r → NotFound r → taken_of own.Ended at end ≡ taken_at s at end
+    pub none_taken : (r : Read) → next_at s (body_at at) ≡ r → NotFound r → None ≡ taken_at s at end
     none_taken r e k = nothing-there (none_there r e k)
 
     module _ (d : Cursor) (i : Item) (e : next_at s (body_at at) ≡ Found i d) where
       read_there : own_at s at end ≡ own_of (item i ∷ items_at s d)
       read_there = front-decides ∙ ap own_of (found s (body_at at) d i e).items
 
-      pub other_there : NotOwn i → taken_of own.Ended at end ≡ taken_at s at end
+      pub other_there : NotOwn i → None ≡ taken_at s at end
       other_there k = nothing-there (read_there ∙ not_own i (items_at s d) k)
 
       past : (j : Item) → i ≡ j → d.at ≡ at + item_length narrow j
       past j q = width_of_item (found s (body_at at) d i e) ∙ ap (λ (k : Item). at + item_length narrow k) q
 
-      pub premise_taken : (f : FactId) → i ≡ Premise f → record { item = own.Premise f; rest = d.at } ≡ taken_at s at end
+      pub premise_taken : (f : FactId) → i ≡ Premise f → Some (record { item = own.Premise f; rest = d.at }) ≡ taken_at s at end
       premise_taken f q =
-          ap (λ (n : ℕ). record { item = own.Premise f; rest = n }) (past (Premise f) q)
-          ∙ sym (ap (λ (o : Own). taken_of o at end) (read_there ∙ ap (λ (j : Item). own_of (item j ∷ items_at s d)) q))
+          ap (λ (n : ℕ). Some (record { item = own.Premise f; rest = n })) (past (Premise f) q)
+          ∙ sym (ap (λ (o : Option Own). taken_of o at) (read_there ∙ ap (λ (j : Item). own_of (item j ∷ items_at s d)) q))
 
-      pub constraint_taken : (f : FactId) → i ≡ Constraint f → record { item = own.Constraint f; rest = d.at } ≡ taken_at s at end
+      pub constraint_taken : (f : FactId) → i ≡ Constraint f → Some (record { item = own.Constraint f; rest = d.at }) ≡ taken_at s at end
       constraint_taken f q =
-          ap (λ (n : ℕ). record { item = own.Constraint f; rest = n }) (past (Constraint f) q)
-          ∙ sym (ap (λ (o : Own). taken_of o at end) (read_there ∙ ap (λ (j : Item). own_of (item j ∷ items_at s d)) q))
+          ap (λ (n : ℕ). Some (record { item = own.Constraint f; rest = n })) (past (Constraint f) q)
+          ∙ sym (ap (λ (o : Option Own). taken_of o at) (read_there ∙ ap (λ (j : Item). own_of (item j ∷ items_at s d)) q))
 
 -- What is taken off the front of a range: the item heads those of the rule, those that are left follow it, and the range ends where it did.
 pub record Gives (s : List ℕ) (at end : ℕ) (t : Taken) (sign : Sign) (f : FactId) : Type 0 where
@@ -97,21 +98,17 @@ abbrev own_in : List Token → ℕ
 own_in ts = length (premises_of ts) + length (constraints_of ts)
 
 -- An item of a rule's own says its sign and its fact.
-some_own : (sign : Sign) (f : FactId) → own_by sign f ≡ own.Ended → ⊥
-some_own asks_in f e = let z : ◌≡◌ {A = ℕ} 0 1 = cc in omega arith
-some_own asks_out f e = let z : ◌≡◌ {A = ℕ} 0 1 = cc in omega arith
-
 same_own : (a b : Sign) (f g : FactId) → own_by a f ≡ own_by b g → ◌≡◌ {A = OwnItem} (record { sign = a; fact = f }) (record { sign = b; fact = g })
 same_own asks_in asks_in f g e = let q : f ≡ g = cc in ap (λ (x : FactId). record { sign = asks_in; fact = x }) q
 same_own asks_in asks_out f g e = absurd (let z : ◌≡◌ {A = ℕ} 0 1 = cc in omega arith)
 same_own asks_out asks_in f g e = absurd (let z : ◌≡◌ {A = ℕ} 0 1 = cc in omega arith)
 same_own asks_out asks_out f g e = let q : f ≡ g = cc in ap (λ (x : FactId). record { sign = asks_out; fact = x }) q
 
-own-said : (sign : Sign) (f : FactId) (i : Item) (ts : List Token) → own_of (item i ∷ ts) ≡ own_by sign f → (class_of i).own ≡ some (record { sign = sign; fact = f })
+own-said : (sign : Sign) (f : FactId) (i : Item) (ts : List Token) → own_of (item i ∷ ts) ≡ Some (own_by sign f) → (class_of i).own ≡ some (record { sign = sign; fact = f })
 own-said sign f i ts =
-    either_said (λ o. o ≡ own_by sign f → (class_of i).own ≡ some (record { sign = sign; fact = f })) (class_of i).own _ _
-    (λ o s e. s ∙ ap some (same_own o.sign sign o.fact f e))
-    (λ _ e. absurd (some_own sign f (sym e)))
+    either_said (λ (o : Option Own). o ≡ Some (own_by sign f) → (class_of i).own ≡ some (record { sign = sign; fact = f })) (class_of i).own _ _
+    (λ o s e. s ∙ ap some (same_own o.sign sign o.fact f (cc)))
+    (λ _ e. absurd (cc))
 
 -- Its width, and that it is one more.
 module _ (i : Item) {sign : Sign} {f : FactId} (s : (class_of i).own ≡ some (record { sign = sign; fact = f })) where
@@ -131,25 +128,29 @@ module _ (i : Item) {sign : Sign} {f : FactId} (s : (class_of i).own ≡ some (r
       go asks_in = omega arith
       go asks_out = omega arith
 
--- An item is given: the range is not empty, and the read finds that item.
-module _ (s : List ℕ) (at end : ℕ) (t : Taken) (e : t ≡ taken_at s at end) where
-  given : {o : Own} → t.item ≡ o → own_at s at end ≡ o
-  given q = sym (ap (λ (x : Taken). x.item) e) ∙ q
+-- Something is given: an item of a rule's own, with the place past it.
+module _ (s : List ℕ) (at end : ℕ) (t : Taken) (e : Some t ≡ taken_at s at end) where
+  given : (own_at s at end ≡ Some t.item) × (t.rest ≡ at + item_width narrow)
+  given = go (own_at s at end) e
+    where
+      go : (o : Option Own) → Some t ≡ taken_of o at → (o ≡ Some t.item) × (t.rest ≡ at + item_width narrow)
+      go (Some x) q = let same : t ≡ record { item = x; rest = at + item_width narrow } = cc in
+          (ap (λ (u : Taken). Some u.item) (sym same), ap (λ (u : Taken). u.rest) same)
+      go None q = absurd (cc)
 
   module _ (sign : Sign) (f : FactId) (q : t.item ≡ own_by sign f) where
+    own-is : own_at s at end ≡ Some (own_by sign f)
+    own-is = given.0 ∙ ap Some q
+
     inside : at < end
     inside = go (ltb at end) refl
       where
         go : (b : Bool) → ltb at end ≡ b → at < end
         go true l = ltb-true at end l
-        go false l = absurd (some_own sign f (sym (given q) ∙ empty s at end (ltb-false at end l)))
+        go false l = let none : own_at s at end ≡ None = empty s at end (ltb-false at end l) in absurd (let some = own-is in cc)
 
     rest-is : t.rest ≡ at + item_width narrow
-    rest-is = ap (λ (x : Taken). x.rest) e ∙ ap (λ (x : Own). past_own x at end) (given q) ∙ past_one sign
-      where
-        past_one : (b : Sign) → past_own (own_by b f) at end ≡ at + item_width narrow
-        past_one asks_in = refl
-        past_one asks_out = refl
+    rest-is = given.1
 
     read : (i : Item) (d : Cursor) → next_at s (body_at at) ≡ Found i d → (class_of i).own ≡ some (record { sign = sign; fact = f }) → Gives s at end t sign f
     unfolding end_at
@@ -173,19 +174,19 @@ module _ (s : List ℕ) (at end : ℕ) (t : Taken) (e : t ≡ taken_at s at end)
     gives = go (next_at s (body_at at)) refl
       where
         go : (r : Read) → next_at s (body_at at) ≡ r → Gives s at end t sign f
-        go (Refused r d) k = absurd (some_own sign f (sym (given q) ∙ none_there s at end inside (Refused r d) k (hit (1 ∷ 2 ∷ []) 1 tt)))
-        go (Ended d) k = absurd (some_own sign f (sym (given q) ∙ none_there s at end inside (Ended d) k (hit (1 ∷ 2 ∷ []) 2 tt)))
-        go (Found i d) k = read i d k (own-said sign f i (items_at s d) (sym (read_there s at end inside d i k) ∙ given q))
+        go (Refused r d) k = absurd (let none = none_there s at end inside (Refused r d) k (hit (1 ∷ 2 ∷ []) 1 tt) in let some = own-is in cc)
+        go (Ended d) k = absurd (let none = none_there s at end inside (Ended d) k (hit (1 ∷ 2 ∷ []) 2 tt) in let some = own-is in cc)
+        go (Found i d) k = read i d k (own-said sign f i (items_at s d) (sym (read_there s at end inside d i k) ∙ own-is))
 
 -- No item of the rule's own stands at the front.
 abbrev pub NoneOwn : List Token → Type 0
 NoneOwn ts = (asked : Sign) → own_facts asked ts ≡ []
 
-none_own : (ts : List Token) → own_of ts ≡ own.Ended → NoneOwn ts
+none_own : (ts : List Token) → own_of ts ≡ None → NoneOwn ts
 none_own [] = λ e asked. refl
 none_own (bad fault ∷ ts) = λ e asked. refl
 none_own (item i ∷ ts) =
-    either_said (λ o. o ≡ own.Ended → NoneOwn (item i ∷ ts)) (class_of i).own _ _ (λ o s e. absurd (some_own o.sign o.fact e)) (λ s e asked. rw s)
+    either_said (λ (o : Option Own). o ≡ None → NoneOwn (item i ∷ ts)) (class_of i).own _ _ (λ o s e. absurd (cc)) (λ s e asked. rw s)
 
 both_empty : (ts : List Token) → own_in ts ≡ 0 → NoneOwn ts
 both_empty ts e asked = go asked
@@ -198,42 +199,46 @@ both_empty ts e asked = go asked
     go asks_in = empty-list (premises_of ts) (omega (arith, e))
     go asks_out = empty-list (constraints_of ts) (omega (arith, e))
 
-module _ (s : List ℕ) (at end : ℕ) (t : Taken) (e : t ≡ taken_at s at end) where
-  pub premise_given : (f : FactId) → t.item ≡ own.Premise f → Gives s at end t asks_in f
-  premise_given f q = gives s at end t e asks_in f q
+module _ (s : List ℕ) (at end : ℕ) where
+  pub premise_given : (t : Taken) → Some t ≡ taken_at s at end → (f : FactId) → t.item ≡ own.Premise f → Gives s at end t asks_in f
+  premise_given t e f q = gives s at end t e asks_in f q
 
-  pub constraint_given : (f : FactId) → t.item ≡ own.Constraint f → Gives s at end t asks_out f
-  constraint_given f q = gives s at end t e asks_out f q
+  pub constraint_given : (t : Taken) → Some t ≡ taken_at s at end → (f : FactId) → t.item ≡ own.Constraint f → Gives s at end t asks_out f
+  constraint_given t e f q = gives s at end t e asks_out f q
 
   -- Where the range ends with the rule, and no item is given, the rule has none left.
-  pub none_given : end ≡ end_at s at → t.item ≡ own.Ended → NoneOwn (items_at s (body_at at))
+  pub none_given : end ≡ end_at s at → None ≡ taken_at s at end → NoneOwn (items_at s (body_at at))
   unfolding end_at
   none_given q n = go (ltb at end) refl
     where
       none_more : end ≤ at → own_in (items_at s (body_at at)) ≡ 0
       none_more h = omega (arith, q, h)
 
+      none-there : (o : Option Own) → None ≡ taken_of o at → o ≡ None
+      none-there (Some x) e = absurd (cc)
+      none-there None e = refl
+
       go : (b : Bool) → ltb at end ≡ b → NoneOwn (items_at s (body_at at))
-      go true l = none_own (items_at s (body_at at)) (sym (front-decides s at end (ltb-true at end l)) ∙ given s at end t e n)
+      go true l = none_own (items_at s (body_at at)) (sym (front-decides s at end (ltb-true at end l)) ∙ none-there (own_at s at end) n)
       go false l = both_empty (items_at s (body_at at)) (none_more (ltb-false at end l))
 
 -- What the first of a rule's own items is, and that there is one.
 abbrev First : List Token → OwnItem → Type 0
-First ts o = (own_of ts ≡ own_by o.sign o.fact) × (0 < own_in ts)
+First ts o = (own_of ts ≡ Some (own_by o.sign o.fact)) × (0 < own_in ts)
 
 first-own : (ts : List Token) (o : OwnItem) (os : List OwnItem) → own_items ts ≡ o ∷ os → First ts o
 first-own [] o os = λ e. absurd (let z : ◌≡◌ {A = ℕ} 0 1 = cc in omega arith)
 first-own (bad fault ∷ ts) o os = λ e. absurd (let z : ◌≡◌ {A = ℕ} 0 1 = cc in omega arith)
 first-own (item i ∷ ts) o os =
     either_said (λ l. l ≡ o ∷ os → First (item i ∷ ts) o) (class_of i).own _ _
-    (λ x s e. let same : x ≡ o = cc in (rw s (ap (λ (y : OwnItem). own_by y.sign y.fact) same), omega (arith, one_more i s ts)))
+    (λ x s e. let same : x ≡ o = cc in (rw s (ap (λ (y : OwnItem). Some (own_by y.sign y.fact)) same), omega (arith, one_more i s ts)))
     (λ _ e. absurd (let z : ◌≡◌ {A = ℕ} 0 1 = cc in omega arith))
 
-no-first : (ts : List Token) → own_items ts ≡ [] → own_of ts ≡ own.Ended
+no-first : (ts : List Token) → own_items ts ≡ [] → own_of ts ≡ None
 no-first [] = λ e. refl
 no-first (bad fault ∷ ts) = λ e. refl
 no-first (item i ∷ ts) =
-    either_said (λ l. l ≡ [] → own_of (item i ∷ ts) ≡ own.Ended) (class_of i).own _ _ (λ x s e. absurd (let z : ◌≡◌ {A = ℕ} 0 1 = cc in omega arith)) (λ s e. rw s)
+    either_said (λ l. l ≡ [] → own_of (item i ∷ ts) ≡ None) (class_of i).own _ _ (λ x s e. absurd (let z : ◌≡◌ {A = ℕ} 0 1 = cc in omega arith)) (λ s e. rw s)
 
 -- Where the range ends with the rule, the first of the rule's own items is inside, and where it has none, none is there.
 module _ (s : List ℕ) (end at : ℕ) where
@@ -241,11 +246,11 @@ module _ (s : List ℕ) (end at : ℕ) where
   unfolding end_at
   first-inside k more = omega (arith, k, more)
 
-  none_inside : own_of (items_at s (body_at at)) ≡ own.Ended → own_at s at end ≡ own.Ended
+  none_inside : own_of (items_at s (body_at at)) ≡ None → own_at s at end ≡ None
   unfolding own_at
   none_inside e = rw e (same_arms (ltb at end))
     where
-      same_arms : (b : Bool) → cond b own.Ended own.Ended ≡ own.Ended
+      same_arms : (b : Bool) → cond {A = Option Own} b None None ≡ None
       same_arms true = refl
       same_arms false = refl
 
@@ -257,8 +262,10 @@ gives_each s end at = go (own_items (items_at s (body_at at))) at refl
     go [] at e k = sym (nothing-there s at end (none_inside s end at (no-first (items_at s (body_at at)) e)))
     go (o ∷ os) at e k =
         let first : First (items_at s (body_at at)) o = first-own (items_at s (body_at at)) o os e in
-        let q : own_at s at end ≡ own_by o.sign o.fact = front-decides s at end (first-inside s end at k first.1) ∙ first.0 in
-        let g : Gives s at end (taken_at s at end) o.sign o.fact = gives s at end (taken_at s at end) refl o.sign o.fact q in
-        let both : ◌≡◌ {A = List OwnItem} (record { sign = o.sign; fact = o.fact } ∷ own_items (items_at s (body_at (taken_at s at end).rest))) (o ∷ os) = sym g.first ∙ e in
-        let left : own_items (items_at s (body_at (taken_at s at end).rest)) ≡ os = cc both in
-        (q, go os (taken_at s at end).rest left (g.ends k))
+        let q : own_at s at end ≡ Some (own_by o.sign o.fact) = front-decides s at end (first-inside s end at k first.1) ∙ first.0 in
+        let t : Taken = record { item = own_by o.sign o.fact; rest = at + item_width narrow } in
+        let taken : taken_at s at end ≡ Some t = ap (λ (x : Option Own). taken_of x at) q in
+        let g : Gives s at end t o.sign o.fact = gives s at end t (sym taken) o.sign o.fact refl in
+        let both : ◌≡◌ {A = List OwnItem} (record { sign = o.sign; fact = o.fact } ∷ own_items (items_at s (body_at t.rest))) (o ∷ os) = sym g.first ∙ e in
+        let left : own_items (items_at s (body_at t.rest)) ≡ os = cc both in
+        (t, taken, refl, go os t.rest left (g.ends k))

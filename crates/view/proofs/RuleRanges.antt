@@ -1,34 +1,28 @@
 -- The range of a rule by the tables has the rule's premises and constraints in the file.
-use Prim.Native.Nat.{ℕ, zero, suc, ◌+◌, ◌-◌, ◌*◌, ◌<◌}
+use Prim.Native.Nat.{ℕ, zero, suc, ◌+◌, ◌*◌, ◌<◌}
 use mathlib.Core.Path.{◌≡◌, refl, sym, ap, ap₂, subst, ◌∙◌}
 use mathlib.Core.Bool.{cond}
-use mathlib.Core.List.{List, [], ◌∷◌}
+use mathlib.Core.List.{List, [], ◌∷◌, reverse}
 use mathlib.Core.Option.{Option, none, some}
 use lib.ListN.{length, get_or}
+use Rattle.std.proofs.lemmas.List.{length-reverse}
 use Rattle.theory.specs.Rule.{Rule, Program, blank, count, rule}
 use Rattle.items.specs.declared.item.FactId.{FactId}
 use Rattle.items.specs.Item.{narrow, item_width, Sign, asks_in, asks_out, same_sign, OwnItem, class_of, where_said}
 use Rattle.cursors.specs.Cursor.{Token, item, bad, items_at, file_start, body_at}
-use Rattle.tables.specs.Layout.{place_in, listed, program_in, Spanned}
+use Rattle.tables.specs.Layout.{place_in, program_in}
 use Rattle.reader.specs.Questions.{own_facts, premises_of, constraints_of, rule_of, rules_of, behind_rules, program_of}
 use Rattle.reader.specs.Scanned.{Tabled}
 use Rattle.view.specs.declared.range.Range.{Range}
 use Rattle.view.specs.View.{end_of, end_at, OwnRange, own_items, items_of_rule, facts_asked, GivesEach}
 use Rattle.view.proofs.RangeItems.{gives_each}
 
-length-listed : (row : ℕ → ℕ) (a n : ℕ) → length (listed row a n) ≡ n
-length-listed row a zero = refl
-length-listed row a (suc n) = ap suc (length-listed row (suc a) n)
-
--- as many elements as places
-counted : {facts : ℕ} {row : ℕ → ℕ} {elements : List ℕ} {from end : ℕ} → Spanned facts row elements from end → length elements ≡ end - from
-counted {row = row} {from = from} {end} s = ap length s.is ∙ length-listed row from (end - from)
-
-pub own_range : {T : List ℕ} {i : ℕ} {r : Range} {n m : ℕ} {a b : ℕ → ℕ} {p e k l : ℕ} → Spanned n a (rule (program_in T) i).premises p e → Spanned m b (rule (program_in T) i).constraints k l → (r.at ≡ place_in T i) × (r.end ≡ place_in T i + item_width narrow * ((e - p) + (l - k))) → OwnRange T i r
+-- The constraints stand the last one first.
+pub own_range : {T : List ℕ} {i : ℕ} {r : Range} {premises constraints : List ℕ} → premises ≡ (rule (program_in T) i).premises → constraints ≡ reverse (rule (program_in T) i).constraints → (r.at ≡ place_in T i) × (r.end ≡ place_in T i + item_width narrow * (length premises + length constraints)) → OwnRange T i r
 own_range {T} {i} x y q =
     record {
       begins = q.0;
-      ends = q.1 ∙ ap₂ (λ (u v : ℕ). place_in T i + item_width narrow * (u + v)) (sym (counted x)) (sym (counted y));
+      ends = q.1 ∙ ap₂ (λ (u v : ℕ). place_in T i + item_width narrow * (u + v)) (ap length x) (ap length y ∙ length-reverse (rule (program_in T) i).constraints);
     }
 
 -- The facts that a rule asks in, or out.

@@ -1,5 +1,5 @@
 -- What the view of a rule gives: the premises and constraints that stand in a range of the file, one after another.
-use Rattle.std.specs.Prelude.{ℕ, ◌+◌, ◌*◌, ◌≡◌, cond, List, [], ◌∷◌, length, get_or, ltb}
+use Rattle.std.specs.Prelude.{ℕ, ◌+◌, ◌*◌, ◌≡◌, cond, List, [], ◌∷◌, length, get_or, ltb, Option, Some, None}
 use Rattle.theory.specs.Rule.{rule}
 use Rattle.items.specs.declared.item.FactId.{FactId}
 use Rattle.items.specs.Item.{narrow, Sign, asks_in, asks_out, same_sign, OwnItem, class_of, where_said, item_width}
@@ -30,27 +30,22 @@ own_by asks_in f = own.Premise f
 own_by asks_out f = own.Constraint f
 
 -- What the first of these items is to a rule.
-abbrev pub own_of : List Token → Own
-own_of [] = own.Ended
-own_of (bad fault ∷ ts) = own.Ended
-own_of (item i ∷ ts) = where_said (class_of i).own (λ o. own_by o.sign o.fact) own.Ended
+abbrev pub own_of : List Token → Option Own
+own_of [] = None
+own_of (bad fault ∷ ts) = None
+own_of (item i ∷ ts) = where_said (class_of i).own (λ o. Some (own_by o.sign o.fact)) None
 
 -- The premise or constraint at the front of a range; none where the range is empty.
-unfoldable pub own_at : List ℕ → ℕ → ℕ → Own
-own_at s at end = cond (ltb at end) (own_of (items_at s (body_at at))) own.Ended
+unfoldable pub own_at : List ℕ → ℕ → ℕ → Option Own
+own_at s at end = cond (ltb at end) (own_of (items_at s (body_at at))) None
 
--- The place past an item of a rule's own, the end of the range where there is none.
-abbrev pub past_own : Own → ℕ → ℕ → ℕ
-past_own (own.Premise f) at end = at + item_width narrow
-past_own (own.Constraint f) at end = at + item_width narrow
-past_own own.Ended at end = end
+-- The item at the front of a range, and where what is left begins: past an item of a rule's own.
+abbrev pub taken_of : Option Own → ℕ → Option Taken
+taken_of (Some o) at = Some (record { item = o; rest = at + item_width narrow })
+taken_of None at = None
 
--- The item at the front of a range, and where what is left begins.
-abbrev pub taken_of : Own → ℕ → ℕ → Taken
-taken_of o at end = record { item = o; rest = past_own o at end }
-
-abbrev pub taken_at : List ℕ → ℕ → ℕ → Taken
-taken_at s at end = taken_of (own_at s at end) at end
+abbrev pub taken_at : List ℕ → ℕ → ℕ → Option Taken
+taken_at s at end = taken_of (own_at s at end) at
 
 -- A rule's own items at the front of these, as they stand: premises and constraints, up to an item of another class.
 abbrev pub own_items : List Token → List OwnItem
@@ -67,7 +62,8 @@ abbrev pub facts_asked : Sign → List OwnItem → List ℕ
 facts_asked sign [] = []
 facts_asked sign (o ∷ os) = cond (same_sign sign o.sign) (o.fact.0 ∷ facts_asked sign os) (facts_asked sign os)
 
--- The view of a range gives these items, each from what the one before left, and then it ends with nothing left.
+-- The view of a range gives these items, each from what the one before left, and then none.
 abbrev pub GivesEach : List ℕ → ℕ → ℕ → List OwnItem → Type 0
-GivesEach s at end [] = taken_at s at end ≡ taken_of own.Ended at end
-GivesEach s at end (o ∷ os) = ((taken_at s at end).item ≡ own_by o.sign o.fact) × GivesEach s (taken_at s at end).rest end os
+GivesEach s at end [] = ◌≡◌ {A = Option Taken} (taken_at s at end) None
+GivesEach s at end (o ∷ os) =
+    (t : Taken) × (taken_at s at end ≡ Some t) × (t.item ≡ own_by o.sign o.fact) × GivesEach s t.rest end os

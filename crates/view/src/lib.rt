@@ -24,8 +24,8 @@ pub fn view_of<'a>(file: &'a [u8], at: usize, end: usize) -> RuleView<'a>
     RuleView { file, at, end }
 }
 
-// Its next item, and where what is left of it begins.
-pub fn next_item<'a>(view: RuleView<'a>) -> Taken
+// Its next item, and where what is left of it begins; None where no item is left.
+pub fn next_item<'a>(view: RuleView<'a>) -> Option<Taken>
     ensures { result ≡ taken_at view.entry.file.now view.entry.at view.entry.end }
 {
     range::take_item(view.file, view.at, view.end)

@@ -2,21 +2,20 @@
 ghost use Rattle.std.specs.Prelude.{◌+◌, ◌*◌, ◌<◌, ◌≤◌, ◌≡◌};
 ghost use Rattle.theory.specs.Rule.{count};
 ghost use Rattle.items.specs.Item.{narrow, item_width};
-ghost use Rattle.tables.specs.Layout.{max_own, program_in, WellFormed};
+ghost use Rattle.tables.specs.Layout.{max_own};
+ghost use Rattle.tables.specs.Held.{held};
 ghost use Rattle.view.specs.View.{OwnRange, taken_at};
 
 use cursors::cursor::{Cursor, Read, Row};
 use items::item::{FactId, Item, RuleId};
 use items::lengths::ITEM_WIDTH;
-use tables::layout::{PLACES, TABLE_CELLS};
-use tables::own::{constraint_span, premise_span};
+use tables::layout::Tables;
 
-// An item of a rule's own, or none is left.
+// An item of a rule's own.
 #[derive(Clone, Copy)]
 pub enum Own {
     Premise(FactId),
     Constraint(FactId),
-    Ended,
 }
 
 // An item with the place where what is left begins.
@@ -46,41 +45,31 @@ fn range_at(place: u16, items: usize) -> Range
 }
 
 // The range of a rule: the tables have its place and the number of its items.
-pub fn range_of(tables: &[u16; TABLE_CELLS], rule: RuleId) -> Range
-    requires { WellFormed tables.now × (rule.0 < count (program_in tables.now)) }
-    ensures { OwnRange tables.now rule.0 result }
+pub fn range_of(tables: &Tables, rule: RuleId) -> Range
+    requires { rule.0 < count (held tables.now) }
+    ensures { OwnRange tables.now.cells rule.0 result }
 {
-    let number = rule.0 as usize;
-    let premises = premise_span(tables, rule);
-    let constraints = constraint_span(tables, rule);
-    let items = (premises.end - premises.from) + (constraints.end - constraints.from);
-    range_at(tables[PLACES + number], items)
+    let items = tables.premises(rule).len() + tables.constraints(rule).len();
+    range_at(tables.place(rule), items)
 }
 
-// Takes the premise or constraint at the front of a range; where there is none, nothing is left.
-pub fn take_item(file: &[u8], at: usize, end: usize) -> Taken
+// Takes the premise or constraint at the front of a range; None where there is none.
+pub fn take_item(file: &[u8], at: usize, end: usize) -> Option<Taken>
     ensures { result ≡ taken_at file.now at end }
 {
-    let ended = Taken {
-        item: Own::Ended,
-        rest: end,
-    };
     if end <= at {
-        return ended;
+        return None;
     }
     let front = Cursor { at, row: Row::Body };
     match front.next_in_body(file) {
-        Read::Found(item, next) => match item {
-            Item::Premise(f) => Taken {
-                item: Own::Premise(f),
-                rest: next.at,
-            },
-            Item::Constraint(f) => Taken {
-                item: Own::Constraint(f),
-                rest: next.at,
-            },
-            _ => ended,
-        },
-        _ => ended,
+        Read::Found(Item::Premise(f), next) => Some(Taken {
+            item: Own::Premise(f),
+            rest: next.at,
+        }),
+        Read::Found(Item::Constraint(f), next) => Some(Taken {
+            item: Own::Constraint(f),
+            rest: next.at,
+        }),
+        _ => None,
     }
 }

@@ -10,7 +10,7 @@ use borrow.Author.Tests.{le-leb, lt-leb}
 use lib.ListN.{length, get_or, drop, drop_of_length-le}
 use lib.Seq.{drop-cons}
 use lib.Dec.{leb}
-use Rattle.words.specs.declared.Word.TheVariants.{Number, NotANumber}
+use Rattle.std.specs.Prelude.{Option, Some, None}
 use Rattle.words.specs.Word.{digit_zero, digit_nine, is_digit, all_digits, value_behind, value, longest_number, most_value, is_number, word_of}
 
 and-false : (b : Bool) → (b && false) ≡ false
@@ -26,16 +26,16 @@ pub record Reading (word : List ℕ) (i n : ℕ) : Type 0 where
   pub digits_left : all_digits word ≡ all_digits (drop i word)
   pub value_left : value word ≡ value_behind n (drop i word)
 
-pub empty-word : (word : List ℕ) → length word ≡ 0 → NotANumber ≡ word_of word
+pub empty-word : (word : List ℕ) → length word ≡ 0 → ◌≡◌ {A = Option ℕ} None (word_of word)
 unfolding word_of is_number
 empty-word word e = rw e
 
-pub long_word : (word : List ℕ) → longest_number < length word → NotANumber ≡ word_of word
+pub long_word : (word : List ℕ) → longest_number < length word → ◌≡◌ {A = Option ℕ} None (word_of word)
 unfolding word_of is_number
 long_word word h = rw (lt-leb (length word) longest_number h, and-false (leb 1 (length word)))
 
 -- a byte that is no digit makes the word no number
-no-digits : (word : List ℕ) → all_digits word ≡ false → NotANumber ≡ word_of word
+no-digits : (word : List ℕ) → all_digits word ≡ false → ◌≡◌ {A = Option ℕ} None (word_of word)
 unfolding word_of is_number
 no-digits word e =
     rw (e, and-false (leb (length word) longest_number), and-false (leb 1 (length word)))
@@ -60,13 +60,13 @@ module _ (word : List ℕ) (i n : ℕ) (w : Reading word i n) where
     here : drop i word ≡ get_or word i 0 ∷ drop (suc i) word
     here = drop-cons word i 0 h
 
-    other_byte : is_digit (get_or word i 0) ≡ false → NotANumber ≡ word_of word
+    other_byte : is_digit (get_or word i 0) ≡ false → ◌≡◌ {A = Option ℕ} None (word_of word)
     other_byte e = no-digits word (w.digits_left ∙ ap all_digits here ∙ rw e)
 
-    pub low_byte : get_or word i 0 < digit_zero → NotANumber ≡ word_of word
+    pub low_byte : get_or word i 0 < digit_zero → ◌≡◌ {A = Option ℕ} None (word_of word)
     low_byte l = other_byte (rw (lt-leb digit_zero (get_or word i 0) l))
 
-    pub high_byte : digit_nine < get_or word i 0 → NotANumber ≡ word_of word
+    pub high_byte : digit_nine < get_or word i 0 → ◌≡◌ {A = Option ℕ} None (word_of word)
     high_byte l =
         other_byte (rw (lt-leb (get_or word i 0) digit_nine l, and-false (leb digit_zero (get_or word i 0))))
 
@@ -88,12 +88,12 @@ module _ (word : List ℕ) (i n : ℕ) (w : Reading word i n) where
     whole : value word ≡ n
     whole = w.value_left ∙ ap (value_behind n) none_left
 
-    pub too_high : most_value < n → NotANumber ≡ word_of word
+    pub too_high : most_value < n → ◌≡◌ {A = Option ℕ} None (word_of word)
     unfolding word_of is_number
     too_high l =
         rw (whole, lt-leb n most_value l, and-false (all_digits word), and-false (leb (length word) longest_number), and-false (leb 1 (length word)))
 
-    pub all_read : n ≤ most_value → Number n ≡ word_of word
+    pub all_read : n ≤ most_value → Some n ≡ word_of word
     unfolding word_of is_number
     all_read l =
         rw (whole, le-leb n most_value l, w.digits_left, none_left, le-leb (length word) longest_number w.few_digits, le-leb 1 (length word) w.some_digits)

@@ -1,7 +1,5 @@
 -- A word that says a number: a word of 1 to 10 decimal digits, at most 4,294,967,295. Zeros in front are digits like others.
-use Rattle.std.specs.Prelude.{ℕ, ◌+◌, ◌-◌, ◌*◌, Bool, true, cond, ◌&&◌, List, [], ◌∷◌, length, leb}
-use Rattle.words.specs.declared.Word.{Word}
-use Rattle.words.specs.declared.Word.TheVariants.{Number, NotANumber}
+use Rattle.std.specs.Prelude.{ℕ, ◌+◌, ◌-◌, ◌*◌, Bool, true, cond, ◌&&◌, List, [], ◌∷◌, Option, Some, None, length, leb}
 
 -- A digit is a byte from 0x30 to 0x39, the digits 0 to 9.
 abbrev pub digit_zero : ℕ
@@ -37,5 +35,5 @@ unfoldable pub is_number : List ℕ → Bool
 is_number word =
     leb 1 (length word) && (leb (length word) longest_number && (all_digits word && leb (value word) most_value))
 
-unfoldable pub word_of : List ℕ → Word
-word_of word = cond (is_number word) (Number (value word)) NotANumber
+unfoldable pub word_of : List ℕ → Option ℕ
+word_of word = cond (is_number word) (Some (value word)) None

@@ -1,29 +1,18 @@
 -- `judge_program`: the list first, then the set, then the test.
-use mathlib.Core.Path.{◌≡◌, sym, ◌∙◌}
-use mathlib.Core.Bool.{Bool, cond}
-use Rattle.tables.specs.Layout.{program_in}
-use Rattle.judge.specs.declared.answer.Judged.TheVariants.{Stable, NotStable}
-use Rattle.judge.specs.JudgedOf.{judged_of}
+use mathlib.Core.Path.{◌∙◌}
+use Rattle.tables.specs.Held.{held}
+use Rattle.items.proofs.Passed.{passed}
 use Rattle.judge.proofs.JudgeAnswers.{no-to_list, no-to_set, set_long, set_tested}
 use Rattle.judge.proofs.judge_program.Goals as goal
-use Rattle.judge.proofs.judge_program.Goals.{After-is_stable}
 
--- once the test is made
-judged-there : (c : After-is_stable) (t : Bool) → c.is_stable.result ≡ t → cond t Stable NotStable ≡ judged_of (program_in c.args.tables.now) c.args.list.now c.args.set.now
-judged-there c t q =
-    set_tested _ _ _ _ c.ask_listed-on_list.ensures.value c.in_default.is _ c.facts_of.ensures _ c.ask_set_of-on_set.ensures c.in_default-on_set.is _ c.ask_listed-on_list.ensures.listed t (sym q ∙ c.is_stable.ensures)
+pub returns-in_err-ask_listed : goal.returns-in_err-ask_listed
+returns-in_err-ask_listed c = passed c.from_residual.ensures ∙ no-to_list _ _ _ _ c.ask_listed.ensures.value _ c.in_err-ask_listed.was
 
-pub returns-in-No : goal.returns-in-No
-returns-in-No c = no-to_list _ _ _ _ c.ask_listed-on_list.ensures.value _ c.in-No.is
-
-pub returns-in-No-on_set : goal.returns-in-No-on_set
-returns-in-No-on_set c = no-to_set _ _ _ _ c.ask_listed-on_list.ensures.value c.in_default.is _ c.facts_of.ensures _ c.ask_set_of-on_set.ensures _ c.in-No-on_set.is
+pub returns-in_err-ask_set_of : goal.returns-in_err-ask_set_of
+returns-in_err-ask_set_of c = passed c.from_residual-in_err-ask_set_of.ensures ∙ no-to_set _ _ _ _ c.ask_listed.ensures.value c.in_ok-ask_listed.was _ c.facts.ensures _ c.ask_set_of.ensures _ c.in_err-ask_set_of.was
 
 pub is_stable-requires : goal.is_stable-requires
-is_stable-requires c = (c.requires, set_long (program_in c.args.tables.now) c.args.list.now c.args.set.now _ c.ask_listed-on_list.ensures.value c.in_default.is _ c.facts_of.ensures _ c.ask_set_of-on_set.ensures c.in_default-on_set.is)
+is_stable-requires c = set_long (held c.args.tables.now) c.args.list.now c.args.set.now _ c.ask_listed.ensures.value c.in_ok-ask_listed.was _ c.facts.ensures _ c.ask_set_of.ensures c.in_ok-ask_set_of.was
 
-pub returns-then-is_stable : goal.returns-then-is_stable
-returns-then-is_stable c = judged-there (goal.at.returns-then-is_stable c).After-is_stable _ c.if-is_stable.true
-
-pub returns-else-is_stable : goal.returns-else-is_stable
-returns-else-is_stable c = judged-there (goal.at.returns-else-is_stable c).After-is_stable _ c.if-is_stable.false
+pub returns : goal.returns
+returns c = set_tested (held c.args.tables.now) c.args.list.now c.args.set.now _ c.ask_listed.ensures.value c.in_ok-ask_listed.was _ c.facts.ensures _ c.ask_set_of.ensures c.in_ok-ask_set_of.was _ c.ask_listed.ensures.listed _ c.is_stable.ensures

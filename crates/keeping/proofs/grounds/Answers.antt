@@ -1,42 +1,36 @@
 -- `grounds`: a no changes no byte; where the run's questions got yes, what is told on the tables.
 use mathlib.Core.Path.{sym, ◌∙◌}
-use Rattle.tables.specs.Layout.{program_in}
+use Rattle.tables.specs.Held.{held}
 use Rattle.tables.proofs.ProgramHeld.{rules-below}
+use Rattle.items.proofs.Passed.{passed}
 use Rattle.questions.proofs.OperationAsked.{Passed, scan_passed}
 use Rattle.run.proofs.RunAsked.{may_run, run-file_no, run-no, run-yes}
 use Rattle.keeping.proofs.GroundsAsked.{answered_no, answered_told}
 use Rattle.keeping.proofs.grounds.Goals as goal
-use Rattle.keeping.proofs.grounds.Goals.{In-Yes}
+use Rattle.keeping.proofs.grounds.Goals.{In_ok-scan}
 
 -- past the questions on the file
-passed : (c : In-Yes) → Passed c.args.file.now c.scan.new.tables
-passed c = scan_passed _ _ _ (sym c.scan.ensures.value ∙ c.in-Yes.is) c.scan.ensures.scanned
-
-pub ask_tabled-requires : goal.ask_tabled-requires
-ask_tabled-requires c = (passed (goal.at.ask_tabled-requires c).In-Yes).tabled.well_formed
+past_scan : (c : In_ok-scan) → Passed c.args.file.now c.scan.new.tables.cells
+past_scan c = scan_passed _ _ _ (sym c.scan.ensures.value ∙ c.in_ok-scan.was) c.scan.ensures.scanned
 
 pub grounds_tabled-requires : goal.grounds_tabled-requires
 grounds_tabled-requires c = record {
-  well_formed = (passed (goal.at.grounds_tabled-requires c).In-Yes).tabled.well_formed;
-  may_run = may_run (program_in c.scan.new.tables) (rules-below (passed (goal.at.grounds_tabled-requires c).In-Yes).tabled.well_formed) _ _ _ _ (sym c.in-Yes-ask_tabled.is ∙ c.ask_tabled.ensures);
+  may_run = may_run (held c.scan.new.tables) (rules-below c.scan.new.tables.well_formed) _ _ _ _ (sym c.in_ok-ask_tabled.was ∙ c.ask_tabled.ensures);
 }
 
-pub returns-in-No : goal.returns-in-No
-returns-in-No c = record {
-  fact = (answered_no _ _ _ _ _ _ _ (run-file_no _ _ _ _ _ _ (sym c.scan.ensures.value ∙ c.in-No.is))).0;
-  grounds_numbers = (answered_no _ _ _ _ _ _ _ (run-file_no _ _ _ _ _ _ (sym c.scan.ensures.value ∙ c.in-No.is))).1;
-}
+pub returns-in_err-scan : goal.returns-in_err-scan
+returns-in_err-scan c =
+    let e = answered_no c.args.file.now c.args.order.now c.args.fact c.args.fact_marks.now c.args.rule_marks.now c.args.steps.now _ _ (passed c.from_residual.ensures) (run-file_no _ _ _ _ _ _ (sym c.scan.ensures.value ∙ c.in_err-scan.was)) in
+    record { fact = e.0; grounds_numbers = e.1 }
 
-pub returns-in-No-ask_tabled : goal.returns-in-No-ask_tabled
-returns-in-No-ask_tabled c = record {
-  fact = (answered_no _ _ _ _ _ _ _ (run-no _ _ _ _ _ (passed (goal.at.returns-in-No-ask_tabled c).In-Yes) _ (sym c.in-No-ask_tabled.is ∙ c.ask_tabled.ensures))).0;
-  grounds_numbers = (answered_no _ _ _ _ _ _ _ (run-no _ _ _ _ _ (passed (goal.at.returns-in-No-ask_tabled c).In-Yes) _ (sym c.in-No-ask_tabled.is ∙ c.ask_tabled.ensures))).1;
-}
+pub returns-in_err-ask_tabled : goal.returns-in_err-ask_tabled
+returns-in_err-ask_tabled c =
+    let p = past_scan (goal.at.returns-in_err-ask_tabled c).In_ok-scan in
+    let e = answered_no c.args.file.now c.args.order.now c.args.fact c.args.fact_marks.now c.args.rule_marks.now c.args.steps.now _ _ (passed c.from_residual-in_err-ask_tabled.ensures) (run-no _ _ _ _ _ p _ (sym c.in_err-ask_tabled.was ∙ c.ask_tabled.ensures)) in
+    record { fact = e.0; grounds_numbers = e.1 }
 
-pub returns-in-Yes-ask_tabled : goal.returns-in-Yes-ask_tabled
-returns-in-Yes-ask_tabled c = record {
-  fact = (answered_told _ _ _ _ _ _ _ c.grounds_tabled.ensures (passed (goal.at.returns-in-Yes-ask_tabled c).In-Yes).tabled
-      (run-yes _ _ _ _ _ (passed (goal.at.returns-in-Yes-ask_tabled c).In-Yes) (sym c.in-Yes-ask_tabled.is ∙ c.ask_tabled.ensures))).0;
-  grounds_numbers = (answered_told _ _ _ _ _ _ _ c.grounds_tabled.ensures (passed (goal.at.returns-in-Yes-ask_tabled c).In-Yes).tabled
-      (run-yes _ _ _ _ _ (passed (goal.at.returns-in-Yes-ask_tabled c).In-Yes) (sym c.in-Yes-ask_tabled.is ∙ c.ask_tabled.ensures))).1;
-}
+pub returns : goal.returns
+returns c =
+    let p = past_scan (goal.at.returns c).In_ok-scan in
+    let e = answered_told c.args.file.now c.args.order.now c.args.fact c.args.fact_marks.now c.args.rule_marks.now c.args.steps.now _ c.grounds_tabled.ensures p.tabled (run-yes _ _ _ _ _ p (sym c.in_ok-ask_tabled.was ∙ c.ask_tabled.ensures)) in
+    record { fact = e.0; grounds_numbers = e.1 }

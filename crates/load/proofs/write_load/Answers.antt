@@ -7,7 +7,7 @@ use Rattle.generator.proofs.LoadAnswers.{counted_inside}
 use Rattle.load.proofs.write_load.Goals as goal
 
 pub slice_bounds-room-end : goal.slice_bounds-room-end
-slice_bounds-room-end c = omega (arith, counted_inside _ _ _ _ _ c.load_in_room.ensures.fact, ap load_count c.in-Written.is)
+slice_bounds-room-end c = omega (arith, counted_inside _ _ _ _ _ c.load_in_room.ensures.fact, ap load_count c.in-Ok.is)
 
 pub slice_bounds-write_all-end : goal.slice_bounds-write_all-end
-slice_bounds-write_all-end c = sym (length-take-le _ _ (omega (arith, counted_inside _ _ _ _ _ c.load_in_room.ensures.fact, ap load_count c.in-Written.is)))
+slice_bounds-write_all-end c = sym (length-take-le _ _ (omega (arith, counted_inside _ _ _ _ _ c.load_in_room.ensures.fact, ap load_count c.in-Ok.is)))

@@ -4,4 +4,4 @@ use Rattle.replies.specs.Reply.{file_of}
 use Rattle.retention.proofs.retention_accept.Goals as goal
 
 pub returns : goal.returns
-returns c = c.of_accept.ensures ∙ ap file_of c.accept.ensures.value
+returns c = c.from.ensures ∙ ap file_of c.accept.ensures.value

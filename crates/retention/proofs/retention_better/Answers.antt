@@ -4,4 +4,4 @@ use Rattle.replies.specs.Reply.{reply_of_choice}
 use Rattle.retention.proofs.retention_better.Goals as goal
 
 pub returns : goal.returns
-returns c = c.of_choice.ensures ∙ ap reply_of_choice c.choose.ensures.value
+returns c = c.from.ensures ∙ ap reply_of_choice c.choose.ensures.value

@@ -3,4 +3,4 @@ use Rattle.replies.proofs.Replied.{grounds-replied}
 use Rattle.retention.proofs.retention_grounds.Goals as goal
 
 pub returns : goal.returns
-returns c = grounds-replied _ _ _ _ _ _ c.of_grounds.ensures c.grounds.ensures.fact
+returns c = grounds-replied _ _ _ _ _ _ c.from.ensures c.grounds.ensures.fact

@@ -3,4 +3,4 @@ use Rattle.replies.proofs.Replied.{layered-replied}
 use Rattle.retention.proofs.retention_layered.Goals as goal
 
 pub returns : goal.returns
-returns c = layered-replied _ _ _ _ c.of_layered.ensures c.layered.ensures.fact
+returns c = layered-replied _ _ _ _ c.from.ensures c.layered.ensures.fact

@@ -7,13 +7,13 @@ use Rattle.stores.proofs.mark_constraint.Goals as goal
 pub returns-then-marks-number-eq-UNREAD_FACT : goal.returns-then-marks-number-eq-UNREAD_FACT
 unfolding is_unread
 returns-then-marks-number-eq-UNREAD_FACT c = record {
-  tables_after = rw (eq-eqb _ 2 c.if-marks-number-eq-UNREAD_FACT.true) refl;
+  cells_after = rw (eq-eqb _ 2 c.if-marks-number-eq-UNREAD_FACT.true) refl;
   marks_after = rw (eq-eqb _ 2 c.if-marks-number-eq-UNREAD_FACT.true) refl;
 }
 
 pub returns : goal.returns
 unfolding is_unread
 returns c = record {
-  tables_after = rw (ne_eqb _ 2 c.if-marks-number-eq-UNREAD_FACT.false) refl;
+  cells_after = rw (ne_eqb _ 2 c.if-marks-number-eq-UNREAD_FACT.false) refl;
   marks_after = rw (ne_eqb _ 2 c.if-marks-number-eq-UNREAD_FACT.false) refl;
 }

@@ -1,11 +1,7 @@
 -- `marked_in`: to set the bit changes nothing.
 use mathlib.Core.Path.{refl}
 use Rattle.bits.specs.Matrix.{bit_in}
-use Rattle.bits.proofs.RowMarked.{bit-inside}
 use Rattle.bits.proofs.matrix.marked_in.Goals as goal
-
-pub with_bit-requires : goal.with_bit-requires
-with_bit-requires c = bit-inside _
 
 pub returns : goal.returns
 unfolding bit_in

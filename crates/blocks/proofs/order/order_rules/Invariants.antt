@@ -2,13 +2,13 @@
 use Prim.Native.Nat.{◌-◌}
 use mathlib.Core.Path.{◌≡◌}
 use lib.ListN.{length}
+use Rattle.tables.specs.Held.{held}
 use Rattle.items.specs.Item.{narrow, max_facts, max_rules}
-use Rattle.tables.specs.Layout.{program_in}
 use Rattle.blocks.specs.Order.{Placing}
 use Rattle.blocks.proofs.order.order_rules.Given as goal
 
 abbrev pub invariant-loop-n : goal.invariant-loop-n
-invariant-loop-n l = Placing (program_in l.tables) l.listed l.order l.n × (length l.set ≡ max_facts narrow)
+invariant-loop-n l = Placing (held l.tables) l.listed l.order l.n × (length l.set ≡ max_facts narrow)
 
 abbrev pub decreases-loop-n : goal.decreases-loop-n
 decreases-loop-n l = max_rules - l.n

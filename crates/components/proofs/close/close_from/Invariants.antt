@@ -1,11 +1,7 @@
 -- `close_from`: the facts passed are closed, and have the rank.
-use Prim.Native.Nat.{◌-◌, ◌≤◌}
 use Rattle.components.specs.Open.{closed}
 use Rattle.components.proofs.ComponentClosed.{Written}
 use Rattle.components.proofs.close.close_from.Given as goal
 
 abbrev pub invariant-loop-a : goal.invariant-loop-a
-invariant-loop-a l = (l.from ≤ l.a) × ((l.a ≤ l.to) × (Written l.stack l.from l.a closed l.initial.seen l.seen × Written l.stack l.from l.a l.high l.initial.ranks l.ranks))
-
-abbrev pub decreases-loop-a : goal.decreases-loop-a
-decreases-loop-a l = l.to - l.a
+invariant-loop-a l = Written l.stack l.from l.a closed l.initial.seen l.seen × Written l.stack l.from l.a l.high l.initial.ranks l.ranks

@@ -1,10 +1,6 @@
 -- `highest_rank`: so far it is the rank of a fact there, and none passed has a higher one.
-use Prim.Native.Nat.{◌-◌}
 use Rattle.components.proofs.ComponentClosed.{HighestYet}
 use Rattle.components.proofs.close.highest_rank.Given as goal
 
 abbrev pub invariant-loop-a : goal.invariant-loop-a
 invariant-loop-a l = HighestYet l.stack l.ranks l.from l.to l.a l.high
-
-abbrev pub decreases-loop-a : goal.decreases-loop-a
-decreases-loop-a l = l.to - l.a

@@ -5,7 +5,7 @@ use Rattle.components.proofs.open.open_fact.Goals as goal
 use Rattle.components.proofs.open.open_fact.Goals.{Joined-barring, then-barring, else-barring}
 
 -- the cell, whichever way it came
-cell : (c : Joined-barring) → c.if-barring.root ≡ root_cell c.args.barring c.args.height
+cell : (c : Joined-barring) → c.if-barring.root ≡ root_cell c.args.barring c.args.standing.height
 cell c = elim c.if-barring.branch [ then-barring w ↦ rw (w.root-is, w.if-barring.true) | else-barring w ↦ rw (w.root-is, w.if-barring.false) ]
 
 pub returns : goal.returns

@@ -4,6 +4,3 @@ use Rattle.earliest.proofs.guessed.list_down.Given as goal
 
 abbrev pub invariant-loop-f : goal.invariant-loop-f
 invariant-loop-f l = Down l.marks l.facts l.row l.n l.f
-
-abbrev pub decreases-loop-f : goal.decreases-loop-f
-decreases-loop-f l = l.f

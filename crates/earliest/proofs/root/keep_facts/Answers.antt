@@ -1,16 +1,14 @@
--- `keep_facts`: the facts below f are kept.
-use native.Mathlib.Omega.{arith}
-use Rattle.earliest.proofs.FactsListed.{none_kept, one_kept, all-kept}
+-- `keep_facts`: the marks of the facts come first.
+use mathlib.Core.Path.{ap}
+use lib.Dec.{eqb}
+use Prim.Native.Nat.{ℕ}
+use Rattle.std.proofs.lemmas.List.{get_or-take}
+use Rattle.items.specs.Item.{narrow, max_facts, has}
 use Rattle.earliest.proofs.root.keep_facts.Goals as goal
 
-pub loop-f-init : goal.loop-f-init
-loop-f-init c = none_kept _ _ c.requires
-
-pub overflow_add-f : goal.overflow_add-f
-overflow_add-f c = record { fits = omega arith }
-
-pub loop-f-preserved : goal.loop-f-preserved
-loop-f-preserved c = one_kept _ _ _ (omega arith) c.loop-f.invariant
-
 pub returns : goal.returns
-returns c = all-kept _ _ _ (omega arith) c.loop-f.invariant
+unfolding has
+returns c = record {
+  places = c.copy_from_slice.ensures.len;
+  facts = λ f l. rw c.copy_from_slice.ensures.after (ap (λ (m : ℕ). eqb m 1) (get_or-take (max_facts narrow) c.args.marks.now f 0 l));
+}

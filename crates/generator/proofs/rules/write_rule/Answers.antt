@@ -6,5 +6,5 @@ pub returns : goal.returns
 returns c = three-written _ _ _ _ _ _ _ _ _ _ _ _ _ _
     c.step-first.ensures c.step-second.ensures c.step-third.ensures
     c.fact_of.ensures.0 c.fact_of-2.ensures.0 c.fact_of-3.ensures.0
-    c.requires.2
-    c.write_fact_body.ensures c.write_fact_body-2.ensures c.write_fact_body-3.ensures
+    c.requires.1
+    c.write_fact_body.ensures (rw c.kinds_at-kinds.ensures.0 at c.write_fact_body-2.ensures) (rw c.kinds_at-kinds.ensures.1 at c.write_fact_body-3.ensures)

@@ -9,34 +9,28 @@ use Rattle.grounds_text.specs.Text.{grounds_text}
 use Rattle.grounds_text.proofs.KeptLines.{text_fits}
 use Rattle.grounds_text.proofs.GroundsLines.{refused-text, tabled_text}
 use Rattle.grounds_text.proofs.kept.put_text.Goals as goal
-use Rattle.grounds_text.proofs.kept.put_text.Goals.{After-number, In-Yes}
+use Rattle.grounds_text.proofs.kept.put_text.Goals.{After-from, In-Ok}
 
 -- past the questions on the file
-passed : (c : In-Yes) → Passed c.args.file.now c.scan.new.tables
-passed c = scan_passed _ _ _ (sym c.scan.ensures.value ∙ c.in-Yes.is) c.scan.ensures.scanned
+passed : (c : In-Ok) → Passed c.args.file.now c.scan.new.tables.cells
+passed c = scan_passed _ _ _ (sym c.scan.ensures.value ∙ c.in-Ok.is) c.scan.ensures.scanned
 
 -- a refusal, with its number
-stopped : (c : After-number) → grounds_text c.args.file.now c.args.fact ≡ line 0x45 c.number.result
+stopped : (c : After-from) → grounds_text c.args.file.now c.args.fact ≡ line 0x45 c.from.result
 stopped c =
-    refused-text _ _ _ (file-no _ _ (sym c.scan.ensures.value ∙ c.in-No.is)) ∙ ap (line 0x45) (sym c.number.ensures)
+    refused-text _ _ _ (file-no _ _ (sym c.scan.ensures.value ∙ c.in-Err.is)) ∙ ap (line 0x45) (sym c.number.ensures ∙ sym c.from.ensures)
 
 pub put_line-requires : goal.put_line-requires
-put_line-requires c = record { inside = omega (arith, c.requires, line-length 0x45 c.number.result (omega (arith, c.number.type_inv))) }
+put_line-requires c = record { inside = omega (arith, c.requires, c.from.ensures, line-length 0x45 c.from.result (omega (arith, c.from.ensures, c.number.type_inv))) }
 
-pub put_kept-requires : goal.put_kept-requires
-put_kept-requires c = record {
-  well_formed = (passed (goal.at.put_kept-requires c).In-Yes).tabled.well_formed;
-  narrow_in_bounds = c.requires;
+pub returns-in-Err : goal.returns-in-Err
+returns-in-Err c = record {
+  put = rw (stopped (goal.at.returns-in-Err c).After-from) c.put_line.ensures;
+  upper_bound = omega (arith, c.put_line.ensures.behind, line-length 0x45 c.from.result (omega (arith, c.from.ensures, c.number.type_inv)));
 }
 
-pub returns-in-No : goal.returns-in-No
-returns-in-No c = record {
-  put = rw (stopped (goal.at.returns-in-No c).After-number) c.put_line.ensures;
-  upper_bound = omega (arith, c.put_line.ensures.behind, line-length 0x45 c.number.result (omega (arith, c.number.type_inv)));
-}
-
-pub returns-in-Yes : goal.returns-in-Yes
-returns-in-Yes c = let p = passed (goal.at.returns-in-Yes c).In-Yes in
+pub returns-in-Ok : goal.returns-in-Ok
+returns-in-Ok c = let p = passed (goal.at.returns-in-Ok c).In-Ok in
     let fact = c.args.fact in
     record {
       put = rw (tabled_text p fact) at c.put_kept.ensures;

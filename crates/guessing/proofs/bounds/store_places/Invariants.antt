@@ -3,7 +3,4 @@ use Rattle.guessing.proofs.BoundsStored.{Storing}
 use Rattle.guessing.proofs.bounds.store_places.Given as goal
 
 abbrev pub invariant-loop-place : goal.invariant-loop-place
-invariant-loop-place l = Storing l.places l.low l.high l.masks l.values l.kept l.place
-
-abbrev pub decreases-loop-place : goal.decreases-loop-place
-decreases-loop-place l = l.place
+invariant-loop-place l = Storing l.places l.bounds.low l.bounds.high l.nogoods l.kept l.place

@@ -1,9 +1,6 @@
--- `compare`: from the place at hand on, the guess has exactly the facts that are marked.
+-- `compare`: the guess has exactly the facts before the one at hand that are marked.
 use Rattle.guessing.proofs.PlacesAgree.{Agreed}
 use Rattle.guessing.proofs.compared.compare.Given as goal
 
-abbrev pub invariant-loop-place : goal.invariant-loop-place
-invariant-loop-place l = Agreed l.row l.guess l.marks l.place
-
-abbrev pub decreases-loop-place : goal.decreases-loop-place
-decreases-loop-place l = l.place
+abbrev pub invariant-loop-i : goal.invariant-loop-i
+invariant-loop-i l = Agreed l.row l.guess l.marks l.i

@@ -1,90 +1,77 @@
 -- `item_of`: in each arm the kind is known, and so are the body and the item.
-use Prim.Native.Nat.{ℕ, ◌+◌, ◌≤◌}
-use mathlib.Core.Path.{◌≡◌, sym, ap, ap₂, ◌∙◌}
-use native.Mathlib.Omega.{arith}
-use lib.ListN.{length}
-use Rattle.items.specs.Item.{narrow, body_length, item_of, fact_id, rule_id, step_kind}
-use Rattle.items.specs.declared.item.Item.TheVariants.{Facts, Opens, Premise, Constraint, Rules, Names, Step, Unread}
-use Rattle.items.proofs.Bodies.{a_step, step-at}
+use Rattle.std.proofs.Common.{sym, ap, ap₂, ◌∙◌, ℕ, arith}
+use Rattle.items.specs.declared.item.Item.TheVariants.{Opens, Premise, Constraint, Rules, Names, Step, Unread, Facts}
+use Rattle.items.specs.Item.{body_length, item_of, fact_id, rule_id}
+use Rattle.items.proofs.Bodies.{step-at}
 use Rattle.items.proofs.item.item_of.Goals as goal
-use Rattle.items.proofs.item.item_of.Goals.{In_default}
-
--- in the last arm the kind is a step's
-a-step-here : (c : In_default) → c.args.kind ≡ step_kind narrow
-a-step-here c =
-    let r = c.in_default.in_default-own.rest in
-    a_step c.args.kind
-    (record { facts = r.0.0.0.0.0.0.1; opens = r.0.0.0.0.0.1; premise = r.0.0.0.0.1; constraint = r.0.0.0.1; rules = r.0.0.1; names = r.0.1; unread = r.1 })
-    c.requires.0
-
-whole-step : (c : In_default) (a-step-here-here : c.args.kind ≡ step_kind narrow) → c.args.at + 3 ≤ length c.args.bytes.now
-unfolding body_length
-whole-step c a-step-here-here = rw (a-step-here-here) at c.requires.1
 
 pub fact_field-requires : goal.fact_field-requires
 unfolding body_length
-fact_field-requires c = rw c.in-16.is at c.requires.1
+fact_field-requires c = rw c.in-Facts.is at c.requires
 
-pub fact_field-requires-in-1 : goal.fact_field-requires-in-1
+pub fact_field-requires-in-Opens : goal.fact_field-requires-in-Opens
 unfolding body_length
-fact_field-requires-in-1 c = rw c.in-1.is at c.requires.1
+fact_field-requires-in-Opens c = rw c.in-Opens.is at c.requires
 
-pub fact_field-requires-in-2 : goal.fact_field-requires-in-2
+pub fact_field-requires-in-Premise : goal.fact_field-requires-in-Premise
 unfolding body_length
-fact_field-requires-in-2 c = rw c.in-2.is at c.requires.1
+fact_field-requires-in-Premise c = rw c.in-Premise.is at c.requires
 
-pub fact_field-requires-in-3 : goal.fact_field-requires-in-3
+pub fact_field-requires-in-Constraint : goal.fact_field-requires-in-Constraint
 unfolding body_length
-fact_field-requires-in-3 c = rw c.in-3.is at c.requires.1
+fact_field-requires-in-Constraint c = rw c.in-Constraint.is at c.requires
 
 pub rule_field-requires : goal.rule_field-requires
 unfolding body_length
-rule_field-requires c = rw c.in-31.is at c.requires.1
+rule_field-requires c = rw c.in-Rules.is at c.requires
 
-pub rule_field-requires-in-5 : goal.rule_field-requires-in-5
+pub rule_field-requires-in-Names : goal.rule_field-requires-in-Names
 unfolding body_length
-rule_field-requires-in-5 c = rw c.in-5.is at c.requires.1
+rule_field-requires-in-Names c = rw c.in-Names.is at c.requires
 
-pub fact_field-requires-in-7 : goal.fact_field-requires-in-7
+pub fact_field-requires-in-Unread : goal.fact_field-requires-in-Unread
 unfolding body_length
-fact_field-requires-in-7 c = rw c.in-7.is at c.requires.1
+fact_field-requires-in-Unread c = rw c.in-Unread.is at c.requires
 
-pub fact_field-requires-in_default : goal.fact_field-requires-in_default
-fact_field-requires-in_default c = omega (arith, whole-step c (a-step-here c))
+pub fact_field-requires-in-Step : goal.fact_field-requires-in-Step
+unfolding body_length
+fact_field-requires-in-Step c = omega (arith, rw c.in-Step.is at c.requires)
 
-pub rule_field-requires-in_default : goal.rule_field-requires-in_default
-rule_field-requires-in_default c = omega (arith, whole-step (goal.at.rule_field-requires-in_default c).In_default (a-step-here (goal.at.rule_field-requires-in_default c).In_default))
+pub rule_field-requires-in-Step : goal.rule_field-requires-in-Step
+unfolding body_length
+rule_field-requires-in-Step c = omega (arith, rw c.in-Step.is at c.requires)
 
-pub returns-in-16 : goal.returns-in-16
+pub returns-in-Facts : goal.returns-in-Facts
 unfolding body_length item_of
-returns-in-16 c = rw c.in-16.is (ap Facts c.fact_field.ensures)
+returns-in-Facts c = rw c.in-Facts.is (ap Facts c.fact_field.ensures)
 
-pub returns-in-1 : goal.returns-in-1
+pub returns-in-Opens : goal.returns-in-Opens
 unfolding body_length item_of
-returns-in-1 c = rw c.in-1.is (ap (λ (n : ℕ). Opens (fact_id n)) c.fact_field-in-1.ensures)
+returns-in-Opens c = rw c.in-Opens.is (ap (λ (n : ℕ). Opens (fact_id n)) c.fact_field-in-Opens.ensures)
 
-pub returns-in-2 : goal.returns-in-2
+pub returns-in-Premise : goal.returns-in-Premise
 unfolding body_length item_of
-returns-in-2 c = rw c.in-2.is (ap (λ (n : ℕ). Premise (fact_id n)) c.fact_field-in-2.ensures)
+returns-in-Premise c = rw c.in-Premise.is (ap (λ (n : ℕ). Premise (fact_id n)) c.fact_field-in-Premise.ensures)
 
-pub returns-in-3 : goal.returns-in-3
+pub returns-in-Constraint : goal.returns-in-Constraint
 unfolding body_length item_of
-returns-in-3 c = rw c.in-3.is (ap (λ (n : ℕ). Constraint (fact_id n)) c.fact_field-in-3.ensures)
+returns-in-Constraint c = rw c.in-Constraint.is (ap (λ (n : ℕ). Constraint (fact_id n)) c.fact_field-in-Constraint.ensures)
 
-pub returns-in-31 : goal.returns-in-31
+pub returns-in-Rules : goal.returns-in-Rules
 unfolding body_length item_of
-returns-in-31 c = rw c.in-31.is (ap Rules c.rule_field.ensures)
+returns-in-Rules c = rw c.in-Rules.is (ap Rules c.rule_field.ensures)
 
-pub returns-in-5 : goal.returns-in-5
+pub returns-in-Names : goal.returns-in-Names
 unfolding body_length item_of
-returns-in-5 c = rw c.in-5.is (ap (λ (n : ℕ). Names (rule_id n)) c.rule_field-in-5.ensures)
+returns-in-Names c = rw c.in-Names.is (ap (λ (n : ℕ). Names (rule_id n)) c.rule_field-in-Names.ensures)
 
-pub returns-in-7 : goal.returns-in-7
+pub returns-in-Unread : goal.returns-in-Unread
 unfolding body_length item_of
-returns-in-7 c = rw c.in-7.is (ap (λ (n : ℕ). Unread (fact_id n)) c.fact_field-in-7.ensures)
+returns-in-Unread c = rw c.in-Unread.is (ap (λ (n : ℕ). Unread (fact_id n)) c.fact_field-in-Unread.ensures)
 
-pub returns-in_default : goal.returns-in_default
+pub returns-in-Step : goal.returns-in-Step
 unfolding body_length item_of
-returns-in_default c = let p = step-at c.args.bytes.now c.args.at (whole-step (goal.at.returns-in_default c).In_default (a-step-here (goal.at.returns-in_default c).In_default)) in
-    rw (a-step-here (goal.at.returns-in_default c).In_default)
-    (ap₂ (λ (f r : ℕ). Step (fact_id f) (rule_id r)) (c.fact_field-in_default.ensures ∙ sym p.0) (c.rule_field-in_default.ensures ∙ sym p.1))
+returns-in-Step c =
+    let whole = rw c.in-Step.is at c.requires in
+    let p = step-at c.args.bytes.now c.args.at whole in
+    rw c.in-Step.is (ap₂ (λ (f r : ℕ). Step (fact_id f) (rule_id r)) (c.fact_field-in-Step.ensures ∙ sym p.0) (c.rule_field-in-Step.ensures ∙ sym p.1))

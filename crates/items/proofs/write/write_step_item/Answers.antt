@@ -18,4 +18,4 @@ bounds-out-at-4 c = simp length-set (omega arith)
 
 pub returns : goal.returns
 returns c = let a = c.args in
-    rw (add-one, add-two, add-three) (stored (step_item narrow a.fact.0 a.rule.0) a.out.now a.at c.requires.1)
+    rw (add-one, add-two, add-three, c.byte.ensures) (stored (step_item narrow a.fact.0 a.rule.0) a.out.now a.at c.requires.1)

@@ -1,5 +1,5 @@
 -- `same_facts`: what is to come decides.
-use Prim.Native.Nat.{◌-◌, ◌≤◌}
+use Prim.Native.Nat.{◌-◌}
 use mathlib.Core.Bool.{beq}
 use Rattle.theory.specs.Rule.{range}
 use Rattle.items.specs.Item.{has}
@@ -7,7 +7,4 @@ use Rattle.theory.proofs.ListWalks.{Decides}
 use Rattle.judge.proofs.stable.same_facts.Given as goal
 
 abbrev pub invariant-loop-f : goal.invariant-loop-f
-invariant-loop-f l = (l.f ≤ l.facts) × Decides (λ g. beq (has l.a g) (has l.b g)) (range 0 l.facts) (range l.f (l.facts - l.f))
-
-abbrev pub decreases-loop-f : goal.decreases-loop-f
-decreases-loop-f l = l.facts - l.f
+invariant-loop-f l = Decides (λ g. beq (has l.a g) (has l.b g)) (range 0 l.facts) (range l.f (l.facts - l.f))

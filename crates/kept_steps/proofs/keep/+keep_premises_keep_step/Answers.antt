@@ -3,52 +3,53 @@ use Prim.Native.Nat.{ℕ, ◌+◌, ◌*◌, ◌<◌}
 use mathlib.Core.Path.{subst}
 use native.Mathlib.Omega.{arith}
 use borrow.Author.Tests.{eq-eqb}
+use Rattle.theory.proofs.Lists.{element_below}
 use Rattle.items.specs.Item.{narrow, max_facts, has}
 use Rattle.tables.proofs.ProgramHeld.{facts_below}
 use Rattle.kept_steps.specs.Keep.{place_of}
-use Rattle.kept_steps.proofs.StepsPlaced.{rule_known, span-placed}
+use Rattle.kept_steps.proofs.StepsPlaced.{rule_known, premise-before}
 use Rattle.kept_steps.proofs.KeepLaws.{kept-already, new_kept, one_kept, all-kept}
 use Rattle.kept_steps.proofs.keep.+keep_premises_keep_step.Goals as goal
-use Rattle.kept_steps.proofs.keep.+keep_premises_keep_step.Goals.{keep_premises-After-premise_at-fact, keep_premises-then-kept-earlier-ne-KEPT, keep_premises-else-kept-earlier-ne-KEPT}
+use Rattle.kept_steps.proofs.keep.+keep_premises_keep_step.Goals.{keep_premises-After-wide, keep_premises-then-kept-earlier-ne-KEPT, keep_premises-else-kept-earlier-ne-KEPT}
 
 -- a premise is one of the facts, and its step stands before
-fact-inside : {t : ℕ} (c : keep_premises-After-premise_at-fact t) → c.premise_at-fact.result < max_facts narrow
+fact-inside : {t : ℕ} (c : keep_premises-After-wide t) → c.wide.result < max_facts narrow
 fact-inside c =
     omega
-    (arith, c.premise_at-fact.ensures, c.premise_span-own.ensures.facts_below _ c.loop-place.invariant.reached c.loop-place-test.true, facts_below c.requires.well_formed)
+    (arith, c.wide.ensures, element_below _ _ _ c.premises-fact-items.ensures.facts_below c.loop-fact-test.true, facts_below c.args.tables.now.well_formed)
 
-earlier-inside : {t : ℕ} (c : keep_premises-After-premise_at-fact t) → place_of c.args.places.now c.premise_at-fact.result < c.args.k
+earlier-inside : {t : ℕ} (c : keep_premises-After-wide t) → place_of c.args.places.now c.wide.result < c.args.k
 earlier-inside c =
-    rw c.premise_at-fact.ensures
-    (span-placed c.args.row.now _ _ c.requires.may_keep.traced c.requires.may_keep.placed c.requires.may_keep.inside c.premise_span-own.ensures c.loop-place.invariant.reached c.loop-place-test.true)
+    rw c.wide.ensures
+    (premise-before c.args.row.now _ _ c.requires.may_keep.traced c.requires.may_keep.placed c.requires.may_keep.inside c.premises-fact-items.ensures.elements c.loop-fact-test.true)
 
-pub keep_premises-premise_span-own-requires : goal.keep_premises-premise_span-own-requires
-keep_premises-premise_span-own-requires t c = (c.requires.well_formed, rule_known _ c.args.row.now c.requires.may_keep.traced _ c.requires.may_keep.inside)
+pub keep_premises-premises-fact-items-requires : goal.keep_premises-premises-fact-items-requires
+keep_premises-premises-fact-items-requires t c = rule_known _ c.args.row.now c.requires.may_keep.traced _ c.requires.may_keep.inside
 
-pub keep_premises-bounds-places-fact : goal.keep_premises-bounds-places-fact
-keep_premises-bounds-places-fact t c = fact-inside (goal.at.keep_premises-bounds-places-fact t c).After-premise_at-fact
+pub keep_premises-bounds-places-wide : goal.keep_premises-bounds-places-wide
+keep_premises-bounds-places-wide t c = fact-inside (goal.at.keep_premises-bounds-places-wide t c).After-wide
 
 pub keep_premises-bounds-kept-earlier : goal.keep_premises-bounds-kept-earlier
-keep_premises-bounds-kept-earlier t c = omega (arith, earlier-inside (goal.at.keep_premises-bounds-kept-earlier t c).After-premise_at-fact, c.requires.may_keep.few, c.requires.may_keep.inside)
+keep_premises-bounds-kept-earlier t c = omega (arith, earlier-inside (goal.at.keep_premises-bounds-kept-earlier t c).After-wide, c.requires.may_keep.few, c.requires.may_keep.inside)
 
 pub keep_premises-keep_step-requires : goal.keep_premises-keep_step-requires
 keep_premises-keep_step-requires t c =
     let may = c.requires.may_keep in
-    let earlier = earlier-inside (goal.at.keep_premises-keep_step-requires t c).After-premise_at-fact in (
-      subst (λ (j : ℕ). place_of c.args.places.now c.premise_at-fact.result * 2 + 1 < j) c.decreases (omega arith),
-      (c.requires.well_formed, record { few = may.few; cells = c.loop-place.invariant.cells; traced = may.traced; placed = may.placed; inside = omega arith }),
+    let earlier = earlier-inside (goal.at.keep_premises-keep_step-requires t c).After-wide in (
+      subst (λ (j : ℕ). place_of c.args.places.now c.wide.result * 2 + 1 < j) c.decreases (omega arith),
+      record { few = may.few; cells = c.loop-fact.invariant.cells; traced = may.traced; placed = may.placed; inside = omega arith },
     )
 
-pub keep_premises-loop-place-preserved : goal.keep_premises-loop-place-preserved
+pub keep_premises-loop-fact-preserved : goal.keep_premises-loop-fact-preserved
 unfolding has
-keep_premises-loop-place-preserved t c =
+keep_premises-loop-fact-preserved t c =
     elim c.if-kept-earlier-ne-KEPT.branch [
-      | keep_premises-then-kept-earlier-ne-KEPT w ↦ rw w.kept-is (one_kept c.loop-place.invariant _ c.loop-place-test.true w.keep_step.ensures.kept_len (rw (← c.premise_at-fact.ensures) w.keep_step.ensures.keeps))
-      | keep_premises-else-kept-earlier-ne-KEPT w ↦ rw w.kept-is (one_kept c.loop-place.invariant _ c.loop-place-test.true c.loop-place.invariant.cells (rw (← c.premise_at-fact.ensures) (kept-already _ _ (eq-eqb _ _ w.if-kept-earlier-ne-KEPT.false))))
+      | keep_premises-then-kept-earlier-ne-KEPT w ↦ rw w.kept-is (one_kept c.loop-fact.invariant _ c.loop-fact-test.true w.keep_step.ensures.kept_len (rw (← c.wide.ensures) w.keep_step.ensures.keeps))
+      | keep_premises-else-kept-earlier-ne-KEPT w ↦ rw w.kept-is (one_kept c.loop-fact.invariant _ c.loop-fact-test.true c.loop-fact.invariant.cells (rw (← c.wide.ensures) (kept-already _ _ (eq-eqb _ _ w.if-kept-earlier-ne-KEPT.false))))
     ]
 
 pub keep_premises-returns-clause-keeps : goal.keep_premises-returns-clause-keeps
-keep_premises-returns-clause-keeps t c = rw c.premise_span-own.ensures.is (all-kept c.loop-place.invariant c.loop-place-test.false)
+keep_premises-returns-clause-keeps t c = rw (← c.premises-fact-items.ensures.elements) (all-kept c.loop-fact.invariant c.loop-fact-test.false)
 
 pub keep_step-returns-clause-keeps : goal.keep_step-returns-clause-keeps
 keep_step-returns-clause-keeps t c =

@@ -16,17 +16,11 @@ own-inside : (c : After-place_steps) → place_of c.place_steps.new.places c.arg
 own-inside c = own-placed c.args.row.now _ _ c.requires.traced c.place_steps.ensures c.requires.fact_value
 
 pub bounds-places-number : goal.bounds-places-number
-bounds-places-number c = own-few c.requires.well_formed c.args.row.now c.requires.traced _ c.requires.fact_value
-
-pub overflow_cast-own : goal.overflow_cast-own
-overflow_cast-own c = omega (arith, own-inside (goal.at.overflow_cast-own c).After-place_steps)
+bounds-places-number c = own-few c.args.tables.now.well_formed c.args.row.now c.requires.traced _ c.requires.fact_value
 
 pub keep_step-requires : goal.keep_step-requires
 keep_step-requires c = let pre = c.requires in
-    record {
-      well_formed = pre.well_formed;
-      may_keep = record { few = pre.row_len_bound.0; cells = refl; traced = pre.traced; placed = c.place_steps.ensures; inside = own-inside (goal.at.keep_step-requires c).After-place_steps };
-    }
+    record { may_keep = record { few = pre.row_len_bound.0; cells = refl; traced = pre.traced; placed = c.place_steps.ensures; inside = own-inside (goal.at.keep_step-requires c).After-place_steps } }
 
 pub returns : goal.returns
 returns c = let kept = kept_for (max_facts narrow) c.requires.traced c.place_steps.ensures c.requires.fact_value c.keep_step.ensures.keeps in

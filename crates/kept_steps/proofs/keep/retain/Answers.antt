@@ -1,14 +1,9 @@
 -- `retain`: the first cells hold the kept of the rules passed.
-use Prim.Native.Nat.{◌-◌}
-use native.Mathlib.Omega.{arith}
 use borrow.Author.Tests.{eq-eqb, ne_eqb}
 use Rattle.items.specs.Item.{has}
-use Rattle.kept_steps.proofs.StepsRetained.{none_retained, one_retained, not-retained, all_retained}
+use Rattle.kept_steps.proofs.StepsRetained.{one_retained, not-retained}
 use Rattle.kept_steps.proofs.keep.retain.Goals as goal
 use Rattle.kept_steps.proofs.keep.retain.Goals.{then-kept-k-eq-KEPT, else-kept-k-eq-KEPT}
-
-pub loop-k-init : goal.loop-k-init
-loop-k-init c = none_retained _ _ _ c.requires.2
 
 pub loop-k-preserved : goal.loop-k-preserved
 unfolding has
@@ -17,9 +12,3 @@ loop-k-preserved c =
       | then-kept-k-eq-KEPT w ↦ rw (w.out-is, w.n-is) (one_retained c.loop-k.invariant c.loop-k-test.true c.requires.0 (eq-eqb _ _ w.if-kept-k-eq-KEPT.true))
       | else-kept-k-eq-KEPT w ↦ rw (w.out-is, w.n-is) (not-retained c.loop-k.invariant c.loop-k-test.true (ne_eqb _ _ w.if-kept-k-eq-KEPT.false))
     ]
-
-pub returns : goal.returns
-returns c = record {
-  out_after = all_retained c.loop-k.invariant c.loop-k-test.false;
-  upper_bound = (omega arith, c.loop-k.invariant.cells);
-}

@@ -1,11 +1,6 @@
 -- `first_fit`: the first word that has a lane has the first of all as its lowest.
-use Prim.Native.Nat.{◌-◌}
-use Rattle.lanes.specs.Lanes.{lane_words}
 use Rattle.lanes.proofs.LanesFit.{Unfit}
 use Rattle.lanes.proofs.fit.first_fit.Given as goal
 
 abbrev pub invariant-loop-w : goal.invariant-loop-w
 invariant-loop-w l = Unfit l.row l.derived l.outs l.w
-
-abbrev pub decreases-loop-w : goal.decreases-loop-w
-decreases-loop-w l = lane_words - l.w

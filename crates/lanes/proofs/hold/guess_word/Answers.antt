@@ -2,11 +2,8 @@
 use native.Mathlib.Omega.{arith}
 use mathlib.Core.Path.{refl}
 use borrow.Author.Tests.{eq-eqb, ne_eqb}
-use Rattle.lanes.proofs.LanePatterns.{pattern_lanes, all_set, all-clear, shift_small}
+use Rattle.lanes.proofs.LanePatterns.{pattern_lanes, all_set, all-clear}
 use Rattle.lanes.proofs.hold.guess_word.Goals as goal
-
-pub overflow_shr-number : goal.overflow_shr-number
-overflow_shr-number c = shift_small _ c.requires
 
 pub returns-in-0 : goal.returns-in-0
 returns-in-0 c = pattern_lanes _ _ 0 c.in-0.is (omega arith) refl

@@ -1,11 +1,6 @@
 -- `hold_block`: place by place.
-use Prim.Native.Nat.{◌-◌}
-use lib.ListN.{length}
 use Rattle.lanes.proofs.FactsHeld.{Holding}
 use Rattle.lanes.proofs.hold.hold_block.Given as goal
 
 abbrev pub invariant-loop-place : goal.invariant-loop-place
 invariant-loop-place l = Holding l.row l.block l.initial.outs l.outs l.place
-
-abbrev pub decreases-loop-place : goal.decreases-loop-place
-decreases-loop-place l = length l.row - l.place

@@ -3,7 +3,7 @@ use Prim.Native.Nat.{◌<◌}
 use mathlib.Core.Path.{◌≡◌, sym, ◌∙◌}
 use mathlib.Core.Bool.{Bool}
 use native.Mathlib.Omega.{arith}
-use Rattle.tables.specs.Layout.{program_in}
+use Rattle.tables.specs.Held.{held}
 use Rattle.tables.proofs.ProgramHeld.{rules-below}
 use Rattle.theory.specs.Rule.{count, withheld}
 use Rattle.theory.proofs.Withheld.{withheld-off, read_on}
@@ -12,29 +12,17 @@ use Rattle.marking.proofs.marks.mark_constraint_facts.Goals as goal
 use Rattle.marking.proofs.marks.mark_constraint_facts.Goals.{After-is_withheld, In-loop-i, then-not-is_withheld, else-not-is_withheld}
 
 pub loop-i-init : goal.loop-i-init
-loop-i-init c = (c.rules_of-rules.ensures, no-rule_marked _ _)
+loop-i-init c = (c.rules-i-end.ensures, no-rule_marked _ _)
 
 pub overflow_cast-rule : goal.overflow_cast-rule
-overflow_cast-rule c = omega (arith, c.loop-i.invariant.0, rules-below c.requires.0)
+overflow_cast-rule c = omega (arith, c.loop-i.invariant.0, rules-below c.args.tables.now.well_formed)
 
 -- whether the rule is in force
-kind : (c : After-is_withheld) (b : Bool) → c.is_withheld.result ≡ b → withheld (program_in c.args.tables.now) c.loop-i.i ≡ b
+kind : (c : After-is_withheld) (b : Bool) → c.is_withheld.result ≡ b → withheld (held c.args.tables.now) c.loop-i.i ≡ b
 kind c b q = sym c.is_withheld.ensures ∙ q
 
-known : (c : In-loop-i) → c.loop-i.i < count (program_in c.args.tables.now)
+known : (c : In-loop-i) → c.loop-i.i < count (held c.args.tables.now)
 known c = omega (arith, c.loop-i.invariant.0, c.loop-i-test.true)
-
-pub is_withheld-requires : goal.is_withheld-requires
-is_withheld-requires c = (c.requires.0, known c)
-
-pub mark_own-requires : goal.mark_own-requires
-mark_own-requires c = record {
-  well_formed = (c.requires.0, known (goal.at.mark_own-requires c).In-loop-i);
-  marks_len = c.loop-i.invariant.1.places ∙ c.requires.1;
-}
-
-pub overflow_add-i : goal.overflow_add-i
-overflow_add-i c = omega (arith, c.loop-i.invariant.0, rules-below c.requires.0)
 
 pub loop-i-preserved : goal.loop-i-preserved
 loop-i-preserved c = let w = c.loop-i.invariant.1 in (

@@ -2,7 +2,7 @@
 use Prim.Native.Nat.{◌<◌}
 use mathlib.Core.Path.{◌≡◌, refl, sym, ap, ◌∙◌}
 use mathlib.Core.List.{◌∷◌}
-use native.Mathlib.Omega.{arith}
+use borrow.Author.Rules.{rules}
 use borrow.Enum.Refused.{opened}
 use Rattle.cursors.specs.declared.cursor.Row.TheVariants.{Order}
 use Rattle.items.specs.Item.{max_rules}
@@ -11,7 +11,7 @@ use Rattle.cursors.proofs.Items.{found, closer}
 use Rattle.cursors.proofs.NoItemRead.{nothing_read}
 use Rattle.questions.specs.Questions.{names_of}
 use Rattle.questions.proofs.ItemWalks.{headed, past-names, same_row}
-use Rattle.naming.proofs.RowFilled.{none_read, all_read, no_name, room-left, one_read}
+use Rattle.naming.proofs.RowFilled.{all_read, no_name, room-left, one_read}
 use Rattle.naming.proofs.row.order_row.Goals as goal
 use Rattle.naming.proofs.row.order_row.Goals.{In-Names}
 
@@ -22,25 +22,13 @@ one-named c = ap names_of (headed _ _ _ _ _ (sym c.next_name.ensures ∙ c.in-Fo
 room : (c : In-Names) → c.loop-item.n < max_rules
 room c = room-left c.loop-item.invariant.1 c.requires.order_len_bound _ _ (one-named c)
 
-pub loop-item-init : goal.loop-item-init
-loop-item-init c = (refl, none_read _ _ c.requires.row_len)
-
-pub next_name-requires : goal.next_name-requires
-next_name-requires c = c.loop-item.invariant.0
-
-pub returns-in_default : goal.returns-in_default
-returns-in_default c =
-    let p = all_read c.loop-item.invariant.1 (nothing_read names_of (λ fault. refl) _ _ _ (sym c.next_name.ensures) (opened c.in_default.in_default-own.keys2)) in
+pub returns : goal.returns
+returns c =
+    let p = all_read c.loop-item.invariant.1 (nothing_read names_of (λ fault. refl) _ _ _ (sym c.next_name.ensures) (search (rules, opened))) in
     record { row_after = p.0; value = p.1.0; row_len_2 = p.1.1 }
-
-pub offset_bounds-row-n : goal.offset_bounds-row-n
-offset_bounds-row-n c = omega (arith, room c)
 
 pub bounds-row-n : goal.bounds-row-n
 bounds-row-n c = room (goal.at.bounds-row-n c).In-Names
-
-pub overflow_add-n : goal.overflow_add-n
-overflow_add-n c = omega (arith, room (goal.at.overflow_add-n c).In-Names)
 
 pub loop-item-smaller-in-Names : goal.loop-item-smaller-in-Names
 loop-item-smaller-in-Names c = closer (found _ _ _ _ (sym c.next_name.ensures ∙ c.in-Found.is))
@@ -52,4 +40,4 @@ pub loop-item-smaller : goal.loop-item-smaller
 loop-item-smaller c = closer (found _ _ _ _ (sym c.next_name.ensures ∙ c.in-Found.is))
 
 pub loop-item-preserved : goal.loop-item-preserved
-loop-item-preserved c = (same_row _ _ _ _ Order (sym c.next_name.ensures ∙ c.in-Found.is) tt c.loop-item.invariant.0, no_name c.loop-item.invariant.1 _ (past-names _ _ _ _ (sym c.next_name.ensures ∙ c.in-Found.is) (opened c.in_default-item.in_default-item-own.keys2)))
+loop-item-preserved c = (same_row _ _ _ _ Order (sym c.next_name.ensures ∙ c.in-Found.is) tt c.loop-item.invariant.0, no_name c.loop-item.invariant.1 _ (past-names _ _ _ _ (sym c.next_name.ensures ∙ c.in-Found.is) (search (rules, opened))))

@@ -1,11 +1,7 @@
 -- `write_names`: the items of the rules passed are written.
-use Prim.Native.Nat.{◌-◌}
 use Rattle.items.specs.Write.{rule_item}
 use Rattle.questions.proofs.MarkedPut.{Passing}
 use Rattle.naming.proofs.write.write_names.Given as goal
 
 abbrev pub invariant-loop-i : goal.invariant-loop-i
 invariant-loop-i l = Passing rule_item l.mark l.marks l.count l.from l.initial.out l.at l.out l.i
-
-abbrev pub decreases-loop-i : goal.decreases-loop-i
-decreases-loop-i l = l.count - l.i

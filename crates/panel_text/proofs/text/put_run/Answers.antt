@@ -1,61 +1,61 @@
--- `put_run`: the order gets yes, so the run ends, and what it leaves gives the lines.
-use Prim.Native.Nat.{◌*◌}
+-- `put_run`: the run may be made in ascending order, and what it leaves gives the lines.
+use Prim.Native.Nat.{◌≤◌}
 use mathlib.Core.Path.{sym}
 use native.Mathlib.Omega.{arith}
-use lib.ListN.{replicate}
+use lib.ListN.{length}
 use lib.Seq.{length-take-le}
+use Rattle.tables.specs.Held.{held}
 use Rattle.theory.specs.Rule.{in_force}
 use Rattle.theory.specs.Run.{run}
-use Rattle.reader.specs.Questions.{program_of}
-use Rattle.items.specs.Item.{name_width, max_rules}
-use Rattle.questions.specs.Questions.{naming}
-use Rattle.questions.specs.Put.{Put}
+use Rattle.tables.proofs.ProgramHeld.{rules-below}
 use Rattle.panel_lines.specs.Text.{ascending}
 use Rattle.questions.proofs.BytesPut.{put_inside}
 use Rattle.panel_text.proofs.TextShown.{front-text}
-use Rattle.panel_text.proofs.Lengths.{order_fits, few_tabled, text_fits}
-use Rattle.panel_text.proofs.RunLines.{RunEnded, ran-through, not-refused, tables, steps-inside, left-lines}
+use Rattle.panel_text.proofs.Lengths.{ascending-fits, text_fits}
+use Rattle.panel_text.proofs.RunLines.{RunEnded, ascending-may_run, ran-through, facts-inside, rules-inside, steps-inside, left-lines}
 use Rattle.panel_text.proofs.text.put_run.Goals as goal
-use Rattle.panel_text.proofs.text.put_run.Goals.{After-put_order-named, After-run}
+use Rattle.panel_text.proofs.text.put_run.Goals.{After-put_order-named, After-run_tabled-ran}
 
--- the order, by the file
-order-written : (c : After-put_order-named) → Put (naming (ascending (program_of c.args.file.now))) 0 (replicate (max_rules * name_width) 0) c.put_order-named.result c.put_order-named.new.out
-order-written c = rw c.requires.accepted.1.program at c.put_order-named.ensures
+-- the order lies inside its buffer
+order-inside : (c : After-put_order-named) → c.put_order-named.result ≤ length c.put_order-named.new.out
+order-inside c = put_inside _ _ _ _ _ (ascending-fits (held c.args.tables.now) (rules-below c.args.tables.now.well_formed)) c.put_order-named.ensures
 
 -- what the run leaves
-ended : (c : After-run) → RunEnded (program_of c.args.file.now) (run (program_of c.args.file.now) (in_force (program_of c.args.file.now)) (ascending (program_of c.args.file.now))) c.run.result c.run.new.fact_marks c.run.new.rule_marks c.run.new.steps
-ended c =
-    ran-through _ _ (few_tabled c.requires.accepted.1) c.requires.accepted.0.accepted (front-text _ _ _ _ (rw c.requires.accepted.1.program at c.put_order-named.ensures)) _ _ _ _ c.run.ensures.fact
+ended : (c : After-run_tabled-ran) → RunEnded (held c.args.tables.now) (run (held c.args.tables.now) (in_force (held c.args.tables.now)) (ascending (held c.args.tables.now))) c.run_tabled-ran.result c.run_tabled-ran.new.fact_marks c.run_tabled-ran.new.rule_marks c.run_tabled-ran.new.steps
+ended c = ran-through c.args.tables.now.well_formed _ (front-text _ _ _ _ c.put_order-named.ensures) _ _ _ _ c.run_tabled-ran.ensures
 
 pub put_order-named-requires : goal.put_order-named-requires
-put_order-named-requires c = record {
-  well_formed = c.requires.accepted.1.well_formed;
-  fits = rw c.requires.accepted.1.program (order_fits _ c.requires.accepted.0.accepted);
-}
+put_order-named-requires c = record { fits = ascending-fits (held c.args.tables.now) (rules-below c.args.tables.now.well_formed) }
 
 pub slice_bounds-order-end : goal.slice_bounds-order-end
-slice_bounds-order-end c = put_inside _ _ _ _ _ (order_fits _ c.requires.accepted.0.accepted) (order-written (goal.at.slice_bounds-order-end c).After-put_order-named)
+slice_bounds-order-end c = order-inside (goal.at.slice_bounds-order-end c).After-put_order-named
 
-pub slice_bounds-run-end : goal.slice_bounds-run-end
-slice_bounds-run-end c = sym (length-take-le _ _ (put_inside _ _ _ _ _ (order_fits _ c.requires.accepted.0.accepted) (order-written (goal.at.slice_bounds-run-end c).After-put_order-named)))
+pub run_tabled-ran-requires : goal.run_tabled-ran-requires
+run_tabled-ran-requires c = record { may_run = ascending-may_run c.args.tables.now.well_formed _ (front-text _ _ _ _ c.put_order-named.ensures) }
+
+pub slice_bounds-fact_marks-end : goal.slice_bounds-fact_marks-end
+slice_bounds-fact_marks-end c = rw c.facts-facts.ensures (facts-inside c.args.tables.now.well_formed _ _ _ _ (ended (goal.at.slice_bounds-fact_marks-end c).After-run_tabled-ran))
+
+pub slice_bounds-put_left-end : goal.slice_bounds-put_left-end
+slice_bounds-put_left-end c = sym (length-take-le _ _ (rw c.facts-facts.ensures (facts-inside c.args.tables.now.well_formed _ _ _ _ (ended (goal.at.slice_bounds-put_left-end c).After-run_tabled-ran))))
+
+pub slice_bounds-rule_marks-end : goal.slice_bounds-rule_marks-end
+slice_bounds-rule_marks-end c = rw c.rules-rules.ensures (rules-inside c.args.tables.now.well_formed _ _ _ _ (ended (goal.at.slice_bounds-rule_marks-end c).After-run_tabled-ran))
+
+pub slice_bounds-put_left-end-2 : goal.slice_bounds-put_left-end-2
+slice_bounds-put_left-end-2 c = sym (length-take-le _ _ (rw c.rules-rules.ensures (rules-inside c.args.tables.now.well_formed _ _ _ _ (ended (goal.at.slice_bounds-put_left-end-2 c).After-run_tabled-ran))))
 
 pub slice_bounds-steps-end : goal.slice_bounds-steps-end
-slice_bounds-steps-end c = steps-inside c.requires.accepted.0 (few_tabled c.requires.accepted.1) _ _ _ _ _ (ended (goal.at.slice_bounds-steps-end c).After-run) _ _ c.in-Done.is
+slice_bounds-steps-end c = rw c.from-used.ensures (steps-inside c.args.tables.now.well_formed _ _ _ _ (ended (goal.at.slice_bounds-steps-end c).After-run_tabled-ran))
 
-pub slice_bounds-put_left-end-in-Done-2 : goal.slice_bounds-put_left-end-in-Done-2
-slice_bounds-put_left-end-in-Done-2 c = sym (length-take-le _ _ (steps-inside c.requires.accepted.0 (few_tabled c.requires.accepted.1) _ _ _ _ _ (ended (goal.at.slice_bounds-put_left-end-in-Done-2 c).After-run) _ _ c.in-Done.is))
+pub slice_bounds-put_left-end-3 : goal.slice_bounds-put_left-end-3
+slice_bounds-put_left-end-3 c = sym (length-take-le _ _ (rw c.from-used.ensures (steps-inside c.args.tables.now.well_formed _ _ _ _ (ended (goal.at.slice_bounds-put_left-end-3 c).After-run_tabled-ran))))
 
-pub put_left-requires : goal.put_left-requires
-put_left-requires c = let p = c.requires in
-    let f = few_tabled p.accepted.1 in
-    let run-ended = ended (goal.at.put_left-requires c).After-run in
-    record {
-      tables = tables p.accepted.0 f _ _ _ _ _ run-ended;
-      fits = rw (left-lines p.accepted.0 f _ _ _ _ _ run-ended _ _ c.in-Done.is) (record { inside = omega (arith, p.narrow_in_bounds, text_fits _ f p.accepted.0.accepted (ascending (program_of c.args.file.now))) });
-    }
+pub put_left-requires-clause-fits : goal.put_left-requires-clause-fits
+put_left-requires-clause-fits c =
+    rw (c.facts-facts.ensures, c.rules-rules.ensures, c.from-used.ensures, left-lines c.args.tables.now.well_formed _ _ _ _ (ended (goal.at.put_left-requires-clause-fits c).After-run_tabled-ran))
+    (record { inside = omega (arith, c.requires.narrow_in_bounds, text_fits c.args.tables.now.well_formed (ascending (held c.args.tables.now))) })
 
-pub returns-in-Refused : goal.returns-in-Refused
-returns-in-Refused c = absurd (not-refused _ _ _ _ _ _ (ended (goal.at.returns-in-Refused c).After-run) _ c.in-Refused.is)
-
-pub returns-in-Done : goal.returns-in-Done
-returns-in-Done c = rw (left-lines c.requires.accepted.0 (few_tabled c.requires.accepted.1) _ _ _ _ _ (ended (goal.at.returns-in-Done c).After-run) _ _ c.in-Done.is) at c.put_left.ensures
+pub returns : goal.returns
+returns c =
+    rw (c.facts-facts.ensures, c.rules-rules.ensures, c.from-used.ensures, left-lines c.args.tables.now.well_formed _ _ _ _ (ended (goal.at.returns c).After-run_tabled-ran)) at c.put_left.ensures

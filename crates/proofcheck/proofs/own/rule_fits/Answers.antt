@@ -3,7 +3,7 @@ use Rattle.theory.specs.Rule.{rule as rule_of}
 use Rattle.items.specs.Item.{has}
 use Rattle.reader.specs.Questions.{program_of}
 use Rattle.view.proofs.RuleRanges.{InFile, rule-in_file}
-use Rattle.proofcheck.proofs.ReadByView.{held, may_view, rule-fitted}
+use Rattle.proofcheck.proofs.ReadByView.{in_tables, may_view, rule-fitted}
 use Rattle.proofcheck.proofs.own.rule_fits.Goals as goal
 use Rattle.proofcheck.proofs.own.rule_fits.Goals.{After-range_of-range}
 
@@ -12,7 +12,7 @@ in-file : (c : After-range_of-range) → InFile c.args.file.now (rule_of (progra
 in-file c = rule-in_file c.requires.tabled.0 c.requires.tabled.1 c.range_of-range.ensures
 
 pub range_of-range-requires : goal.range_of-range-requires
-range_of-range-requires c = held c.requires.tabled.0 c.requires.tabled.1
+range_of-range-requires c = in_tables c.requires.tabled.0 c.requires.tabled.1
 
 pub view_fits-requires : goal.view_fits-requires
 view_fits-requires c = may_view c.requires.tabled.0 c.requires.tabled.1 (in-file (goal.at.view_fits-requires c).After-range_of-range) _ c.requires.marks_len

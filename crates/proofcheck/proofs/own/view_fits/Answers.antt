@@ -1,15 +1,19 @@
--- `view_fits`: what an item tells decides the rule, or what is left of the view does.
-use Rattle.proofcheck.proofs.ItemAsked.{may_ask, decided, goes_on}
+-- `view_fits`: an item decides the rule, or what is left of the view does.
+use mathlib.Core.Path.{sym, ◌∙◌}
+use Rattle.proofcheck.proofs.ItemAsked.{all_fit, may_ask, decided, goes_on}
 use Rattle.proofcheck.proofs.own.view_fits.Goals as goal
 
-pub ask_item-told-requires : goal.ask_item-told-requires
-ask_item-told-requires c = may_ask c.loop-view.invariant _ c.next_item-taken.ensures
+pub ask_item-requires : goal.ask_item-requires
+ask_item-requires c = may_ask c.loop-taken.invariant _ (sym c.in-Some.is ∙ c.next_item.ensures)
 
-pub returns-then-told : goal.returns-then-told
-returns-then-told c = decided c.loop-view.invariant _ c.next_item-taken.ensures c.ask_item-told.ensures c.if-told.true
+pub returns-then-not-ask_item : goal.returns-then-not-ask_item
+returns-then-not-ask_item c = decided c.loop-taken.invariant _ (sym c.in-Some.is ∙ c.next_item.ensures) c.ask_item.ensures c.if-not-ask_item.true
 
-pub loop-view-smaller : goal.loop-view-smaller
-loop-view-smaller c = (goes_on c.loop-view.invariant _ c.next_item-taken.ensures c.ask_item-told.ensures c.if-told.false).1
+pub loop-taken-smaller : goal.loop-taken-smaller
+loop-taken-smaller c = (goes_on c.loop-taken.invariant _ (sym c.in-Some.is ∙ c.next_item.ensures) c.ask_item.ensures c.if-not-ask_item.false).1
 
-pub loop-view-preserved : goal.loop-view-preserved
-loop-view-preserved c = (goes_on c.loop-view.invariant _ c.next_item-taken.ensures c.ask_item-told.ensures c.if-told.false).0
+pub loop-taken-preserved : goal.loop-taken-preserved
+loop-taken-preserved c = (goes_on c.loop-taken.invariant _ (sym c.in-Some.is ∙ c.next_item.ensures) c.ask_item.ensures c.if-not-ask_item.false).0
+
+pub returns : goal.returns
+returns c = all_fit c.loop-taken.invariant (sym c.in_default.is ∙ c.next_item.ensures)

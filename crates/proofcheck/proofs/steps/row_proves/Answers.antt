@@ -1,5 +1,4 @@
 -- `row_proves`: what is to come decides.
-use Prim.Native.Nat.{◌-◌}
 use mathlib.Core.Path.{◌≡◌, refl, sym, ◌∙◌}
 use mathlib.Core.List.{◌∷◌}
 use borrow.Author.Rules.{rules}
@@ -25,7 +24,7 @@ a_step : (c : In-Step) → steps_from c.args.proof.now c.loop-item.cursor ≡ st
 a_step c = step-read _ _ _ _ (sym c.next_step.ensures ∙ c.in-Found.is) _ _ c.in-Step.is
 
 pub loop-item-init : goal.loop-item-init
-loop-item-init c = (refl, none_walked _ _ _ _ _ c.requires.unmarked)
+loop-item-init c = rw c.start-cursor.ensures (refl, none_walked _ _ _ _ _ c.requires.unmarked)
 
 pub next_step-requires : goal.next_step-requires
 next_step-requires c = c.loop-item.invariant.0
@@ -45,7 +44,7 @@ loop-item-smaller-else-not-step_fits c = closer (found _ _ _ _ (item-read (goal.
 pub loop-item-preserved-else-not-step_fits : goal.loop-item-preserved-else-not-step_fits
 loop-item-preserved-else-not-step_fits c = (
   same_row _ _ _ _ Steps (item-read (goal.at.loop-item-preserved-else-not-step_fits c).In-Found) tt c.loop-item.invariant.0,
-  one_fits c.loop-item.invariant.1 _ _ (a_step (goal.at.loop-item-preserved-else-not-step_fits c).In-Step) _ (sym c.step_fits.ensures.value ∙ c.if-not-step_fits.false) (c.step_fits.ensures.step_marked c.if-not-step_fits.false),
+  rw c.eq-ends.ensures (one_fits c.loop-item.invariant.1 _ _ (a_step (goal.at.loop-item-preserved-else-not-step_fits c).In-Step) _ (sym c.step_fits.ensures.value ∙ c.if-not-step_fits.false) (c.step_fits.ensures.step_marked c.if-not-step_fits.false)),
 )
 
 pub loop-item-smaller : goal.loop-item-smaller
@@ -57,5 +56,5 @@ loop-item-preserved c = (
   walking_along c.loop-item.invariant.1 _ (other_item _ _ _ _ (item-read (goal.at.loop-item-preserved c).In-Found) (search (rules, opened))),
 )
 
-pub returns-in_default : goal.returns-in_default
-returns-in_default c = all-walked c.loop-item.invariant.1 (nothing_read steps_of (λ fault. refl) _ _ _ (sym c.next_step.ensures) (search (rules, opened)))
+pub returns : goal.returns
+returns c = all-walked c.loop-item.invariant.1 (nothing_read steps_of (λ fault. refl) _ _ _ (sym c.next_step.ensures) (search (rules, opened)))

@@ -1,15 +1,11 @@
 -- `hold_absent`: the facts from f on that are not in the set are still to be held out.
-use Prim.Native.Nat.{◌-◌}
 use mathlib.Core.Bool.{not}
+use Rattle.tables.specs.Held.{held}
 use Rattle.theory.specs.Rule.{keep, up_to}
 use Rattle.items.specs.Item.{has}
-use Rattle.tables.specs.Layout.{program_in}
 use Rattle.index.specs.Cells.{on_in}
 use Rattle.propagation.proofs.FactsHeldOut.{Holding, absent_from}
 use Rattle.propagation.proofs.hold.hold_absent.Given as goal
 
 abbrev pub invariant-loop-f : goal.invariant-loop-f
-invariant-loop-f l = Holding (program_in l.tables) (on_in l.index) l.initial.marks (keep (λ k. not (has l.set k)) (up_to (program_in l.tables).facts)) (absent_from l.set (program_in l.tables).facts l.f) l.marks l.missing l.stack l.top
-
-abbrev pub decreases-loop-f : goal.decreases-loop-f
-decreases-loop-f l = l.facts - l.f
+invariant-loop-f l = Holding (held l.tables) (on_in l.index) l.initial.marks (keep (λ k. not (has l.set k)) (up_to (held l.tables).facts)) (absent_from l.set (held l.tables).facts l.f) l.marks l.missing l.stack l.top

@@ -5,13 +5,10 @@ use Rattle.propagation.proofs.LiteralsTold.{conclusion_literal, read_concluded}
 use Rattle.propagation.proofs.spread.conclude.Goals as goal
 
 pub overflow_cast-rule : goal.overflow_cast-rule
-overflow_cast-rule c = omega (arith, in_table c.requires.well_formed c.requires.rule_bound.0)
-
-pub conclusion-fact-requires : goal.conclusion-fact-requires
-conclusion-fact-requires c = (c.requires.well_formed, c.requires.rule_bound.0)
+overflow_cast-rule c = omega (arith, in_table c.args.tables.now.well_formed c.requires.rule_bound.0)
 
 pub wait-requires : goal.wait-requires
-wait-requires c = (conclusion_literal c.requires.well_formed _ c.requires.rule_bound.0 _ c.conclusion-fact.ensures, c.requires.rule_bound.1)
+wait-requires c = (conclusion_literal c.args.tables.now.well_formed _ c.requires.rule_bound.0 _ c.conclusion-fact.ensures, c.requires.rule_bound.1)
 
 pub returns : goal.returns
-returns c = read_concluded c.requires.well_formed _ c.requires.rule_bound.0 _ c.conclusion-fact.ensures c.wait.ensures
+returns c = read_concluded c.args.tables.now.well_formed _ c.requires.rule_bound.0 _ c.conclusion-fact.ensures c.wait.ensures

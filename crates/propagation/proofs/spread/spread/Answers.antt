@@ -2,20 +2,17 @@
 -- stack get fewer.
 use Prim.Native.Nat.{suc, ◌-◌}
 use native.Mathlib.Omega.{arith}
-use mathlib.Core.Path.{refl, ◌∙◌}
-use Rattle.tables.specs.Layout.{program_in}
+use mathlib.Core.Path.{◌∙◌}
+use Rattle.tables.specs.Held.{held}
 use Rattle.index.specs.Cells.{on_in}
 use Rattle.propagation.specs.State.{Between}
-use Rattle.propagation.proofs.LiteralsTold.{top_of, last-inside, last-literal, not-waiting, true_spreads, held-as_before, told-less, passed_less, none_waits, now_settled, held_then}
+use Rattle.propagation.proofs.LiteralsTold.{top_of, last-inside, not-waiting, true_spreads, held-as_before, told-less, passed_less, none_waits, now_settled, held_then}
 use Rattle.propagation.proofs.spread.spread.Goals as goal
 use Rattle.propagation.proofs.spread.spread.Goals.{In-loop-top}
 
 -- the literal on top
-here : (c : In-loop-top) → Between (program_in c.args.tables.now) (on_in c.args.index.now) c.loop-top.marks c.loop-top.missing c.loop-top.stack (suc (c.loop-top.top - 1))
+here : (c : In-loop-top) → Between (held c.args.tables.now) (on_in c.args.index.now) c.loop-top.marks c.loop-top.missing c.loop-top.stack (suc (c.loop-top.top - 1))
 here c = top_of c.loop-top.invariant.0 c.loop-top-test.true
-
-pub loop-top-init : goal.loop-top-init
-loop-top-init c = (c.requires.between, λ k. refl)
 
 pub offset_bounds-stack-top : goal.offset_bounds-stack-top
 offset_bounds-stack-top c = omega (arith, last-inside (here c))
@@ -23,21 +20,8 @@ offset_bounds-stack-top c = omega (arith, last-inside (here c))
 pub bounds-stack-top : goal.bounds-stack-top
 bounds-stack-top c = last-inside (here (goal.at.bounds-stack-top c).In-loop-top)
 
-pub overflow_cast-literal : goal.overflow_cast-literal
-overflow_cast-literal c = omega (arith, last-literal (here (goal.at.overflow_cast-literal c).In-loop-top))
-
-pub bounds-marks-literal : goal.bounds-marks-literal
-bounds-marks-literal c = last-literal (here (goal.at.bounds-marks-literal c).In-loop-top)
-
-pub bounds-marks-literal-then-marks-literal-eq-WAITING : goal.bounds-marks-literal-then-marks-literal-eq-WAITING
-bounds-marks-literal-then-marks-literal-eq-WAITING c = last-literal (here (goal.at.bounds-marks-literal-then-marks-literal-eq-WAITING c).In-loop-top)
-
-pub tell-top-requires : goal.tell-top-requires
-tell-top-requires c = let l = here (goal.at.tell-top-requires c).In-loop-top in
-    record {
-      ready = (c.requires.ready, last-literal l);
-      spreading = true_spreads l c.if-marks-literal-eq-WAITING.true;
-    }
+pub tell-top-requires-clause-spreading : goal.tell-top-requires-clause-spreading
+tell-top-requires-clause-spreading c = true_spreads (here (goal.at.tell-top-requires-clause-spreading c).In-loop-top) c.if-marks-literal-eq-WAITING.true
 
 pub loop-top-smaller-then-marks-literal-eq-WAITING : goal.loop-top-smaller-then-marks-literal-eq-WAITING
 loop-top-smaller-then-marks-literal-eq-WAITING c = told-less c.loop-top.invariant.0 c.loop-top-test.true c.if-marks-literal-eq-WAITING.true _ _ c.tell-top.ensures.onward

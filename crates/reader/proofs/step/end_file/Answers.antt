@@ -6,14 +6,10 @@ use Rattle.reader.proofs.BodyRead.{refuses, ends, body-scanned}
 use Rattle.reader.proofs.step.end_file.Goals as goal
 
 pub returns-then-n-before : goal.returns-then-n-before
-returns-then-n-before c = λ s marks len c₀ here short small w e. refuses (wrong_count w.verdict (found _ _ _ _ e) c.if-n-before.true)
+returns-then-n-before c = λ s marks len c₀ here short small w e. refuses w (wrong_count w.verdict (found _ _ _ _ e) c.if-n-before.true)
 
 pub returns-then-next-end : goal.returns-then-next-end
-returns-then-next-end c = λ s marks len c₀ here short small w e. refuses (bytes_left w.verdict (found _ _ _ _ e) c.if-n-before.false (omega (arith, len, c.if-next-end.true)))
-
-pub store_counts-requires : goal.store_counts-requires
-store_counts-requires c = let r = c.requires in
-    (omega (arith, c.if-n-before.false, r.rules), omega (arith, r.within, r.rules), omega (arith, r.within, r.rules))
+returns-then-next-end c = λ s marks len c₀ here short small w e. refuses w (bytes_left w.verdict (found _ _ _ _ e) c.if-n-before.false (omega (arith, len, c.if-next-end.true)))
 
 pub returns : goal.returns
 returns c = λ s marks len c₀ here short small w e. ends (body-scanned w small (found _ _ _ _ e) c.if-n-before.false (omega (arith, len, c.if-next-end.false)) _ c.store_counts.ensures)

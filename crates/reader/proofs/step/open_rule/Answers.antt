@@ -6,17 +6,10 @@ use Rattle.reader.proofs.BodyRead.{goes_on, refuses, rule-scanned}
 use Rattle.reader.proofs.step.open_rule.Goals as goal
 
 pub returns-then-facts-f : goal.returns-then-facts-f
-returns-then-facts-f c = λ s marks c₀ here short small w e. refuses (conclusion_too_high w.verdict (found _ _ _ _ e) c.if-facts-f.true)
+returns-then-facts-f c = λ s marks c₀ here short small w e. refuses w (conclusion_too_high w.verdict (found _ _ _ _ e) c.if-facts-f.true)
 
 pub returns-then-before-ge-MAX_RULES : goal.returns-then-before-ge-MAX_RULES
-returns-then-before-ge-MAX_RULES c = λ s marks c₀ here short small w e. refuses (too_many_rules w.verdict (found _ _ _ _ e) c.if-facts-f.false c.if-before-ge-MAX_RULES.true)
-
-pub store_rule-requires : goal.store_rule-requires
-store_rule-requires c = let r = c.requires in
-    (c.if-before-ge-MAX_RULES.false, r.place, omega (arith, r.within, r.rules), omega (arith, r.within, r.rules))
-
-pub overflow_add-result : goal.overflow_add-result
-overflow_add-result c = omega (arith, c.if-before-ge-MAX_RULES.false)
+returns-then-before-ge-MAX_RULES c = λ s marks c₀ here short small w e. refuses w (too_many_rules w.verdict (found _ _ _ _ e) c.if-facts-f.false c.if-before-ge-MAX_RULES.true)
 
 pub returns : goal.returns
 returns c = λ s marks c₀ here short small w e. goes_on (λ z. omega arith) (rule-scanned w small (found _ _ _ _ e) c.if-facts-f.false c.if-before-ge-MAX_RULES.false _ c.store_rule.ensures)

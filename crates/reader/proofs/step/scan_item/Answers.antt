@@ -21,7 +21,7 @@ returns-in-Rules c = λ s len late c₀ here short small w e. c.end_file.ensures
 pub returns-in-Unread : goal.returns-in-Unread
 returns-in-Unread c = λ s len late c₀ here short small w e.
     rw c.refuse_unread.ensures
-    (refuses (unread_refused w (read_as e c.in-Unread.is) (λ f q. late f (c.in-Unread.is ∙ q))))
+    (refuses w (unread_refused w (read_as e c.in-Unread.is) (λ f q. late f (c.in-Unread.is ∙ q))))
 
 pub returns-in_default : goal.returns-in_default
-returns-in_default c = λ s len late c₀ here short small w e. refuses (other_row w.verdict (found _ _ _ _ e) (search rules))
+returns-in_default c = λ s len late c₀ here short small w e. refuses w (other_row w.verdict (found _ _ _ _ e) (search rules))

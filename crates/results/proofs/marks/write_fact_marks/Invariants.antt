@@ -1,5 +1,4 @@
 -- `write_fact_marks`: the marks of the facts passed are written.
-use Prim.Native.Nat.{◌-◌}
 use Rattle.items.specs.Item.{has}
 use Rattle.marking.specs.Marks.{barred_in}
 use Rattle.results.proofs.MarksWritten.{Marking, fact_mark_by}
@@ -7,6 +6,3 @@ use Rattle.results.proofs.marks.write_fact_marks.Given as goal
 
 abbrev pub invariant-loop-f : goal.invariant-loop-f
 invariant-loop-f l = Marking (fact_mark_by (has l.marks) (barred_in l.marks)) l.facts l.initial.out l.out l.f
-
-abbrev pub decreases-loop-f : goal.decreases-loop-f
-decreases-loop-f l = l.facts - l.f

@@ -4,20 +4,18 @@ use Rattle.tables.proofs.ProgramHeld.{facts_below}
 use Rattle.results.proofs.written.write_results.Goals as goal
 
 pub write_fact_marks-requires : goal.write_fact_marks-requires
-write_fact_marks-requires c = let same = c.facts_of-facts.ensures in
-    (omega (arith, same, facts_below c.requires.well_formed), omega (arith, same, c.requires.writable.facts_fit))
+write_fact_marks-requires c = let same = c.facts-facts.ensures in
+    (omega (arith, same, facts_below c.args.tables.now.well_formed), omega (arith, same, c.requires.writable.facts_fit))
 
 pub write_steps-requires : goal.write_steps-requires
-write_steps-requires c = let w = c.requires.writable in
-    record {
-      well_formed = c.requires.well_formed;
-      count_in_bounds = (omega (arith, w.few, w.row_places), w.row_places, w.steps_fit);
-      by_index = w.known;
-    }
+write_steps-requires c = record {
+  steps_fit = c.requires.writable.steps_fit;
+  by_index = c.requires.writable.known;
+}
 
 pub returns : goal.returns
 returns c = record {
-  fact_marks_after = λ s d r. c.write_fact_marks.ensures _ s c.facts_of-facts.ensures d r;
+  fact_marks_after = λ s d r. c.write_fact_marks.ensures _ s c.facts-facts.ensures d r;
   rule_marks_after = λ s d a. c.write_rule_marks.ensures s a d;
   steps_after = c.write_steps.ensures;
 }

@@ -1,4 +1,4 @@
--- `run_to`: the order gets yes, so the run ends, and what it leaves is what the search leaves.
+-- `run_to`: the order gets yes, and what the run leaves is what the search leaves.
 use Prim.Native.Nat.{◌≤◌}
 use mathlib.Core.Path.{◌≡◌, sym, ◌∙◌}
 use lib.ListN.{length}
@@ -11,7 +11,7 @@ use Rattle.reader.specs.Questions.{program_of}
 use Rattle.questions.specs.Questions.{naming}
 use Rattle.run.proofs.RunAsked.{run-there}
 use Rattle.search.proofs.SearchAsked.{AllYesses, all_yes}
-use Rattle.search.proofs.RunUnder.{front-inside, may_run_to, not-refused, found_there}
+use Rattle.search.proofs.RunUnder.{front-inside, may_run_to, found_there}
 use Rattle.search.proofs.found.run_to.Goals as goal
 use Rattle.search.proofs.found.run_to.Goals.{After-write_order-length, Start}
 
@@ -29,7 +29,6 @@ inside c = front-inside (naming (order_for (program_of c.args.file.now) (in_forc
 
 pub write_order-length-requires : goal.write_order-length-requires
 write_order-length-requires c = record {
-  well_formed = c.requires.tabled.well_formed;
   tables_in_bounds = rw c.requires.tabled.program (yesses (goal.at.write_order-length-requires c).Start).order_fits;
 }
 
@@ -43,16 +42,10 @@ pub run_tabled-requires : goal.run_tabled-requires
 run_tabled-requires c =
     let at = goal.at.run_tabled-requires c in
     record {
-      well_formed = c.requires.tabled.well_formed;
       may_run = may_run_to _ c.args.fact_marks.now c.args.rule_marks.now c.args.steps.now _ (yesses at.Start) _ _ _ (order_is at.After-write_order-length) c.requires.tabled;
     }
 
-pub returns-in-Done : goal.returns-in-Done
-returns-in-Done c =
-    let at = goal.at.returns-in-Done c in
-    found_there _ _ _ _ _ (yesses at.Start) _ _ _ (order_is at.After-write_order-length) _ _ _ _ (c.run_tabled.ensures ∙ run-there c.requires.tabled _ _ _ _) _ _ c.in-Done.is
-
-pub returns-in-Refused : goal.returns-in-Refused
-returns-in-Refused c =
-    let at = goal.at.returns-in-Refused c in
-    absurd (not-refused _ _ _ _ _ (yesses at.Start) _ _ _ (order_is at.After-write_order-length) _ _ _ _ (c.run_tabled.ensures ∙ run-there c.requires.tabled _ _ _ _) _ c.in-Refused.is)
+pub returns : goal.returns
+returns c =
+    let at = goal.at.returns c in
+    found_there _ _ _ _ _ (yesses at.Start) _ _ _ (order_is at.After-write_order-length) _ _ _ _ (c.run_tabled.ensures ∙ run-there c.requires.tabled _ _ _ _)

@@ -1,6 +1,0 @@
--- `turn_over`: the guess as it was, or another under which the conflict stays.
-use Rattle.guessing.proofs.ConflictRefutes.{stays}
-use Rattle.guessing.proofs.learn.turn_over.Goals as goal
-
-pub returns : goal.returns
-returns c = stays c.requires.base c.requires.conflict.0 _ c.turn_bit-other.ensures _ c.respond-derived.ensures _ _ c.has_bit-3.ensures c.has_bit-4.ensures c.if-has_bit-2.false

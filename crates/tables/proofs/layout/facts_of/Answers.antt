@@ -1,7 +1,0 @@
--- `facts_of`: the count stands in its cell.
-use mathlib.Core.Path.{sym, ◌∙◌}
-use Rattle.tables.proofs.ProgramHeld.{facts-held}
-use Rattle.tables.proofs.layout.facts_of.Goals as goal
-
-pub returns : goal.returns
-returns c = c.wide.ensures ∙ sym (facts-held _)

@@ -1,8 +1,0 @@
--- `vectors::try_all` is safe and ends: it counts its turns down.
-use Rattle.vectors.proofs.try_all.Given as goal
-
-abbrev pub invariant-loop-turns : goal.invariant-loop-turns
-invariant-loop-turns l = Unit {0}
-
-abbrev pub decreases-loop-turns : goal.decreases-loop-turns
-decreases-loop-turns l = l.turns
