@@ -44,11 +44,11 @@
  *     no byte of a lent buffer has changed.
  *   - In a lent buffer the bytes past those written keep their contents.
  *   - Nothing is kept between calls, and nothing is allocated for the caller.
- *   - The stack that a call needs on x86-64, as measured with the older kit
- *     (docs/BENCH.md says which): retention_load less than 1 KB,
- *     retention_check 31 KB, retention_layered 36 KB, retention_accept 60 KB,
- *     retention_better 68 KB, retention_grounds 69 KB, retention_judge 70 KB,
- *     retention_run 71 KB, retention_panel 108 KB, retention_search 121 KB.
+ *   - The stack that a call needs on x86-64, as measured: retention_load less
+ *     than 1 KB, retention_check 31 KB, retention_layered 38 KB,
+ *     retention_accept 60 KB, retention_better 68 KB, retention_grounds and
+ *     retention_judge 69 KB, retention_run 71 KB, retention_panel 78 KB,
+ *     retention_search 123 KB.
  *
  * Refusals
  *
