@@ -15,7 +15,7 @@ use Rattle.theory.proofs.Bools.{either, never}
 use Rattle.theory.proofs.Lists.{mem-cases, get_or-mem, element_below}
 use Rattle.items.specs.Item.{narrow, max_facts}
 use Rattle.tables.specs.Ranking.{RanksSoFar}
-use Rattle.tables.proofs.PartsHeld.{mem-reversed}
+use Rattle.tables.proofs.PartsHeld.{mem-reverse, mem-reversed, all-reverse}
 use Rattle.components.specs.declared.look.Look.TheVariants.{Seen}
 use Rattle.components.specs.Open.{unmet, closed, nowhere, seen_of}
 use Rattle.components.specs.Look.{body_part, Noted, PremisePlace, Asked, PartFinds}
@@ -35,6 +35,11 @@ premises-owned P i e below = record { same = λ g. ap (mem g) e; below = below }
 
 pub constraints-owned : (P : Program) (i : ℕ) {own : List ℕ} → own ≡ reverse (rule P i).constraints → all (λ f. ltb f P.facts) own ≡ true → Owned P i true own
 constraints-owned P i e below = record { same = mem-reversed (rule P i).constraints e; below = below }
+
+-- .. and so has it in the order of the file
+pub constraints-owned_back : (P : Program) (i : ℕ) (own : List ℕ) → own ≡ reverse (rule P i).constraints → all (λ f. ltb f P.facts) own ≡ true → Owned P i true (reverse own)
+constraints-owned_back P i own e below =
+    record { same = λ g. mem-reverse g own ∙ mem-reversed (rule P i).constraints e g; below = all-reverse (λ f. ltb f P.facts) own ∙ below }
 
 -- what stands in the list is one
 pub element : {P : Program} {i : ℕ} {barring : Bool} {own : List ℕ} → Owned P i barring own → (j : ℕ) → j < length own → (f : ℕ) → f ≡ get_or own j 0 → Element P i barring f

@@ -9,6 +9,7 @@ ghost use Rattle.components.specs.Look.{PartFinds, LookFinds};
 use items::item::{FactId, MAX_FACTS, RuleId};
 use items::refusal::Refusal;
 use tables::layout::{Tables, wide};
+use tables::own::in_file_order;
 
 // What is known of a fact, where it is not the place of an open one.
 // Codes, in one cell with the places: a closed fact, as most are, is told by one comparison; with a test for each case the walk took a quarter longer.
@@ -93,7 +94,9 @@ fn look_at_constraints(
     ensures { PartFinds (held tables.now) rule.0 true seen.now ranks.now result }
 {
     let mut high: u16 = 0;
-    for &constraint in tables.constraints(rule) {
+    let own = tables.constraints(rule);
+    for at in 0..own.len() {
+        let constraint = in_file_order(own, at);
         let fact = wide(constraint);
         let known = seen[fact];
         if known != CLOSED {

@@ -207,3 +207,19 @@ module _ {P : Program} {seen stack roots todo ranks : List ℕ} {n m at : ℕ} (
           few_ranks = λ f. ⊎_elim (λ s. omega (arith, shut_rank w here some_root last c f s, k.few_ranks (fact_at stack c.top), same_unmet)) (λ s. omega (arith, s.same_rank, k.few_ranks f, same_unmet)) (way f);
           closed_fewer = λ f l e. ⊎_elim (λ s. omega (arith, shut_rank w here some_root last c f s, k.few_ranks (fact_at stack c.top), same_unmet)) (λ s. omega (arith, s.same_rank, k.closed_fewer f l (sym s.same_seen ∙ e), same_unmet)) (way f);
         }
+
+-- Another fact may be looked at, where no rule is left of the facts behind it.
+pub looked_elsewhere : {P : Program} {seen stack roots todo ranks : List ℕ} {n m at : ℕ} → Looked P seen stack roots todo ranks n m at → (to : ℕ) → ((f : ℕ) → f < P.facts → seen_of seen f < max_facts narrow → to < seen_of seen f → get_or todo f 0 ≡ thread_end) → Looked P seen stack roots todo ranks n m to
+looked_elsewhere k to none_behind =
+    record {
+      bounds = k.bounds;
+      few_rules = k.few_rules;
+      known = k.known;
+      premises = k.premises;
+      constraints = k.constraints;
+      none_yet = k.none_yet;
+      none_behind = none_behind;
+      none_between = k.none_between;
+      few_ranks = k.few_ranks;
+      closed_fewer = k.closed_fewer;
+    }

@@ -41,9 +41,9 @@ pub fn load(start: u32, facts: u32, rules: u32, out: &mut [u8]) -> Result<u16, R
     if out.len() < length {
         return Err(Refusal::LoadShort);
     }
-    write_fact_body(out, 0, Kind::Facts, facts as u16);
+    write_fact_body(out, 0, Kind::Facts.byte(), facts as u16);
     rules::write_rules(out, start, rules as usize, draw::modulus_of(facts));
-    write_rule_body(out, last, Kind::Rules, rules as u16);
+    write_rule_body(out, last, Kind::Rules.byte(), rules as u16);
     Ok(length as u16)
 }
 

@@ -34,9 +34,9 @@ fn write_rule(out: &mut [u8], at: usize, state: u32, turn: usize, by: Modulus) -
     let second = step(first);
     let third = step(second);
     let kinds = kinds_at(turn);
-    write_fact_body(out, at, Kind::Opens, fact_of(first, by));
-    write_fact_body(out, at + ITEM_WIDTH, kinds.0, fact_of(second, by));
-    write_fact_body(out, at + 2 * ITEM_WIDTH, kinds.1, fact_of(third, by));
+    write_fact_body(out, at, Kind::Opens.byte(), fact_of(first, by));
+    write_fact_body(out, at + ITEM_WIDTH, kinds.0.byte(), fact_of(second, by));
+    write_fact_body(out, at + 2 * ITEM_WIDTH, kinds.1.byte(), fact_of(third, by));
     third
 }
 

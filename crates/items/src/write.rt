@@ -1,6 +1,6 @@
 // Writes one item into a lent buffer. Internal: the caller has seen that it fits.
 ghost use Rattle.std.specs.Prelude.{◌≡◌, ◌∷◌, ◌+◌, ◌<◌, ◌≤◌, length};
-ghost use Rattle.items.specs.Item.{narrow, max_facts, item_width, name_width, step_width, kind_number};
+ghost use Rattle.items.specs.Item.{narrow, max_facts, item_width, name_width, step_width};
 ghost use Rattle.items.specs.Write.{fact_field, rule_field, rule_item, step_item, placed};
 
 use crate::item::{BASE, FACT_BYTES, FactId, KIND_BYTES, Kind, RuleId};
@@ -15,20 +15,20 @@ const STEP_LAST: usize = STEP_WIDTH - 1;
 const STEP_RULE: usize = KIND_BYTES + FACT_BYTES;
 
 // An item whose body is a fact number or a count of facts.
-pub fn write_fact_body(out: &mut [u8], at: usize, kind: Kind, number: u16)
+pub fn write_fact_body(out: &mut [u8], at: usize, kind: u8, number: u16)
     requires { (number < max_facts narrow) × (at + item_width narrow ≤ length out.old) }
-    ensures { out.new ≡ placed (kind_number kind ∷ fact_field narrow number) at out.old }
+    ensures { out.new ≡ placed (kind ∷ fact_field narrow number) at out.old }
 {
-    out[at] = kind.byte();
+    out[at] = kind; // Any byte, also one that is of no kind.
     out[at + KIND_BYTES] = number as u8;
 }
 
 // An item whose body is a rule number or a count of rules.
-pub fn write_rule_body(out: &mut [u8], at: usize, kind: Kind, number: u16)
+pub fn write_rule_body(out: &mut [u8], at: usize, kind: u8, number: u16)
     requires { at + name_width ≤ length out.old }
-    ensures { out.new ≡ placed (kind_number kind ∷ rule_field number) at out.old }
+    ensures { out.new ≡ placed (kind ∷ rule_field number) at out.old }
 {
-    out[at] = kind.byte();
+    out[at] = kind; // Here too.
     out[at + KIND_BYTES] = (number / BASE) as u8;
     out[at + NAME_LAST] = (number % BASE) as u8;
 }
@@ -38,7 +38,7 @@ pub fn write_rule_item(out: &mut [u8], at: usize, rule: RuleId)
     requires { at + name_width ≤ length out.old }
     ensures { out.new ≡ placed (rule_item rule.0) at out.old }
 {
-    write_rule_body(out, at, Kind::Names, rule.0);
+    write_rule_body(out, at, Kind::Names.byte(), rule.0);
 }
 
 // A step.

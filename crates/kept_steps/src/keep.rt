@@ -58,7 +58,8 @@ fn keep_premises(
 {
     for &fact in tables.premises(RuleId(row[k])) {
         let earlier = places[wide(fact)] as usize;
-        if kept[earlier] != KEPT {
+        let fresh = kept[earlier] != KEPT;
+        if fresh {
             keep_step(tables, row, places, earlier, kept);
         }
     }

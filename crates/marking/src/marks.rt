@@ -44,7 +44,13 @@ pub fn count_marked(marks: &[u8; MAX_FACTS], facts: usize) -> u16
     requires { facts ≤ max_facts narrow }
     ensures { result ≡ how_many (has marks.now) (up_to facts) }
 {
-    marks[..facts].iter().filter(|mark| **mark == IN).count() as u16
+    let mut n: u16 = 0;
+    for f in 0..facts {
+        if marks[f] == IN {
+            n += 1;
+        }
+    }
+    n
 }
 
 // Counts the constraint facts: a constraint of several rules in force counts once.

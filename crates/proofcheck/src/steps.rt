@@ -70,7 +70,8 @@ pub fn row_proves(
             if !step_fits(file, tables, f, rule, set, marks) {
                 return false;
             }
-            ends = f == fact;
+            let asked = f == fact;
+            ends = asked;
         }
         cursor = next;
     }

@@ -4,6 +4,7 @@ pub mod Tags
 pub mod BodyAsked
 pub mod OpeningAsked
 pub mod PartsFilled
+pub mod UnreadLate
 pub mod UnreadMarked
 pub mod RulesStored
 pub mod ConstraintsCounted

@@ -13,6 +13,7 @@ use items::item::{MAX_FACTS, MAX_RULES, RuleId};
 use marking::marks::{BARRED, IN};
 use premises::plain::PLAIN_WORDS;
 use tables::layout::{Tables, wide};
+use tables::own::in_file_order;
 
 // Takes the awake places of the order in turn, up to the first whose rule is eligible, and makes its stage.
 // The rules fired stand in a row of fixed length, since there is no heap: `count` is how many there are, and the place of the next.
@@ -48,7 +49,9 @@ pub fn first_eligible(
         if marks[f] == BARRED {
             continue 'rules;
         }
-        for &constraint in tables.constraints(rule) {
+        let own = tables.constraints(rule);
+        for at in 0..own.len() {
+            let constraint = in_file_order(own, at);
             let met = marks[wide(constraint)] == IN;
             if met {
                 continue 'rules;

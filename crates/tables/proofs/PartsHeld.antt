@@ -12,7 +12,7 @@ use Rattle.std.proofs.Math.Seq.{drop-cons}
 use Rattle.std.proofs.lemmas.List.{reverse-append, length-reverse, length-take, drop_more, drop_all}
 use Rattle.theory.specs.Rule.{all, clear, mem, Rule, Program, count, rule, null, exception}
 use Rattle.theory.proofs.Bools.{both_ways}
-use Rattle.theory.proofs.Lists.{all-elem, all_of, mem-append}
+use Rattle.theory.proofs.Lists.{all-elem, all_of, mem-append, element_below}
 use Rattle.theory.proofs.ListWalks.{Decides, whole-decides, all_pass, one_fails, one_passes}
 use Rattle.tables.specs.Layout.{max_own, own_from, last_cell, table_cells, premise_start, constraint_start, premise_at, constraint_at, listed, span, rule_in, program_in, WellFormed}
 use Rattle.tables.proofs.ProgramHeld.{rule-held, known}
@@ -129,6 +129,21 @@ module _ {p : ℕ → Bool} {xs : List ℕ} {k : ℕ} (w : Tested p xs k) where
 
     pub test_passes : p (get_or xs k 0) ≡ true → Tested p xs (k + 1)
     test_passes e = one_passes w (get_or xs k 0) _ (drop_more xs k 0 h) e
+
+-- Such a walk along a part that stands the last one first, in the order of the file.
+module _ {p : ℕ → Bool} (own : List ℕ) {k : ℕ} (w : Tested p (reverse own) k) where
+  pub all-tested_back : length own ≤ k → true ≡ all p own
+  all-tested_back h = all_tested w (omega (arith, length-reverse own)) ∙ all-reverse p own
+
+  module _ (h : k < length own) {x : ℕ} (e : x ≡ get_or (reverse own) k 0) where
+    pub test-fails_back : p x ≡ false → false ≡ all p own
+    test-fails_back q = test_fails w (omega (arith, length-reverse own)) (sym (ap p e) ∙ q) ∙ all-reverse p own
+
+    pub test-passes_back : p x ≡ true → Tested p (reverse own) (k + 1)
+    test-passes_back q = test_passes w (omega (arith, length-reverse own)) (sym (ap p e) ∙ q)
+
+pub element-below_back : (n : ℕ) (own : List ℕ) (k : ℕ) → all (λ f. ltb f n) own ≡ true → k < length own → get_or (reverse own) k 0 < n
+element-below_back n own k a h = element_below n (reverse own) k (all-reverse (λ f. ltb f n) own ∙ a) (omega (arith, length-reverse own))
 
 -- An exception rule has a constraint.
 pub exception-is : (P : Program) (i : ℕ) (own : List ℕ) → i < count P → own ≡ reverse (rule P i).constraints → ltb 0 (length own) ≡ exception P i

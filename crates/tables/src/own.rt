@@ -1,10 +1,10 @@
 // The premises and the constraints of a rule.
-ghost use Rattle.std.specs.Prelude.{◌<◌, ◌≤◌, ◌≡◌, true, length, ltb, reverse};
+ghost use Rattle.std.specs.Prelude.{◌<◌, ◌≤◌, ◌≡◌, true, length, get_or, ltb, reverse};
 ghost use Rattle.theory.specs.Rule.{all, count, rule as rule_of};
-ghost use Rattle.tables.specs.Layout.{max_own};
+ghost use Rattle.tables.specs.Layout.{max_own, premise_at, constraint_at};
 ghost use Rattle.tables.specs.Held.{held};
 
-use crate::layout::{CONSTRAINT_STARTS, OWN, PREMISE_STARTS, TABLE_CELLS, Tables, wide};
+use crate::layout::{CONSTRAINT_STARTS, LAST_CELL, OWN, PREMISE_STARTS, TABLE_CELLS, Tables, wide};
 use items::item::RuleId;
 
 impl Tables {
@@ -35,4 +35,28 @@ impl Tables {
         let end = wide(self.cells[CONSTRAINT_STARTS + next]);
         &self.cells[TABLE_CELLS - end..TABLE_CELLS - from]
     }
+}
+
+// The constraint of a rule at a place in the order of the file. The walks that end early take this order, as the file has it.
+pub fn in_file_order(own: &[u16], place: usize) -> u16
+    requires { place < length own.now }
+    ensures { result ≡ get_or (reverse own.now) place 0 }
+{
+    own[own.len() - 1 - place]
+}
+
+// The premise at a place of the row of all premises, whatever rule it is of, and whether or not the cells hold a program.
+pub fn premise_at(cells: &[u16; TABLE_CELLS], place: usize) -> usize
+    requires { place < max_own }
+    ensures { result ≡ premise_at cells.now place }
+{
+    wide(cells[OWN + place])
+}
+
+// The constraint at a place of the row of all constraints, likewise.
+pub fn constraint_at(cells: &[u16; TABLE_CELLS], place: usize) -> usize
+    requires { place < max_own }
+    ensures { result ≡ constraint_at cells.now place }
+{
+    wide(cells[LAST_CELL - place])
 }

@@ -6,6 +6,7 @@ ghost use Rattle.tables.specs.Layout.{place_in};
 ghost use Rattle.tables.specs.Held.{held};
 
 use crate::layout::{CONCLUSIONS, PLACES, Tables, WITHHELD, wide};
+use crate::own::in_file_order;
 use items::item::{FactId, RuleId};
 
 impl Tables {
@@ -74,7 +75,9 @@ impl Tables {
         requires set_len { (held self.now).facts ≤ length set.now }
         ensures { result ≡ clear (has set.now) (rule_of (held self.now) rule.0).constraints }
     {
-        for &fact in self.constraints(rule) {
+        let own = self.constraints(rule);
+        for place in 0..own.len() {
+            let fact = in_file_order(own, place);
             if set[wide(fact)] == 1 {
                 return false;
             }

@@ -32,5 +32,5 @@ returns c =
     let some : 0 < c.args.facts = omega arith in
     let fits : load_length c.args.rules ≤ length c.args.out.now = omega arith in
     let long : 2 + 6 * c.args.rules + 3 ≡ load_length c.args.rules = omega arith in
-    let e = written c.args.start c.args.facts c.args.rules c.args.out.now some c.if-facts-gt-MOST_FACTS.false c.if-rules-gt-MOST_RULES.false fits _ _ _ _ _ c.write_fact_body.ensures c.modulus_of.ensures.0 c.write_rules.ensures c.write_rule_body.ensures long in
+    let e = written c.args.start c.args.facts c.args.rules c.args.out.now some c.if-facts-gt-MOST_FACTS.false c.if-rules-gt-MOST_RULES.false fits _ _ _ _ _ (rw c.byte.ensures at c.write_fact_body.ensures) c.modulus_of.ensures.0 c.write_rules.ensures (rw c.byte-2.ensures at c.write_rule_body.ensures) long in
     record { fact = e; load_means = (promised _ _ _ _ _ e).1 }

@@ -7,4 +7,6 @@ returns c = three-written _ _ _ _ _ _ _ _ _ _ _ _ _ _
     c.step-first.ensures c.step-second.ensures c.step-third.ensures
     c.fact_of.ensures.0 c.fact_of-2.ensures.0 c.fact_of-3.ensures.0
     c.requires.1
-    c.write_fact_body.ensures (rw c.kinds_at-kinds.ensures.0 at c.write_fact_body-2.ensures) (rw c.kinds_at-kinds.ensures.1 at c.write_fact_body-3.ensures)
+    (rw c.byte.ensures at c.write_fact_body.ensures)
+    (rw (c.byte-2.ensures, c.kinds_at-kinds.ensures.0) at c.write_fact_body-2.ensures)
+    (rw (c.byte-3.ensures, c.kinds_at-kinds.ensures.1) at c.write_fact_body-3.ensures)

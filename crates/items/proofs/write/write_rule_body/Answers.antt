@@ -3,7 +3,6 @@ use native.Mathlib.Omega.{arith}
 use native.Mathlib.Numerals.{add-one, add-two}
 use lib.ListN.{length-set}
 use mathlib.Core.List.{◌∷◌}
-use Rattle.items.specs.Item.{kind_number}
 use Rattle.items.specs.Write.{rule_field}
 use Rattle.items.proofs.PlacedBytes.{stored}
 use Rattle.items.proofs.write.write_rule_body.Goals as goal
@@ -16,4 +15,4 @@ bounds-out-at-3 c = simp length-set (omega arith)
 
 pub returns : goal.returns
 returns c = let a = c.args in
-    rw (add-one, add-two, c.byte.ensures) (stored (kind_number a.kind ∷ rule_field a.number) a.out.now a.at c.requires)
+    rw (add-one, add-two) (stored (a.kind ∷ rule_field a.number) a.out.now a.at c.requires)

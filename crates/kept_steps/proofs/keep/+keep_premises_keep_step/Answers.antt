@@ -10,7 +10,7 @@ use Rattle.kept_steps.specs.Keep.{place_of}
 use Rattle.kept_steps.proofs.StepsPlaced.{rule_known, premise-before}
 use Rattle.kept_steps.proofs.KeepLaws.{kept-already, new_kept, one_kept, all-kept}
 use Rattle.kept_steps.proofs.keep.+keep_premises_keep_step.Goals as goal
-use Rattle.kept_steps.proofs.keep.+keep_premises_keep_step.Goals.{keep_premises-After-wide, keep_premises-then-kept-earlier-ne-KEPT, keep_premises-else-kept-earlier-ne-KEPT}
+use Rattle.kept_steps.proofs.keep.+keep_premises_keep_step.Goals.{keep_premises-After-wide, keep_premises-then-fresh, keep_premises-else-fresh}
 
 -- a premise is one of the facts, and its step stands before
 fact-inside : {t : ℕ} (c : keep_premises-After-wide t) → c.wide.result < max_facts narrow
@@ -43,9 +43,9 @@ keep_premises-keep_step-requires t c =
 pub keep_premises-loop-fact-preserved : goal.keep_premises-loop-fact-preserved
 unfolding has
 keep_premises-loop-fact-preserved t c =
-    elim c.if-kept-earlier-ne-KEPT.branch [
-      | keep_premises-then-kept-earlier-ne-KEPT w ↦ rw w.kept-is (one_kept c.loop-fact.invariant _ c.loop-fact-test.true w.keep_step.ensures.kept_len (rw (← c.wide.ensures) w.keep_step.ensures.keeps))
-      | keep_premises-else-kept-earlier-ne-KEPT w ↦ rw w.kept-is (one_kept c.loop-fact.invariant _ c.loop-fact-test.true c.loop-fact.invariant.cells (rw (← c.wide.ensures) (kept-already _ _ (eq-eqb _ _ w.if-kept-earlier-ne-KEPT.false))))
+    elim c.if-fresh.branch [
+      | keep_premises-then-fresh w ↦ rw w.kept-is (one_kept c.loop-fact.invariant _ c.loop-fact-test.true w.keep_step.ensures.kept_len (rw (← c.wide.ensures) w.keep_step.ensures.keeps))
+      | keep_premises-else-fresh w ↦ rw w.kept-is (one_kept c.loop-fact.invariant _ c.loop-fact-test.true c.loop-fact.invariant.cells (rw (← c.wide.ensures) (kept-already _ _ (eq-eqb _ _ w.if-fresh.false))))
     ]
 
 pub keep_premises-returns-clause-keeps : goal.keep_premises-returns-clause-keeps

@@ -1,11 +1,21 @@
--- `count_marked`: the marks that pass are counted.
-use mathlib.Core.Path.{◌≡◌, ◌∙◌}
-use Rattle.std.proofs.Common.{rules, eqb, arith, take}
-use Rattle.std.specs.List.{count_by}
-use Rattle.marking.proofs.RulesMarked.{counted}
+-- `count_marked`: those counted and those to come are all.
+use native.Mathlib.Omega.{arith}
+use Rattle.theory.proofs.ListWalks.{none_counted, one_counted, not-counted, all-counted}
+use Rattle.marking.proofs.MarksPainted.{marked-at, unmarked_at}
 use Rattle.marking.proofs.marks.count_marked.Goals as goal
+use Rattle.marking.proofs.marks.count_marked.Goals.{then-marks-f-eq-IN, else-marks-f-eq-IN}
+
+pub loop-f-init : goal.loop-f-init
+loop-f-init c = none_counted _ _
+
+pub overflow_add-n : goal.overflow_add-n
+overflow_add-n c = omega (arith, c.loop-f.invariant.few)
+
+pub loop-f-preserved : goal.loop-f-preserved
+loop-f-preserved c = elim c.if-marks-f-eq-IN.branch [
+  | then-marks-f-eq-IN t ↦ rw t.n-is (one_counted c.loop-f.invariant c.loop-f-test.true (marked-at _ _ t.if-marks-f-eq-IN.true))
+  | else-marks-f-eq-IN t ↦ rw t.n-is (not-counted c.loop-f.invariant c.loop-f-test.true (unmarked_at _ _ t.if-marks-f-eq-IN.false))
+]
 
 pub returns : goal.returns
-returns c =
-    let e : c.count.result ≡ count_by (λ x. eqb x 1) (take c.args.facts c.args.marks.now) = search rules in
-    e ∙ counted _ _ (omega (arith, c.requires))
+returns c = all-counted c.loop-f.invariant c.loop-f-test.false

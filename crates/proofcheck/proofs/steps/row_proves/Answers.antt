@@ -44,7 +44,7 @@ loop-item-smaller-else-not-step_fits c = closer (found _ _ _ _ (item-read (goal.
 pub loop-item-preserved-else-not-step_fits : goal.loop-item-preserved-else-not-step_fits
 loop-item-preserved-else-not-step_fits c = (
   same_row _ _ _ _ Steps (item-read (goal.at.loop-item-preserved-else-not-step_fits c).In-Found) tt c.loop-item.invariant.0,
-  rw c.eq-ends.ensures (one_fits c.loop-item.invariant.1 _ _ (a_step (goal.at.loop-item-preserved-else-not-step_fits c).In-Step) _ (sym c.step_fits.ensures.value ∙ c.if-not-step_fits.false) (c.step_fits.ensures.step_marked c.if-not-step_fits.false)),
+  rw c.eq-asked.ensures (one_fits c.loop-item.invariant.1 _ _ (a_step (goal.at.loop-item-preserved-else-not-step_fits c).In-Step) _ (sym c.step_fits.ensures.value ∙ c.if-not-step_fits.false) (c.step_fits.ensures.step_marked c.if-not-step_fits.false)),
 )
 
 pub loop-item-smaller : goal.loop-item-smaller

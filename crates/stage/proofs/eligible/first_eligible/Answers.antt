@@ -8,12 +8,11 @@ use lib.ListN.{get_or}
 use Rattle.tables.specs.Held.{held}
 use Rattle.theory.specs.Rule.{clear, in_force, count, rule}
 use Rattle.theory.specs.Run.{Stand}
-use Rattle.theory.proofs.Lists.{element_below}
 use Rattle.theory.proofs.Withheld.{read_on}
 use Rattle.items.specs.declared.item.FactId.{FactId}
 use Rattle.items.specs.Item.{narrow, max_facts, max_rules, has}
 use Rattle.tables.proofs.ProgramHeld.{facts_below, conclusion_below}
-use Rattle.tables.proofs.PartsHeld.{all_tested, test_fails, test_passes, clear-reversed}
+use Rattle.tables.proofs.PartsHeld.{all-tested_back, test-fails_back, test-passes_back, element-below_back, clear-reversed}
 use Rattle.bits.specs.Flags.{total}
 use Rattle.stage.specs.Look.{Looking}
 use Rattle.stage.proofs.FirstFound.{Turn, turn, none_found, held-room, resting, mark_in, mark_out, mark_barred, passed_over, concluded, rejected-already, constraint_met}
@@ -48,8 +47,8 @@ few_facts c known = omega (arith, fact_is c, conclusion_below c.args.tables.now.
 met : (c : Then-met) → clear (has c.rules.marks) (rule (held c.args.tables.now) (get_or c.args.row.now c.in-Some.place 0)).constraints ≡ false
 unfolding has
 met c =
-    sym (clear-reversed _ c.constraints-constraint-items.ensures.elements (has c.rules.marks))
-    ∙ sym (test_fails c.loop-constraint.invariant c.loop-constraint-test.true (rw (← c.wide.ensures) (ap not (eq-eqb _ _ c.if-met.true))))
+    sym (clear-reversed _ c.constraints-own.ensures.elements (has c.rules.marks))
+    ∙ sym (test-fails_back _ c.loop-at.invariant c.loop-at-test.true c.in_file_order-constraint.ensures (rw (← c.wide.ensures) (ap not (eq-eqb _ _ c.if-met.true))))
 
 pub bounds-row-place : goal.bounds-row-place
 bounds-row-place c = (here (goal.at.bounds-row-place c).In-Some).inside
@@ -75,19 +74,19 @@ bounds-marks-f-in-rules c = few_facts (goal.at.bounds-marks-f-in-rules c).After-
 pub rules-preserved-then-marks-f-eq-BARRED : goal.rules-preserved-then-marks-f-eq-BARRED
 rules-preserved-then-marks-f-eq-BARRED c = λ s p w. let t = on-turn (goal.at.rules-preserved-then-marks-f-eq-BARRED c).In-Some s p w in t.refused (rejected-already t.holds _ (mark_barred _ (fact_is (goal.at.rules-preserved-then-marks-f-eq-BARRED c).After-from-f) c.if-marks-f-eq-BARRED.true)) _ _ _ t.holds t.rests
 
-pub constraints-constraint-items-requires : goal.constraints-constraint-items-requires
-constraints-constraint-items-requires c = (here (goal.at.constraints-constraint-items-requires c).In-Some).known
+pub constraints-own-requires : goal.constraints-own-requires
+constraints-own-requires c = (here (goal.at.constraints-own-requires c).In-Some).known
 
 -- the constraint read is a fact of the program
 pub bounds-marks-wide : goal.bounds-marks-wide
-bounds-marks-wide c = omega (arith, c.wide.ensures, element_below _ _ _ c.constraints-constraint-items.ensures.facts_below c.loop-constraint-test.true, facts_below c.args.tables.now.well_formed)
+bounds-marks-wide c = omega (arith, c.wide.ensures, c.in_file_order-constraint.ensures, element-below_back _ _ _ c.constraints-own.ensures.facts_below c.loop-at-test.true, facts_below c.args.tables.now.well_formed)
 
 pub rules-preserved-then-met : goal.rules-preserved-then-met
 rules-preserved-then-met c = λ s p w. let t = on-turn (goal.at.rules-preserved-then-met c).In-Some s p w in t.refused (constraint_met t.holds _ (met c)) _ _ _ t.holds t.rests
 
-pub loop-constraint-preserved : goal.loop-constraint-preserved
+pub loop-at-preserved : goal.loop-at-preserved
 unfolding has
-loop-constraint-preserved c = test_passes c.loop-constraint.invariant c.loop-constraint-test.true (rw (← c.wide.ensures) (ap not (ne_eqb _ _ c.if-met.false)))
+loop-at-preserved c = test-passes_back _ c.loop-at.invariant c.loop-at-test.true c.in_file_order-constraint.ensures (rw (← c.wide.ensures) (ap not (ne_eqb _ _ c.if-met.false)))
 
 pub trial-requires : goal.trial-requires
 trial-requires c = let p = c.requires in
@@ -98,7 +97,7 @@ trial-requires c = let p = c.requires in
       room = (held-room (facts_below c.args.tables.now.well_formed) t.holds, t.holds.fired_places);
       rule_value = (
         mark_out _ (fact_is (goal.at.trial-requires c).After-from-f) c.if-marks-f-eq-IN.false,
-        sym (clear-reversed _ c.constraints-constraint-items.ensures.elements (has c.rules.marks)) ∙ sym (all_tested c.loop-constraint.invariant c.loop-constraint-test.false),
+        sym (clear-reversed _ c.constraints-own.ensures.elements (has c.rules.marks)) ∙ sym (all-tested_back _ c.loop-at.invariant c.loop-at-test.false),
       );
       at_rest = resting p.plain_indexed.1 t.holds t.rests;
     }

@@ -3,27 +3,26 @@ use mathlib.Core.Path.{ap, ◌∙◌}
 use mathlib.Core.Bool.{not}
 use native.Mathlib.Omega.{arith}
 use borrow.Author.Tests.{eq-eqb, ne_eqb}
-use Rattle.theory.proofs.Lists.{element_below}
 use Rattle.items.specs.Item.{has}
-use Rattle.tables.proofs.PartsHeld.{clear-reversed, none_tested, all_tested, test_fails, test_passes}
+use Rattle.tables.proofs.PartsHeld.{clear-reversed, none_tested, all-tested_back, test-fails_back, test-passes_back, element-below_back}
 use Rattle.tables.proofs.layout.Tables.constraints_clear.Goals as goal
 
-pub loop-fact-init : goal.loop-fact-init
-loop-fact-init c = none_tested _ _
+pub loop-place-init : goal.loop-place-init
+loop-place-init c = none_tested _ _
 
 -- the element read is a fact of the program
 pub bounds-set-wide : goal.bounds-set-wide
-bounds-set-wide c = omega (arith, c.wide.ensures, element_below _ _ _ c.constraints-fact-items.ensures.facts_below c.loop-fact-test.true, c.requires.set_len)
+bounds-set-wide c = omega (arith, c.wide.ensures, c.in_file_order-fact.ensures, element-below_back _ _ _ c.constraints-own.ensures.facts_below c.loop-place-test.true, c.requires.set_len)
 
 pub returns-then-set-wide-eq1 : goal.returns-then-set-wide-eq1
 unfolding has
 returns-then-set-wide-eq1 c =
-    test_fails c.loop-fact.invariant c.loop-fact-test.true (rw (← c.wide.ensures) (ap not (eq-eqb _ _ c.if-set-wide-eq1.true)))
-    ∙ clear-reversed _ c.constraints-fact-items.ensures.elements (has c.args.set.now)
+    test-fails_back _ c.loop-place.invariant c.loop-place-test.true c.in_file_order-fact.ensures (rw (← c.wide.ensures) (ap not (eq-eqb _ _ c.if-set-wide-eq1.true)))
+    ∙ clear-reversed _ c.constraints-own.ensures.elements (has c.args.set.now)
 
-pub loop-fact-preserved : goal.loop-fact-preserved
+pub loop-place-preserved : goal.loop-place-preserved
 unfolding has
-loop-fact-preserved c = test_passes c.loop-fact.invariant c.loop-fact-test.true (rw (← c.wide.ensures) (ap not (ne_eqb _ _ c.if-set-wide-eq1.false)))
+loop-place-preserved c = test-passes_back _ c.loop-place.invariant c.loop-place-test.true c.in_file_order-fact.ensures (rw (← c.wide.ensures) (ap not (ne_eqb _ _ c.if-set-wide-eq1.false)))
 
 pub returns : goal.returns
-returns c = all_tested c.loop-fact.invariant c.loop-fact-test.false ∙ clear-reversed _ c.constraints-fact-items.ensures.elements (has c.args.set.now)
+returns c = all-tested_back _ c.loop-place.invariant c.loop-place-test.false ∙ clear-reversed _ c.constraints-own.ensures.elements (has c.args.set.now)
