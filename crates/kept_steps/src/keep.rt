@@ -26,6 +26,14 @@ fn place_steps(tables: &Tables, row: &[u16], places: &mut [u16; MAX_FACTS])
     }
 }
 
+// Is the step at a place kept?
+fn is_kept(kept: &[u8; MAX_FACTS], k: usize) -> bool
+    requires { k < length kept.now }
+    ensures { result ≡ has kept.now k }
+{
+    kept[k] == KEPT
+}
+
 // Keeps the step at a place, and with it the steps of its rule's premises, and so on back. The premises of a rule are facts of earlier steps.
 #[cycle(keep_premises_keep_step)]
 fn keep_step(
@@ -58,8 +66,8 @@ fn keep_premises(
 {
     for &fact in tables.premises(RuleId(row[k])) {
         let earlier = places[wide(fact)] as usize;
-        let fresh = kept[earlier] != KEPT;
-        if fresh {
+        let known = is_kept(kept, earlier);
+        if !known {
             keep_step(tables, row, places, earlier, kept);
         }
     }

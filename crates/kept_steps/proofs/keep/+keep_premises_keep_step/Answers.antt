@@ -1,8 +1,7 @@
 -- `keep_step` and `keep_premises`: keeping a step keeps the steps of its rule's premises, which stand before it.
 use Prim.Native.Nat.{ℕ, ◌+◌, ◌*◌, ◌<◌}
-use mathlib.Core.Path.{subst}
+use mathlib.Core.Path.{subst, sym, ◌∙◌}
 use native.Mathlib.Omega.{arith}
-use borrow.Author.Tests.{eq-eqb}
 use Rattle.theory.proofs.Lists.{element_below}
 use Rattle.items.specs.Item.{narrow, max_facts, has}
 use Rattle.tables.proofs.ProgramHeld.{facts_below}
@@ -10,7 +9,7 @@ use Rattle.kept_steps.specs.Keep.{place_of}
 use Rattle.kept_steps.proofs.StepsPlaced.{rule_known, premise-before}
 use Rattle.kept_steps.proofs.KeepLaws.{kept-already, new_kept, one_kept, all-kept}
 use Rattle.kept_steps.proofs.keep.+keep_premises_keep_step.Goals as goal
-use Rattle.kept_steps.proofs.keep.+keep_premises_keep_step.Goals.{keep_premises-After-wide, keep_premises-then-fresh, keep_premises-else-fresh}
+use Rattle.kept_steps.proofs.keep.+keep_premises_keep_step.Goals.{keep_premises-After-wide, keep_premises-then-not-known, keep_premises-else-not-known}
 
 -- a premise is one of the facts, and its step stands before
 fact-inside : {t : ℕ} (c : keep_premises-After-wide t) → c.wide.result < max_facts narrow
@@ -29,8 +28,8 @@ keep_premises-premises-fact-items-requires t c = rule_known _ c.args.row.now c.r
 pub keep_premises-bounds-places-wide : goal.keep_premises-bounds-places-wide
 keep_premises-bounds-places-wide t c = fact-inside (goal.at.keep_premises-bounds-places-wide t c).After-wide
 
-pub keep_premises-bounds-kept-earlier : goal.keep_premises-bounds-kept-earlier
-keep_premises-bounds-kept-earlier t c = omega (arith, earlier-inside (goal.at.keep_premises-bounds-kept-earlier t c).After-wide, c.requires.may_keep.few, c.requires.may_keep.inside)
+pub keep_premises-is_kept-known-requires : goal.keep_premises-is_kept-known-requires
+keep_premises-is_kept-known-requires t c = omega (arith, earlier-inside (goal.at.keep_premises-is_kept-known-requires t c).After-wide, c.requires.may_keep.few, c.requires.may_keep.inside)
 
 pub keep_premises-keep_step-requires : goal.keep_premises-keep_step-requires
 keep_premises-keep_step-requires t c =
@@ -43,9 +42,9 @@ keep_premises-keep_step-requires t c =
 pub keep_premises-loop-fact-preserved : goal.keep_premises-loop-fact-preserved
 unfolding has
 keep_premises-loop-fact-preserved t c =
-    elim c.if-fresh.branch [
-      | keep_premises-then-fresh w ↦ rw w.kept-is (one_kept c.loop-fact.invariant _ c.loop-fact-test.true w.keep_step.ensures.kept_len (rw (← c.wide.ensures) w.keep_step.ensures.keeps))
-      | keep_premises-else-fresh w ↦ rw w.kept-is (one_kept c.loop-fact.invariant _ c.loop-fact-test.true c.loop-fact.invariant.cells (rw (← c.wide.ensures) (kept-already _ _ (eq-eqb _ _ w.if-fresh.false))))
+    elim c.if-not-known.branch [
+      | keep_premises-then-not-known w ↦ rw w.kept-is (one_kept c.loop-fact.invariant _ c.loop-fact-test.true w.keep_step.ensures.kept_len (rw (← c.wide.ensures) w.keep_step.ensures.keeps))
+      | keep_premises-else-not-known w ↦ rw w.kept-is (one_kept c.loop-fact.invariant _ c.loop-fact-test.true c.loop-fact.invariant.cells (rw (← c.wide.ensures) (kept-already _ _ (sym c.is_kept-known.ensures ∙ w.if-not-known.false))))
     ]
 
 pub keep_premises-returns-clause-keeps : goal.keep_premises-returns-clause-keeps
